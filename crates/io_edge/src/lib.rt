@@ -1,0 +1,14 @@
+//! The outside: what is read, written, asked and drawn, by traits that say what they can tell.
+#![tactic(auto)]
+
+mod clock;
+mod entropy;
+mod faults;
+mod sink;
+mod source;
+
+pub use clock::{Clock, MemoryClock};
+pub use entropy::{Entropy, MemoryEntropy};
+pub use faults::{EdgeFault, Failed, Faults};
+pub use sink::{MemorySink, Sink};
+pub use source::{MemorySource, ReadSource, Source};

@@ -1,0 +1,68 @@
+//! Where bytes go.
+ghost use Rattle.std.specs.Prelude.{◌≡◌, ◌≤◌, ◌<◌, ℕ, Option, Some, None, List, [], length, take, IfOk, OnErr, is_err};
+ghost use Rattle.io_edge.specs.Edge.{Counted, and_held};
+
+use crate::{Failed, Faults};
+use std::alloc::Global;
+use tail_base::Items;
+
+/// Where bytes go, as a connection or standard output.
+pub trait Sink {
+    /// What it holds, where it is told.
+    ghost holds: { Self → Option (List ℕ) };
+
+    /// How often a write has failed.
+    ghost write_faults: { Self → ℕ };
+
+    /// Appends bytes from the front of the slice, and says how many: at least 1 where there is one.
+    fn write(&mut self, from: &[u8]) -> Result<usize, Failed>
+        ensures bound { IfOk result (λ n. n ≤ length from.now) }
+        ensures progress { IfOk result (λ n. 0 < length from.now → 0 < n) }
+        ensures appended { IfOk result (λ n. holds self.new ≡ and_held (holds self.old) (take n from.now)) }
+        ensures err { OnErr result (holds self.new ≡ holds self.old) }
+        ensures cause { Counted (write_faults self.old) (write_faults self.new) (is_err result) };
+}
+
+/// A sink in memory, which tells what it holds. Where memory is refused a write fails.
+#[derive(Drop)]
+pub struct MemorySink {
+    bytes: Vec<u8>,
+    faults: Faults,
+}
+
+impl MemorySink {
+    /// An empty sink, of which the calls with these numbers fail.
+    pub fn new(alloc: Global, fails: Items<u32>) -> MemorySink
+        ensures holds { ⟦<MemorySink as Sink>⟧.holds result ≡ Some [] }
+        ensures faults { ⟦<MemorySink as Sink>⟧.write_faults result ≡ 0 }
+    {
+        MemorySink {
+            bytes: Vec::new(alloc),
+            faults: Faults::new(fails),
+        }
+    }
+
+    /// The bytes that it holds.
+    pub fn bytes(&self) -> &[u8]
+        ensures value { ⟦<MemorySink as Sink>⟧.holds self.now ≡ Some result.now }
+    {
+        &self.bytes
+    }
+}
+
+impl Sink for MemorySink {
+    ghost holds = { λ s. Some s.bytes.items };
+
+    ghost write_faults = { λ s. s.faults.count };
+
+    fn write(&mut self, from: &[u8]) -> Result<usize, Failed> {
+        if self.faults.next() {
+            return Err(Failed);
+        }
+        if self.bytes.extend_from_slice(from).is_err() {
+            self.faults.raise();
+            return Err(Failed);
+        }
+        Ok(from.len())
+    }
+}

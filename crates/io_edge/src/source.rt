@@ -1,0 +1,93 @@
+//! Where bytes come from.
+ghost use Rattle.std.specs.Prelude.{◌≡◌, ◌≤◌, ◌<◌, ℕ, Option, Some, None, List, [], length, take, drop, IfOk, IfSome, OnErr, is_err};
+ghost use Rattle.io_edge.specs.Edge.{Counted, and_then_left, IsWhereTold};
+
+use crate::{Failed, Faults};
+use std::io::Read;
+use tail_base::{Bytes, Items};
+
+/// Where bytes come from, as a connection or standard input.
+pub trait Source {
+    /// What is left, where it is told.
+    ghost left: { Self → Option (List ℕ) };
+
+    /// How often a read has failed.
+    ghost read_faults: { Self → ℕ };
+
+    /// Moves bytes from the front of what is left into the slice, and says how many. 0 into a slice
+    /// that isn't empty is the end.
+    fn read(&mut self, into: &mut [u8]) -> Result<usize, Failed>
+        ensures bound { IfOk result (λ n. n ≤ length into.old) }
+        ensures moved { IfOk result (λ n. left self.old ≡ and_then_left (take n into.new) (left self.new)) }
+        ensures end { IfOk result (λ n. n ≡ 0 → 0 < length into.old → IsWhereTold [] (left self.new)) }
+        ensures err { OnErr result (left self.new ≡ left self.old) }
+        ensures cause { Counted (read_faults self.old) (read_faults self.new) (is_err result) };
+}
+
+/// A source of bytes in memory, which tells what is left.
+#[derive(Drop)]
+pub struct MemorySource {
+    bytes: Bytes,
+    at: usize,
+    faults: Faults,
+    ghost within: { at ≤ length bytes },
+}
+
+impl MemorySource {
+    /// A source of these bytes, of which the calls with these numbers fail.
+    pub fn new(bytes: Bytes, fails: Items<u32>) -> MemorySource
+        ensures left { ⟦<MemorySource as Source>⟧.left result ≡ Some bytes }
+        ensures faults { ⟦<MemorySource as Source>⟧.read_faults result ≡ 0 }
+    {
+        MemorySource {
+            bytes,
+            at: 0,
+            faults: Faults::new(fails),
+        }
+    }
+}
+
+impl Source for MemorySource {
+    ghost left = { λ s. Some (drop s.at s.bytes) };
+
+    ghost read_faults = { λ s. s.faults.count };
+
+    fn read(&mut self, into: &mut [u8]) -> Result<usize, Failed> {
+        if self.faults.next() {
+            return Err(Failed);
+        }
+        let n = into.len().min(self.bytes.len() - self.at);
+        into[..n].copy_from_slice(&self.bytes.as_slice()[self.at..self.at + n]);
+        self.at += n;
+        Ok(n)
+    }
+}
+
+/// Reads what a reader gives. It doesn't tell what is left.
+#[derive(Drop)]
+pub struct ReadSource<R> {
+    reader: R,
+    count: u64,
+}
+
+impl<R> ReadSource<R> {
+    pub fn new(reader: R) -> ReadSource<R> {
+        ReadSource { reader, count: 0 }
+    }
+}
+
+impl<R: Read> Source for ReadSource<R> {
+    ghost left = { λ _. None };
+
+    ghost read_faults = { λ s. s.count };
+
+    fn read(&mut self, into: &mut [u8]) -> Result<usize, Failed> {
+        match self.reader.read(into) {
+            Ok(n) => Ok(n),
+            Err(_) => {
+                self.count = self.count.saturating_add(1);
+                Err(Failed)
+            }
+        }
+    }
+}

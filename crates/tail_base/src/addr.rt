@@ -1,0 +1,58 @@
+//! Addresses.
+ghost use Rattle.std.specs.Prelude.{◌≡◌, ℕ, ◌<◌, ◌↔◌, IsTrue, false};
+ghost use Rattle.tail_base.specs.Bits.{family_size};
+
+use crate::memory::{Duplicate, NoMemory};
+use std::alloc::Global;
+use std::marker::Model;
+
+/// An IPv4 or IPv6 address: its family, and its number there. Addresses go by family, IPv4 first,
+/// and then by number.
+#[derive(Clone, Copy, Debug, PartialEq, Eq, PartialOrd, Ord, Drop)]
+pub struct Addr {
+    v6: bool,
+    bits: u128,
+}
+
+impl Model for Addr {
+    ghost use Rattle.std.specs.Prelude.{◌<◌};
+    ghost use Rattle.tail_base.specs.Bits.{Address, family_size};
+
+    ghost Value = { Address };
+
+    ghost view = { λ a. record { v6 = a.v6; bits = a.bits } };
+
+    ghost invariant = { λ a. a.bits < family_size a.v6 };
+
+    ghost inverse = { λ d. record { v6 = d.v6; bits = d.bits } };
+}
+
+impl Addr {
+    /// The address of this number, which is below 2^32 or, in IPv6, 2^128.
+    pub fn new(v6: bool, bits: u128) -> Addr
+        requires in_family { bits < family_size v6 }
+        ensures value { result ≡ record { v6 = v6; bits = bits } }
+    {
+        Addr { v6, bits }
+    }
+
+    pub fn is_v6(&self) -> bool
+        ensures value { result ≡ self.now.v6 }
+    {
+        self.v6
+    }
+
+    /// The address as a number, its first byte the highest.
+    pub fn bits(&self) -> u128
+        ensures value { result ≡ self.now.bits }
+        ensures in_family { self.now.bits < family_size self.now.v6 }
+    {
+        self.bits
+    }
+}
+
+impl Duplicate for Addr {
+    fn copy(&self, _: Global) -> Result<Self, NoMemory> {
+        Ok(*self)
+    }
+}

@@ -1,0 +1,81 @@
+//! The three kinds of public keys that `tailcfg` names.
+ghost use Rattle.std.specs.Prelude.{◌≡◌, ℕ, ◌↔◌, IsTrue, List, IfOk, IfSome, IfNone, length, codes, replicate};
+ghost use Rattle.tail_base.specs.Keys.{SpellsKey, key_text};
+
+use crate::memory::{Duplicate, NoMemory};
+use crate::text::Text;
+use hex::FromHex;
+use std::alloc::Global;
+
+/// The key of a machine, which it keeps for life.
+#[derive(Clone, Copy, Debug, PartialEq, Eq, PartialOrd, Ord, Drop)]
+pub struct MachineKey(pub [u8; 32]);
+
+/// The key of a node, which a machine may change by registering anew.
+#[derive(Clone, Copy, Debug, PartialEq, Eq, PartialOrd, Ord, Drop)]
+pub struct NodeKey(pub [u8; 32]);
+
+/// The key by which peers discover a path to a machine.
+#[derive(Clone, Copy, Debug, PartialEq, Eq, PartialOrd, Ord, Drop)]
+pub struct DiscoKey(pub [u8; 32]);
+
+/// The 32 bytes that a head and 64 hexadecimal digits spell.
+fn key_bytes(head: &[u8], text: &[u8]) -> Option<[u8; 32]>
+    ensures found { IfSome result (λ key. SpellsKey head.now text.now key) }
+    ensures none { IfNone result ((key : List ℕ) → length key ≡ 32 → SpellsKey head.now text.now key → ⊥) }
+{
+    match text.strip_prefix(head) {
+        Some(digits) => <[u8; 32] as FromHex>::from_hex(digits).ok(),
+        None => None,
+    }
+}
+
+impl MachineKey {
+    /// The key that `mkey:` and 64 hexadecimal digits of either case spell.
+    pub fn read(text: &[u8]) -> Option<MachineKey>
+        ensures found { IfSome result (λ key. SpellsKey (codes "mkey:") text.now key.0) }
+        ensures none { IfNone result ((key : List ℕ) → length key ≡ 32 → SpellsKey (codes "mkey:") text.now key → ⊥) }
+    {
+        Some(MachineKey(key_bytes(b"mkey:", text)?))
+    }
+
+    pub fn is_zero(&self) -> bool
+        ensures value { IsTrue result ↔ (self.now.0 ≡ replicate 32 0) }
+    {
+        self.0 == [0; 32]
+    }
+}
+
+impl NodeKey {
+    /// The key that `nodekey:` and 64 hexadecimal digits of either case spell.
+    pub fn read(text: &[u8]) -> Option<NodeKey>
+        ensures found { IfSome result (λ key. SpellsKey (codes "nodekey:") text.now key.0) }
+        ensures none { IfNone result ((key : List ℕ) → length key ≡ 32 → SpellsKey (codes "nodekey:") text.now key → ⊥) }
+    {
+        Some(NodeKey(key_bytes(b"nodekey:", text)?))
+    }
+
+    pub fn is_zero(&self) -> bool
+        ensures value { IsTrue result ↔ (self.now.0 ≡ replicate 32 0) }
+    {
+        self.0 == [0; 32]
+    }
+}
+
+impl Duplicate for MachineKey {
+    fn copy(&self, _: Global) -> Result<Self, NoMemory> {
+        Ok(*self)
+    }
+}
+
+impl Duplicate for NodeKey {
+    fn copy(&self, _: Global) -> Result<Self, NoMemory> {
+        Ok(*self)
+    }
+}
+
+impl Duplicate for DiscoKey {
+    fn copy(&self, _: Global) -> Result<Self, NoMemory> {
+        Ok(*self)
+    }
+}
