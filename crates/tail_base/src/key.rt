@@ -1,6 +1,7 @@
 //! The three kinds of public keys that `tailcfg` names.
 ghost use Rattle.std.specs.Prelude.{◌≡◌, ℕ, ◌↔◌, IsTrue, List, IfOk, IfSome, IfNone, length, codes, replicate};
-ghost use Rattle.tail_base.specs.Keys.{SpellsKey, key_text};
+ghost use Rattle.std.specs.Option.{option_map};
+ghost use Rattle.tail_base.specs.Keys.{SpellsKey, key_of_text, key_text};
 
 use crate::memory::{Duplicate, NoMemory};
 use crate::text::Text;
@@ -21,6 +22,7 @@ pub struct DiscoKey(pub [u8; 32]);
 
 /// The 32 bytes that a head and 64 hexadecimal digits spell.
 fn key_bytes(head: &[u8], text: &[u8]) -> Option<[u8; 32]>
+    ensures value { result ≡ key_of_text head.now text.now }
     ensures found { IfSome result (λ key. SpellsKey head.now text.now key) }
     ensures none { IfNone result ((key : List ℕ) → length key ≡ 32 → SpellsKey head.now text.now key → ⊥) }
 {
@@ -33,6 +35,7 @@ fn key_bytes(head: &[u8], text: &[u8]) -> Option<[u8; 32]>
 impl MachineKey {
     /// The key that `mkey:` and 64 hexadecimal digits of either case spell.
     pub fn read(text: &[u8]) -> Option<MachineKey>
+        ensures value { option_map (λ key. key.0) result ≡ key_of_text (codes "mkey:") text.now }
         ensures found { IfSome result (λ key. SpellsKey (codes "mkey:") text.now key.0) }
         ensures none { IfNone result ((key : List ℕ) → length key ≡ 32 → SpellsKey (codes "mkey:") text.now key → ⊥) }
     {
@@ -49,6 +52,7 @@ impl MachineKey {
 impl NodeKey {
     /// The key that `nodekey:` and 64 hexadecimal digits of either case spell.
     pub fn read(text: &[u8]) -> Option<NodeKey>
+        ensures value { option_map (λ key. key.0) result ≡ key_of_text (codes "nodekey:") text.now }
         ensures found { IfSome result (λ key. SpellsKey (codes "nodekey:") text.now key.0) }
         ensures none { IfNone result ((key : List ℕ) → length key ≡ 32 → SpellsKey (codes "nodekey:") text.now key → ⊥) }
     {
