@@ -1,0 +1,46 @@
+-- Bodies as functions of the value that their JSON text has: the first fault counts.
+use Rattle.std.specs.Prelude.{◌≡◌, ℕ, List, if◌then◌else◌, Option, Some, None, Result, Ok, Err, option_and_then, is_some}
+use Rattle.std.specs.Str.{is_utf8}
+use Rattle.serde_json.specs.Data.{Data}
+use Rattle.serde_json.specs.Read.{read}
+use Rattle.serde_json.specs.Find.{get, as_null, as_object}
+use Rattle.wire_json.specs.declared.fault.WireFault.{WireFault}
+use Rattle.wire_json.specs.declared.fault.WireFault.TheVariants as fault
+
+infixl 10 ◌>>=◌
+abbrev pub ◌>>=◌ : {A B : Type 0} → Result A WireFault → (A → Result B WireFault) → Result B WireFault
+(Ok x) >>= f = f x
+(Err e) >>= f = Err e
+
+-- a fault is the one that reading gives, but want of memory, which is free
+abbrev pub Fails : {Y : Type 0} → WireFault → Result Y WireFault → Type 0
+Fails fault.NoMemory read = Unit {0}
+Fails fault.NotJson read = read ≡ Err fault.NotJson
+Fails (fault.Missing f) read = read ≡ Err (fault.Missing f)
+Fails (fault.BadField f) read = read ≡ Err (fault.BadField f)
+
+-- what a call returned, seen by view, is what reading gives, unless memory ran out
+abbrev pub Gives : {X Y : Type 0} → (X → Y) → Result X WireFault → Result Y WireFault → Type 0
+Gives view (Ok x) read = read ≡ Ok (view x)
+Gives view (Err e) read = Fails e read
+
+-- the value, or that fault
+abbrev pub or_fault : {A : Type 0} → WireFault → Option A → Result A WireFault
+or_fault e None = Err e
+or_fault e (Some x) = Ok x
+
+-- `null` is as absent
+abbrev pub unless_null : Data → Option Data
+unless_null d = if is_some (as_null d) then None else Some d
+
+-- a member that is there and not null; of members with one key the last counts
+abbrev pub member_of : List ℕ → Data → Option Data
+member_of name d = option_and_then unless_null (get name d)
+
+-- the object that a read text is, if it is one
+unfoldable pub object_at : Option Data → Result Data WireFault
+object_at read = or_fault fault.NotJson (option_and_then (λ d. if is_some (as_object d) then Some d else None) read)
+
+-- the value that a body is, if it is UTF-8 and a JSON text (RFC 8259)
+abbrev pub body_value : List ℕ → Option Data
+body_value body = if is_utf8 body then read body else None
