@@ -32,6 +32,16 @@ fn key_bytes(head: &[u8], text: &[u8]) -> Option<[u8; 32]>
     }
 }
 
+/// A head and the digits of a key, in lower case.
+fn written(alloc: Global, head: &str, key: &[u8; 32]) -> Result<Text, NoMemory>
+    ensures value { IfOk result (λ text. text ≡ key_text head.now key.now) }
+{
+    let mut text = Text::from_str(alloc, head)?;
+    let digits = hex::encode(alloc, key)?;
+    text.push(digits.as_str())?;
+    Ok(text)
+}
+
 impl MachineKey {
     /// The key that `mkey:` and 64 hexadecimal digits of either case spell.
     pub fn read(text: &[u8]) -> Option<MachineKey>
@@ -40,6 +50,13 @@ impl MachineKey {
         ensures none { IfNone result ((key : List ℕ) → length key ≡ 32 → SpellsKey (codes "mkey:") text.now key → ⊥) }
     {
         Some(MachineKey(key_bytes(b"mkey:", text)?))
+    }
+
+    /// `mkey:` and 64 digits in lower case.
+    pub fn write(&self, alloc: Global) -> Result<Text, NoMemory>
+        ensures value { IfOk result (λ text. text ≡ key_text (codes "mkey:") self.now.0) }
+    {
+        written(alloc, "mkey:", &self.0)
     }
 
     pub fn is_zero(&self) -> bool
@@ -57,6 +74,37 @@ impl NodeKey {
         ensures none { IfNone result ((key : List ℕ) → length key ≡ 32 → SpellsKey (codes "nodekey:") text.now key → ⊥) }
     {
         Some(NodeKey(key_bytes(b"nodekey:", text)?))
+    }
+
+    /// `nodekey:` and 64 digits in lower case.
+    pub fn write(&self, alloc: Global) -> Result<Text, NoMemory>
+        ensures value { IfOk result (λ text. text ≡ key_text (codes "nodekey:") self.now.0) }
+    {
+        written(alloc, "nodekey:", &self.0)
+    }
+
+    pub fn is_zero(&self) -> bool
+        ensures value { IsTrue result ↔ (self.now.0 ≡ replicate 32 0) }
+    {
+        self.0 == [0; 32]
+    }
+}
+
+impl DiscoKey {
+    /// The key that `discokey:` and 64 hexadecimal digits of either case spell.
+    pub fn read(text: &[u8]) -> Option<DiscoKey>
+        ensures value { option_map (λ key. key.0) result ≡ key_of_text (codes "discokey:") text.now }
+        ensures found { IfSome result (λ key. SpellsKey (codes "discokey:") text.now key.0) }
+        ensures none { IfNone result ((key : List ℕ) → length key ≡ 32 → SpellsKey (codes "discokey:") text.now key → ⊥) }
+    {
+        Some(DiscoKey(key_bytes(b"discokey:", text)?))
+    }
+
+    /// `discokey:` and 64 digits in lower case.
+    pub fn write(&self, alloc: Global) -> Result<Text, NoMemory>
+        ensures value { IfOk result (λ text. text ≡ key_text (codes "discokey:") self.now.0) }
+    {
+        written(alloc, "discokey:", &self.0)
     }
 
     pub fn is_zero(&self) -> bool
