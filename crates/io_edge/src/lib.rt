@@ -4,11 +4,13 @@
 mod clock;
 mod entropy;
 mod faults;
+mod files;
 mod sink;
 mod source;
 
 pub use clock::{Clock, MemoryClock};
 pub use entropy::{Entropy, MemoryEntropy};
 pub use faults::{EdgeFault, Failed, Faults};
+pub use files::{FileFault, Files, MemoryFiles, NamedBytes};
 pub use sink::{MemorySink, Sink};
 pub use source::{MemorySource, ReadSource, Source};
