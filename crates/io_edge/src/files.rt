@@ -1,8 +1,6 @@
 //! Files, read whole by name.
 ghost use Rattle.std.specs.Prelude.{◌≡◌, ◌≤◌, ◌<◌, ℕ, Option, Some, None, List, length, IfOk, IfSome, IsSomeAnd, IsErrOf};
-ghost use Rattle.std.specs.List.{find};
 ghost use Rattle.std.specs.Option.{option_copied};
-ghost use Rattle.std.specs.Str.{bytes_eq};
 ghost use Rattle.io_edge.specs.Edge.{Rose, IsWhereTold};
 ghost use Rattle.io_edge.specs.Named.{bytes_of};
 
