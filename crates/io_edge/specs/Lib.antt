@@ -1,2 +1,5 @@
+pub mod Asked
+pub mod Door
 pub mod Edge
+pub mod Named
 pub mod Stream
