@@ -1,0 +1,7 @@
+pub mod Limits
+pub mod Shelf
+pub mod Rows
+pub mod Held
+pub mod Damage
+pub mod Sound
+pub mod Settings

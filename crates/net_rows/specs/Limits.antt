@@ -1,0 +1,57 @@
+-- How much the tables hold, and where the tailnet's addresses lie.
+use Rattle.std.specs.Prelude.{◌+◌, ℕ, Bool, true, false, nat_le, nat_lt, ◌&&◌}
+use Rattle.std.specs.Bool.{beq}
+use Rattle.tail_base.specs.Bits.{Address, Block, size_of}
+
+-- the greatest counter; ids are below it
+abbrev pub counter_limit : ℕ
+counter_limit = 2147483647
+
+-- rows of each kind
+abbrev pub user_limit : ℕ
+user_limit = 256
+
+abbrev pub key_limit : ℕ
+key_limit = 1024
+
+abbrev pub pending_limit : ℕ
+pending_limit = 256
+
+abbrev pub machine_limit : ℕ
+machine_limit = 512
+
+abbrev pub extra_limit : ℕ
+extra_limit = 256
+
+-- elements of one row's lists, and bytes of its texts
+abbrev pub endpoint_limit : ℕ
+endpoint_limit = 32
+
+abbrev pub route_limit : ℕ
+route_limit = 32
+
+-- tags of a key or a pending entry
+abbrev pub asked_tag_limit : ℕ
+asked_tag_limit = 16
+
+-- tags of a machine
+abbrev pub tag_limit : ℕ
+tag_limit = 32
+
+abbrev pub host_limit : ℕ
+host_limit = 255
+
+abbrev pub policy_limit : ℕ
+policy_limit = 262144
+
+-- 100.64.0.0/10
+abbrev pub tailnet_v4 : Block
+tailnet_v4 = record { base = record { v6 = false; bits = 0x64400000 }; len = 10 }
+
+-- fd7a:115c:a1e0::/48
+abbrev pub tailnet_v6 : Block
+tailnet_v6 = record { base = record { v6 = true; bits = 0xfd7a115ca1e000000000000000000000 }; len = 48 }
+
+-- the address is in the prefix
+abbrev pub is_inside : Block → Address → Bool
+is_inside p a = beq p.base.v6 a.v6 && nat_le p.base.bits a.bits && nat_lt a.bits (p.base.bits + size_of p)

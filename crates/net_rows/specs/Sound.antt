@@ -1,0 +1,119 @@
+-- The rules of the tables, one by one: what holds wherever there is no damage.
+use Rattle.std.specs.Prelude.{◌≡◌, ◌≤◌, ◌<◌, ℕ, true, false, length, codes, Contains, IfSome, ◌⊎◌}
+use Rattle.std.specs.List.{starts_with}
+use Rattle.net_rows.specs.Limits.{counter_limit, user_limit, key_limit, pending_limit, machine_limit, extra_limit, endpoint_limit, route_limit, asked_tag_limit, tag_limit, host_limit, policy_limit, tailnet_v4, tailnet_v6, is_inside}
+use Rattle.net_rows.specs.Shelf.{IsAscending, AreBelow, Tells, IsOwn, HasRow}
+use Rattle.net_rows.specs.Damage.{names_id, names_key}
+use Rattle.net_rows.specs.Rows.{Rows}
+use Rattle.net_rows.specs.declared.user.User.{User}
+use Rattle.net_rows.specs.declared.key.AuthKey.{AuthKey}
+use Rattle.net_rows.specs.declared.pending.Pending.{Pending}
+use Rattle.net_rows.specs.declared.machine.Machine.{Machine}
+use Rattle.net_rows.specs.declared.change.Counters.{Counters}
+
+-- A counter is from 1 to its limit.
+abbrev pub IsCounter : ℕ → Type 0
+IsCounter n = (1 ≤ n) × (n ≤ counter_limit)
+
+pub record AreCounters (next : Counters) : Type 0 where
+  pub user : IsCounter next.user
+  pub key : IsCounter next.key
+  pub pending : IsCounter next.pending
+  pub machine : IsCounter next.machine
+
+-- What a key's row keeps, whatever other keys there are.
+pub record KeyKeeps (t : Rows) (k : AuthKey) : Type 0 where
+  pub user : HasRow (λ r. r.id) t.users k.user
+  pub text : names_key k.id k.text ≡ true
+  pub tags : length k.tags ≤ asked_tag_limit
+
+-- What a pending entry keeps, whatever other entries there are.
+pub record PendingKeeps (p : Pending) : Type 0 where
+  pub text : names_id (codes "reg-") p.id p.text ≡ true
+  pub host : length p.host ≤ host_limit
+  pub routes : length p.routes ≤ route_limit
+  pub tags : length p.tags ≤ asked_tag_limit
+
+-- What a machine's row keeps, whatever other machines there are.
+pub record MachineKeeps (t : Rows) (m : Machine) : Type 0 where
+  pub user : HasRow (λ r. r.id) t.users m.user
+  pub v4 : is_inside tailnet_v4 m.v4 ≡ true
+  pub v6 : is_inside tailnet_v6 m.v6 ≡ true
+  pub host : length m.host ≤ host_limit
+  pub endpoints : length m.endpoints ≤ endpoint_limit
+  pub routes : length m.routes ≤ route_limit
+  pub approved : length m.approved ≤ route_limit
+  pub tags : length m.tags ≤ tag_limit
+
+-- Users stand by id, are within the limit, and have logins of their own.
+pub record AreUsers (t : Rows) : Type 0 where
+  pub ascend : IsAscending (λ r. r.id) t.users
+  pub ids : AreBelow (λ r. r.id) t.next.user t.users
+  pub count : length t.users ≤ user_limit
+  pub logins : Tells (λ r. r.id) (λ r. r.login) t.users
+
+pub record AreKeys (t : Rows) : Type 0 where
+  pub ascend : IsAscending (λ r. r.id) t.keys
+  pub ids : AreBelow (λ r. r.id) t.next.key t.keys
+  pub count : length t.keys ≤ key_limit
+  pub texts : Tells (λ r. r.id) (λ r. r.text) t.keys
+  pub keeps : (k : AuthKey) → Contains t.keys k → KeyKeeps t k
+
+pub record ArePending (t : Rows) : Type 0 where
+  pub ascend : IsAscending (λ r. r.id) t.pending
+  pub ids : AreBelow (λ r. r.id) t.next.pending t.pending
+  pub count : length t.pending ≤ pending_limit
+  pub texts : Tells (λ r. r.id) (λ r. r.text) t.pending
+  pub machine_keys : Tells (λ r. r.id) (λ r. r.machine.0) t.pending
+  pub keeps : (p : Pending) → Contains t.pending p → PendingKeeps p
+
+pub record AreMachines (t : Rows) : Type 0 where
+  pub ascend : IsAscending (λ r. r.id) t.machines
+  pub ids : AreBelow (λ r. r.id) t.next.machine t.machines
+  pub count : length t.machines ≤ machine_limit
+  pub machine_keys : Tells (λ r. r.id) (λ r. r.machine.0) t.machines
+  pub node_keys : Tells (λ r. r.id) (λ r. r.node.0) t.machines
+  pub names : Tells (λ r. r.id) (λ r. r.name) t.machines
+  pub v4 : Tells (λ r. r.id) (λ r. r.v4) t.machines
+  pub v6 : Tells (λ r. r.id) (λ r. r.v6) t.machines
+  pub keeps : (m : Machine) → Contains t.machines m → MachineKeeps t m
+
+-- All rules of the tables.
+pub record AreSound (t : Rows) : Type 0 where
+  pub counters : AreCounters t.next
+  pub users : AreUsers t
+  pub keys : AreKeys t
+  pub pending : ArePending t
+  pub machines : AreMachines t
+  pub extras : length t.extras ≤ extra_limit
+  pub policy : IfSome t.policy (λ text. length text ≤ policy_limit)
+
+-- The row may be put: it breaks no rule beside the rows of other ids, and either there is room or it
+-- replaces the row of its id.
+pub record FitsUser (t : Rows) (u : User) : Type 0 where
+  pub id : 1 ≤ u.id
+  pub room : (length t.users < user_limit) ⊎ HasRow (λ r. r.id) t.users u.id
+  pub login : IsOwn (λ r. r.id) (λ r. r.login) t.users u
+
+pub record FitsKey (t : Rows) (k : AuthKey) : Type 0 where
+  pub id : 1 ≤ k.id
+  pub room : (length t.keys < key_limit) ⊎ HasRow (λ r. r.id) t.keys k.id
+  pub text : IsOwn (λ r. r.id) (λ r. r.text) t.keys k
+  pub keeps : KeyKeeps t k
+
+pub record FitsPending (t : Rows) (p : Pending) : Type 0 where
+  pub id : 1 ≤ p.id
+  pub room : (length t.pending < pending_limit) ⊎ HasRow (λ r. r.id) t.pending p.id
+  pub text : IsOwn (λ r. r.id) (λ r. r.text) t.pending p
+  pub machine_key : IsOwn (λ r. r.id) (λ r. r.machine.0) t.pending p
+  pub keeps : PendingKeeps p
+
+pub record FitsMachine (t : Rows) (m : Machine) : Type 0 where
+  pub id : 1 ≤ m.id
+  pub room : (length t.machines < machine_limit) ⊎ HasRow (λ r. r.id) t.machines m.id
+  pub machine_key : IsOwn (λ r. r.id) (λ r. r.machine.0) t.machines m
+  pub node_key : IsOwn (λ r. r.id) (λ r. r.node.0) t.machines m
+  pub name : IsOwn (λ r. r.id) (λ r. r.name) t.machines m
+  pub v4 : IsOwn (λ r. r.id) (λ r. r.v4) t.machines m
+  pub v6 : IsOwn (λ r. r.id) (λ r. r.v6) t.machines m
+  pub keeps : MachineKeeps t m
