@@ -12,7 +12,7 @@ mod sink;
 mod source;
 
 pub use clock::{Clock, MemoryClock};
-pub use door::{Door, Doors};
+pub use door::{Door, Doors, NoDoor, NoDoors};
 pub use entropy::{Entropy, MemoryEntropy};
 pub use faults::{EdgeFault, Failed, Faults};
 pub use files::{FileFault, Files, MemoryFiles, NamedBytes};
