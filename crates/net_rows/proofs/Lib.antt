@@ -5,3 +5,5 @@ pub mod HeldLemmas
 pub mod Empty
 pub mod PutLemmas
 pub mod Scan
+pub mod SoundPut
+pub mod Sounds
