@@ -5,5 +5,6 @@ pub mod HeldLemmas
 pub mod Empty
 pub mod PutLemmas
 pub mod Scan
+pub mod Stands
 pub mod SoundPut
 pub mod Sounds
