@@ -7,4 +7,5 @@ pub mod PutLemmas
 pub mod Scan
 pub mod Stands
 pub mod SoundPut
+pub mod SoundRows
 pub mod Sounds

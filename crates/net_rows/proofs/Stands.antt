@@ -32,9 +32,9 @@ stands_after id next limit before x h =
 pub stands_is : {T : Type 0} (id : T → ℕ) (next limit : ℕ) (before : List T) (x : T) → StandsAfter id next limit before x → stands id next limit before x ≡ true
 stands_is id next limit before x s =
     and4 (nat_le 1 (id x)) (nat_lt (id x) next) (list_all (λ y. nat_lt (id y) (id x)) before) (nat_lt (length before) limit)
-      (le_is 1 (id x) s.one) (lt_is (id x) next s.below)
-      (list_all_is (λ y. nat_lt (id y) (id x)) before (λ y m. lt_is (id y) (id x) (s.above y m)))
-      (lt_is (length before) limit s.room)
+    (le_is 1 (id x) s.one) (lt_is (id x) next s.below)
+    (list_all_is (λ y. nat_lt (id y) (id x)) before (λ y m. lt_is (id y) (id x) (s.above y m)))
+    (lt_is (length before) limit s.room)
 
 -- a row that stands after others makes them rise and stay in range
 pub IsAscending-last : {T : Type 0} (id : T → ℕ) (before : List T) (x : T) → IsAscending id before → ((y : T) → Contains before y → id y < id x) → IsAscending id (before ++ x ∷ [])
@@ -77,7 +77,7 @@ new_of f before x h y m e =
 pub new_is : {T : Type 0} (f : T → List ℕ) (before : List T) (x : T) → ((y : T) → Contains before y → f y ≡ f x → ⊥) → is_new f before x ≡ true
 new_is f before x h =
     list_all_is (λ y. not (bytes_eq (f y) (f x))) before
-      (λ y m. rw (false_unless (bytes_eq (f y) (f x)) (λ e. h y m (bytes_of (f y) (f x) e))) refl)
+    (λ y m. rw (false_unless (bytes_eq (f y) (f x)) (λ e. h y m (bytes_of (f y) (f x) e))) refl)
 
 pub address_of : (a b : Address) → address_eq a b ≡ true → a ≡ b
 address_of a b h =
@@ -101,7 +101,7 @@ new_address_of f before x h y m e =
 pub new_address_is : {T : Type 0} (f : T → Address) (before : List T) (x : T) → ((y : T) → Contains before y → f y ≡ f x → ⊥) → is_new_address f before x ≡ true
 new_address_is f before x h =
     list_all_is (λ y. not (address_eq (f y) (f x))) before
-      (λ y m. rw (false_unless (address_eq (f y) (f x)) (λ e. h y m (address_of (f y) (f x) e))) refl)
+    (λ y m. rw (false_unless (address_eq (f y) (f x)) (λ e. h y m (address_of (f y) (f x) e))) refl)
 
 -- the user of an id is there
 pub user_of : (users : List User) (n : ℕ) → has_user users n ≡ true → HasRow (λ r. r.id) users n
