@@ -4,6 +4,7 @@ pub mod ShelfLemmas
 pub mod HeldLemmas
 pub mod Empty
 pub mod PutLemmas
+pub mod NamedLemmas
 pub mod Scan
 pub mod Stands
 pub mod SoundPut
