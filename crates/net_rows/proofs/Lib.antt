@@ -7,6 +7,9 @@ pub mod PutLemmas
 pub mod NamedLemmas
 pub mod Scan
 pub mod Stands
+pub mod RemoveLemmas
+pub mod RowAt
 pub mod SoundPut
+pub mod SoundRemove
 pub mod SoundRows
 pub mod Sounds
