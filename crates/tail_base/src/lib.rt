@@ -6,13 +6,16 @@ mod addr;
 mod ascii;
 mod bytes;
 mod endpoint;
+mod groups;
 mod items;
 mod key;
 mod label;
 mod login;
 mod memory;
 mod moment;
+mod naming;
 mod prefix;
+mod quad;
 mod tag;
 mod text;
 
