@@ -1,0 +1,5 @@
+pub mod Members
+pub mod PrefixLemmas
+pub mod SearchLemmas
+pub mod AddressLemmas
+pub mod AddressLaws

@@ -1,0 +1,6 @@
+//! Addresses and names for new machines.
+#![tactic(auto)]
+
+mod addresses;
+
+pub use addresses::least_free;
