@@ -1,0 +1,3 @@
+pub mod ShelfLemmas
+pub mod Empty
+pub mod HeldLemmas

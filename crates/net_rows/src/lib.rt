@@ -6,18 +6,29 @@ mod change;
 mod extra;
 mod id;
 mod key;
+mod limits;
+mod lists;
 mod machine;
 mod pending;
 mod rows;
 mod settings;
+mod shelf;
+mod tables;
 mod user;
 
 pub use change::{Change, Counters, Damage, Kind, Row, RowKey};
 pub use extra::Extra;
 pub use id::HasId;
 pub use key::AuthKey;
+pub use limits::{
+    ASKED_TAG_LIMIT, COUNTER_LIMIT, ENDPOINT_LIMIT, EXTRA_LIMIT, HOST_LIMIT, KEY_LIMIT,
+    MACHINE_LIMIT, PENDING_LIMIT, POLICY_LIMIT, ROUTE_LIMIT, TAG_LIMIT, USER_LIMIT,
+};
+pub use lists::Lists;
 pub use machine::Machine;
 pub use pending::Pending;
 pub use rows::Rows;
 pub use settings::{DnsSettings, DomainRoute, Settings, SettingsFields};
+pub use shelf::Shelf;
+pub use tables::Tables;
 pub use user::User;
