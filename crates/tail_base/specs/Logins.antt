@@ -1,7 +1,8 @@
 -- Logins: a user's name, `@`, and a domain or nothing, as `ann@` and `ann@example.org`.
 use Rattle.std.specs.Prelude.{ℕ, Bool, List, Option, Some, None, length, map, if◌then◌else◌, nat_le, ◌&&◌, ◌||◌, ◌==◌}
 use Rattle.std.specs.List.{list_all, list_any, before_first, after_first}
-use Rattle.tail_base.specs.Labels.{is_alnum, lowered}
+use Rattle.std.specs.Char.{to_ascii_lowercase}
+use Rattle.tail_base.specs.Labels.{is_alnum}
 
 -- a to z, 0 to 9, `.`, `_`, `+`, `-`
 abbrev pub is_user_byte : ℕ → Bool
@@ -25,4 +26,4 @@ is_login bytes = list_any (λ b. b == 64) bytes && is_user (before_first (λ b. 
 
 -- the login that a text spells, in either case
 abbrev pub login_of : List ℕ → Option (List ℕ)
-login_of bytes = let small = map lowered bytes in if is_login small then Some small else None
+login_of bytes = let small = map to_ascii_lowercase bytes in if is_login small then Some small else None

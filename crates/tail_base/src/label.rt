@@ -1,7 +1,9 @@
 //! DNS labels.
 ghost use Rattle.std.specs.Prelude.{◌≡◌, true, IfOk};
-ghost use Rattle.tail_base.specs.Labels.{is_label};
+ghost use Rattle.std.specs.List.{list_all};
+ghost use Rattle.tail_base.specs.Labels.{has_good_ends, has_label_length, is_label, is_label_byte, label_of};
 
+use crate::ascii::is_alnum;
 use crate::memory::{Duplicate, NoMemory};
 use crate::text::Text;
 use std::alloc::Global;
@@ -25,7 +27,44 @@ impl Model for Label {
     ghost invariant = { λ a. is_label a.text ≡ true };
 }
 
+fn has_label_length(text: &[u8]) -> bool
+    ensures value { result ≡ has_label_length text.now }
+{
+    1 <= text.len() && text.len() <= 63
+}
+
+fn has_label_bytes(text: &[u8]) -> bool
+    ensures value { result ≡ list_all is_label_byte text.now }
+{
+    text.iter().all(|b| is_alnum(*b) || *b == b'-')
+}
+
+fn has_good_ends(text: &[u8]) -> bool
+    ensures value { result ≡ has_good_ends text.now }
+{
+    !text.starts_with(b"-") && !text.ends_with(b"-")
+}
+
+fn is_label(text: &[u8]) -> bool
+    ensures value { result ≡ is_label text.now }
+{
+    has_label_length(text) && has_label_bytes(text) && has_good_ends(text)
+}
+
 impl Label {
+    /// The label that a text is, if it is one.
+    #[tactic(auto, using(crate::proofs::LabelLemmas::label_ascii))]
+    pub fn read(alloc: Global, text: &[u8]) -> Result<Option<Label>, NoMemory>
+        ensures value { IfOk result (λ label. label ≡ label_of text.now) }
+    {
+        if !is_label(text) {
+            return Ok(None);
+        }
+        Ok(Some(Label {
+            text: Text::from_ascii(alloc, text)?,
+        }))
+    }
+
     pub fn as_str(&self) -> &str
         ensures value { result.now ≡ self.now }
         ensures label { is_label self.now ≡ true }

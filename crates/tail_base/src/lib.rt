@@ -3,6 +3,7 @@
 #![tactic(auto)]
 
 mod addr;
+mod ascii;
 mod bytes;
 mod endpoint;
 mod items;

@@ -1,9 +1,11 @@
 //! Texts that contracts see as their bytes.
 ghost use Rattle.std.specs.Prelude.{◌≡◌, ℕ, List, [], ◌∷◌, ◌++◌, length, IfOk, OnOk, OnErr, IsTrue, ◌↔◌, string_bytes};
+ghost use Rattle.std.specs.Str.{IsAscii};
 
 use crate::memory::{Duplicate, NoMemory};
 use std::alloc::Global;
 use std::marker::Model;
+use std::str::from_utf8;
 
 /// A text in UTF-8. Contracts see it as the list of its bytes.
 #[derive(Drop)]
@@ -36,6 +38,17 @@ impl Text {
         let mut made = String::new(alloc);
         made.push_str(text)?;
         Ok(Text { text: made })
+    }
+
+    /// The text of these ASCII bytes.
+    pub fn from_ascii(alloc: Global, bytes: &[u8]) -> Result<Self, NoMemory>
+        requires ascii { IsAscii bytes.now }
+        ensures value { IfOk result (λ made. made ≡ bytes.now) }
+    {
+        match from_utf8(bytes) {
+            Ok(text) => Self::from_str(alloc, text),
+            Err(_) => unreachable!(),
+        }
     }
 
     /// The text that a string holds.
