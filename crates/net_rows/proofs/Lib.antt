@@ -1,3 +1,9 @@
+pub mod Bools
+pub mod Members
 pub mod ShelfLemmas
-pub mod Empty
 pub mod HeldLemmas
+pub mod Empty
+pub mod PutLemmas
+pub mod Scan
+pub mod SoundPut
+pub mod Sounds

@@ -1,6 +1,5 @@
 -- The rules of the tables, one by one: what holds wherever there is no damage.
-use Rattle.std.specs.Prelude.{◌≡◌, ◌≤◌, ◌<◌, ℕ, true, false, length, codes, Contains, IfSome, ◌⊎◌}
-use Rattle.std.specs.List.{starts_with}
+use Rattle.std.specs.Prelude.{◌≡◌, ◌≤◌, ◌<◌, ℕ, true, List, length, codes, Contains, IfSome, ◌⊎◌}
 use Rattle.net_rows.specs.Limits.{counter_limit, user_limit, key_limit, pending_limit, machine_limit, extra_limit, endpoint_limit, route_limit, asked_tag_limit, tag_limit, host_limit, policy_limit, tailnet_v4, tailnet_v6, is_inside}
 use Rattle.net_rows.specs.Shelf.{IsAscending, AreBelow, Tells, IsOwn, HasRow}
 use Rattle.net_rows.specs.Damage.{names_id, names_key}
@@ -22,8 +21,8 @@ pub record AreCounters (next : Counters) : Type 0 where
   pub machine : IsCounter next.machine
 
 -- What a key's row keeps, whatever other keys there are.
-pub record KeyKeeps (t : Rows) (k : AuthKey) : Type 0 where
-  pub user : HasRow (λ r. r.id) t.users k.user
+pub record KeyKeeps (users : List User) (k : AuthKey) : Type 0 where
+  pub user : HasRow (λ r. r.id) users k.user
   pub text : names_key k.id k.text ≡ true
   pub tags : length k.tags ≤ asked_tag_limit
 
@@ -35,8 +34,8 @@ pub record PendingKeeps (p : Pending) : Type 0 where
   pub tags : length p.tags ≤ asked_tag_limit
 
 -- What a machine's row keeps, whatever other machines there are.
-pub record MachineKeeps (t : Rows) (m : Machine) : Type 0 where
-  pub user : HasRow (λ r. r.id) t.users m.user
+pub record MachineKeeps (users : List User) (m : Machine) : Type 0 where
+  pub user : HasRow (λ r. r.id) users m.user
   pub v4 : is_inside tailnet_v4 m.v4 ≡ true
   pub v6 : is_inside tailnet_v6 m.v6 ≡ true
   pub host : length m.host ≤ host_limit
@@ -45,46 +44,49 @@ pub record MachineKeeps (t : Rows) (m : Machine) : Type 0 where
   pub approved : length m.approved ≤ route_limit
   pub tags : length m.tags ≤ tag_limit
 
--- Users stand by id, are within the limit, and have logins of their own.
-pub record AreUsers (t : Rows) : Type 0 where
-  pub ascend : IsAscending (λ r. r.id) t.users
-  pub ids : AreBelow (λ r. r.id) t.next.user t.users
-  pub count : length t.users ≤ user_limit
-  pub logins : Tells (λ r. r.id) (λ r. r.login) t.users
+-- Users stand by id below the next one, are within the limit, and have logins of their own.
+pub record AreUsers (users : List User) (next : ℕ) : Type 0 where
+  pub ascend : IsAscending (λ r. r.id) users
+  pub ids : AreBelow (λ r. r.id) next users
+  pub count : length users ≤ user_limit
+  pub logins : Tells (λ r. r.id) (λ r. r.login) users
 
-pub record AreKeys (t : Rows) : Type 0 where
-  pub ascend : IsAscending (λ r. r.id) t.keys
-  pub ids : AreBelow (λ r. r.id) t.next.key t.keys
-  pub count : length t.keys ≤ key_limit
-  pub texts : Tells (λ r. r.id) (λ r. r.text) t.keys
-  pub keeps : (k : AuthKey) → Contains t.keys k → KeyKeeps t k
+-- The same of keys and their texts, which belong to these users.
+pub record AreKeys (users : List User) (keys : List AuthKey) (next : ℕ) : Type 0 where
+  pub ascend : IsAscending (λ r. r.id) keys
+  pub ids : AreBelow (λ r. r.id) next keys
+  pub count : length keys ≤ key_limit
+  pub texts : Tells (λ r. r.id) (λ r. r.text) keys
+  pub keeps : (k : AuthKey) → Contains keys k → KeyKeeps users k
 
-pub record ArePending (t : Rows) : Type 0 where
-  pub ascend : IsAscending (λ r. r.id) t.pending
-  pub ids : AreBelow (λ r. r.id) t.next.pending t.pending
-  pub count : length t.pending ≤ pending_limit
-  pub texts : Tells (λ r. r.id) (λ r. r.text) t.pending
-  pub machine_keys : Tells (λ r. r.id) (λ r. r.machine.0) t.pending
-  pub keeps : (p : Pending) → Contains t.pending p → PendingKeeps p
+-- The same of pending entries, their texts and machine keys.
+pub record ArePending (pending : List Pending) (next : ℕ) : Type 0 where
+  pub ascend : IsAscending (λ r. r.id) pending
+  pub ids : AreBelow (λ r. r.id) next pending
+  pub count : length pending ≤ pending_limit
+  pub texts : Tells (λ r. r.id) (λ r. r.text) pending
+  pub machine_keys : Tells (λ r. r.id) (λ r. r.machine.0) pending
+  pub keeps : (p : Pending) → Contains pending p → PendingKeeps p
 
-pub record AreMachines (t : Rows) : Type 0 where
-  pub ascend : IsAscending (λ r. r.id) t.machines
-  pub ids : AreBelow (λ r. r.id) t.next.machine t.machines
-  pub count : length t.machines ≤ machine_limit
-  pub machine_keys : Tells (λ r. r.id) (λ r. r.machine.0) t.machines
-  pub node_keys : Tells (λ r. r.id) (λ r. r.node.0) t.machines
-  pub names : Tells (λ r. r.id) (λ r. r.name) t.machines
-  pub v4 : Tells (λ r. r.id) (λ r. r.v4) t.machines
-  pub v6 : Tells (λ r. r.id) (λ r. r.v6) t.machines
-  pub keeps : (m : Machine) → Contains t.machines m → MachineKeeps t m
+-- The same of machines, their keys, names and addresses.
+pub record AreMachines (users : List User) (machines : List Machine) (next : ℕ) : Type 0 where
+  pub ascend : IsAscending (λ r. r.id) machines
+  pub ids : AreBelow (λ r. r.id) next machines
+  pub count : length machines ≤ machine_limit
+  pub machine_keys : Tells (λ r. r.id) (λ r. r.machine.0) machines
+  pub node_keys : Tells (λ r. r.id) (λ r. r.node.0) machines
+  pub names : Tells (λ r. r.id) (λ r. r.name) machines
+  pub v4 : Tells (λ r. r.id) (λ r. r.v4) machines
+  pub v6 : Tells (λ r. r.id) (λ r. r.v6) machines
+  pub keeps : (m : Machine) → Contains machines m → MachineKeeps users m
 
 -- All rules of the tables.
 pub record AreSound (t : Rows) : Type 0 where
   pub counters : AreCounters t.next
-  pub users : AreUsers t
-  pub keys : AreKeys t
-  pub pending : ArePending t
-  pub machines : AreMachines t
+  pub users : AreUsers t.users t.next.user
+  pub keys : AreKeys t.users t.keys t.next.key
+  pub pending : ArePending t.pending t.next.pending
+  pub machines : AreMachines t.users t.machines t.next.machine
   pub extras : length t.extras ≤ extra_limit
   pub policy : IfSome t.policy (λ text. length text ≤ policy_limit)
 
@@ -99,7 +101,7 @@ pub record FitsKey (t : Rows) (k : AuthKey) : Type 0 where
   pub id : 1 ≤ k.id
   pub room : (length t.keys < key_limit) ⊎ HasRow (λ r. r.id) t.keys k.id
   pub text : IsOwn (λ r. r.id) (λ r. r.text) t.keys k
-  pub keeps : KeyKeeps t k
+  pub keeps : KeyKeeps t.users k
 
 pub record FitsPending (t : Rows) (p : Pending) : Type 0 where
   pub id : 1 ≤ p.id
@@ -116,4 +118,4 @@ pub record FitsMachine (t : Rows) (m : Machine) : Type 0 where
   pub name : IsOwn (λ r. r.id) (λ r. r.name) t.machines m
   pub v4 : IsOwn (λ r. r.id) (λ r. r.v4) t.machines m
   pub v6 : IsOwn (λ r. r.id) (λ r. r.v6) t.machines m
-  pub keeps : MachineKeeps t m
+  pub keeps : MachineKeeps t.users m

@@ -1,0 +1,25 @@
+-- The first row that doesn't fit, and what holds where there is none.
+use Rattle.std.proofs.Common.{◌≡◌, ℕ, Bool, true, false, List, [], ◌∷◌, ◌++◌, inl, inr, sym, ◌∙◌, ap, refl, append_assoc}
+use Rattle.std.specs.Prelude.{Option, Some, None}
+use Rattle.std.proofs.lemmas.List.{append-nil}
+use Rattle.net_rows.specs.Damage.{first_misfit}
+use Rattle.net_rows.proofs.Bools.{truth}
+
+-- what each fitting row keeps holds of all rows
+pub misfit_keeps : {T : Type 0} (id : T → ℕ) (fits : List T → T → Bool) (P : List T → Type 0)
+    → ((before : List T) (x : T) → P before → fits before x ≡ true → P (before ++ x ∷ []))
+    → (before xs : List T) → P before → first_misfit id fits before xs ≡ None → P (before ++ xs)
+misfit_keeps id fits P step before [] p h = rw append-nil p
+misfit_keeps {T} id fits P step before (x ∷ xs) p h =
+    elim (truth (fits before x)) [
+      | inl passes ↦ rw (← append_assoc before (x ∷ []) xs) (misfit_keeps id fits P step (before ++ x ∷ []) xs (step before x p passes) (rw passes at h))
+      | inr fails ↦ let bad : Some (id x) ≡ None = rw fails at h in absurd (cc)
+    ]
+
+-- where each row fits, there is no misfit
+pub no_misfit : {T : Type 0} (id : T → ℕ) (fits : List T → T → Bool) (all : List T)
+    → ((before : List T) (x : T) (rest : List T) → before ++ x ∷ rest ≡ all → fits before x ≡ true)
+    → (before xs : List T) → before ++ xs ≡ all → first_misfit id fits before xs ≡ None
+no_misfit id fits all each before [] e = refl
+no_misfit {T} id fits all each before (x ∷ xs) e =
+    rw (each before x xs e) (no_misfit id fits all each (before ++ x ∷ []) xs (append_assoc before (x ∷ []) xs ∙ e))

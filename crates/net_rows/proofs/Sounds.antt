@@ -1,0 +1,2 @@
+-- Tables without damage are those that keep all rules.
+use Rattle.std.proofs.Common.{◌≡◌}
