@@ -3,3 +3,5 @@ pub mod PrefixLemmas
 pub mod SearchLemmas
 pub mod AddressLemmas
 pub mod AddressLaws
+pub mod Pigeonhole
+pub mod NameLaws

@@ -5,6 +5,7 @@ use Rattle.std.specs.Option.{option_map}
 use Rattle.tail_base.specs.Bits.{Address, Block, size_of}
 use Rattle.net_rows.specs.Damage.{address_eq}
 use Rattle.net_rows.specs.declared.machine.Machine.{Machine}
+use Rattle.net_rows.specs.declared.settings.SettingsFields.{SettingsFields}
 
 -- fd7a:115c:a1e0::53; 100.100.100.100, and 100.115.92.0 to 100.115.93.255
 abbrev pub is_reserved : Address → Bool
@@ -35,3 +36,7 @@ address_at p n = record { v6 = p.base.v6; bits = n }
 abbrev pub free_address : Block → List Machine → Option Address
 free_address p machines =
     option_map (address_at p) (least_from (λ n. is_free p machines (address_at p n)) (size_of p) p.base.bits)
+
+-- the prefix that is set for a family
+abbrev pub set_prefix : SettingsFields → Bool → Block
+set_prefix settings v6 = if v6 then settings.prefix_v6 else settings.prefix_v4

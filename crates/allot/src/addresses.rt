@@ -1,9 +1,9 @@
 //! Addresses for new machines.
 ghost use Rattle.std.specs.Prelude.{◌≡◌, ◌+◌, ◌<◌, ◌≤◌, ◌^◌};
 ghost use Rattle.tail_base.specs.Bits.{family_bits, family_size, size_of};
-ghost use Rattle.allot.specs.Addresses.{is_reserved, has_address, is_free, free_address};
+ghost use Rattle.allot.specs.Addresses.{is_reserved, has_address, is_free, free_address, set_prefix};
 
-use net_rows::Machine;
+use net_rows::{Machine, Settings, Tables};
 use tail_base::{Addr, Prefix};
 
 /// 100.100.100.100, where clients answer MagicDNS.
@@ -87,4 +87,17 @@ pub fn least_free(prefix: &Prefix, machines: &[Machine]) -> Option<Addr>
         }
     }
     None
+}
+
+/// The least address of the family's set prefix that is free. `None` where no address is free.
+pub fn least_address(settings: &Settings, tables: &Tables, v6: bool) -> Option<Addr>
+    ensures value { result ≡ free_address (set_prefix settings.now v6) tables.now.rows.machines }
+{
+    let fields = settings.fields();
+    let prefix = if v6 {
+        &fields.prefix_v6
+    } else {
+        &fields.prefix_v4
+    };
+    least_free(prefix, tables.machines())
 }

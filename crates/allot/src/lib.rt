@@ -3,4 +3,4 @@
 
 mod addresses;
 
-pub use addresses::least_free;
+pub use addresses::{least_address, least_free};
