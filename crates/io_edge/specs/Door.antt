@@ -1,6 +1,6 @@
 -- Connections that come at a door, and those that were given back to it.
-use Rattle.std.specs.Prelude.{◌≡◌, ◌+◌, ◌<◌, ℕ, Option, Some, None, List, [], ◌∷◌, ◌++◌, length, map, IfSome, slice_get, ◌⊎◌}
-use Rattle.std.specs.Option.{option_map}
+use Rattle.std.specs.Prelude.{◌≡◌, ◌+◌, ◌<◌, ℕ, Option, Some, None, List, [], ◌∷◌, ◌++◌, length, map, IfSome, slice_get}
+use Rattle.std.specs.Option.{option_map, unwrap_or}
 
 -- a connection that was given back: the bytes left unread and those written, where they are told, and both counts of faults
 pub record Finished : Type 0 where
@@ -30,9 +30,7 @@ HasRoom coming finished number = IfSome coming (λ some. IfSome finished (λ don
 
 -- the connections told for the door at this place; none past the end of the list
 abbrev pub for_place : List (List (List ℕ)) → ℕ → List (List ℕ)
-for_place [] i = []
-for_place (first ∷ rest) 0 = first
-for_place (first ∷ rest) (suc i) = for_place rest i
+for_place told i = unwrap_or (slice_get told i) []
 
 -- a door that was just opened with these connections
 pub record IsOpenedWith (connections : List (List ℕ)) (coming : Option (List (List ℕ))) (finished : Option (List Finished)) (number : Option ℕ) : Type 0 where

@@ -64,7 +64,12 @@ pub trait Doors {
 
     /// Opens so many doors at an address, which a host's name or an IP address and a port make up.
     /// While they are open, nothing is said of what the whole tells to come or to have finished.
-    fn open(&mut self, alloc: Global, address: &str, count: u32) -> Result<Vec<Self::Door>, EdgeFault>
+    fn open(
+        &mut self,
+        alloc: Global,
+        address: &str,
+        count: u32,
+    ) -> Result<Vec<Self::Door>, EdgeFault>
         ensures count { IfOk result (λ doors. length doors.items ≡ count) }
         ensures fresh { IfOk result (λ doors. All (λ d. Self.Door.faults d ≡ 0) doors.items) }
         ensures opened { IfOk result (λ doors. IfSome (coming self.old) (λ told. (i : ℕ) → IfSome (slice_get doors.items i) (λ d. IsOpenedWith (for_place told i) (Self.Door.coming d) (Self.Door.finished d) (Self.Door.number d)))) }
@@ -79,4 +84,84 @@ pub trait Doors {
         ensures finished { IsToldOfEach (map (λ d. Self.Door.finished d) doors.items) (finished self.new) }
         ensures asked { asked self.new ≡ asked self.old }
         ensures faults { faults self.new ≡ min (faults self.old + sum_by (λ d. Self.Door.faults d) doors.items) (2 ^ 64 - 1) };
+}
+
+/// The door of a program with no doors: nothing comes, and each call that can fail does.
+#[derive(Drop)]
+pub struct NoDoor {
+    failed: u64,
+}
+
+impl Door for NoDoor {
+    type In = NoLink;
+
+    type Out = NoLink;
+
+    ghost coming = { λ _. None };
+
+    ghost finished = { λ _. None };
+
+    ghost number = { λ _. None };
+
+    ghost faults = { λ d. d.failed };
+
+    fn accept(&mut self) -> Result<Option<(NoLink, NoLink)>, Failed>
+        ensures fails { IsErr result }
+        ensures cause { Counted (⟦<NoDoor as Door>⟧.faults self.old) (⟦<NoDoor as Door>⟧.faults self.new) true }
+    {
+        self.failed = self.failed.saturating_add(1);
+        Err(Failed)
+    }
+
+    fn finish(&mut self, _input: NoLink, _output: NoLink) {}
+}
+
+/// The doors of a program that takes no connections: opening them fails.
+#[derive(Drop)]
+pub struct NoDoors {
+    failed: u64,
+}
+
+impl NoDoors {
+    /// Doors whose count is 0.
+    pub fn new() -> NoDoors
+        ensures faults { ⟦<NoDoors as Doors>⟧.faults result ≡ 0 }
+    {
+        NoDoors { failed: 0 }
+    }
+}
+
+impl Doors for NoDoors {
+    type Door = NoDoor;
+
+    ghost coming = { λ _. None };
+
+    ghost finished = { λ _. None };
+
+    ghost asked = { λ _. None };
+
+    ghost faults = { λ d. d.failed };
+
+    fn open(
+        &mut self,
+        _alloc: Global,
+        _address: &str,
+        _count: u32,
+    ) -> Result<Vec<NoDoor>, EdgeFault>
+        ensures fails { result ≡ Err EdgeFault.Failed }
+        ensures cause { Counted (⟦<NoDoors as Doors>⟧.faults self.old) (⟦<NoDoors as Doors>⟧.faults self.new) true }
+    {
+        self.failed = self.failed.saturating_add(1);
+        Err(EdgeFault::Failed)
+    }
+
+    fn close(&mut self, doors: Vec<NoDoor>)
+        ensures faults { ⟦<NoDoors as Doors>⟧.faults self.new ≡ min (⟦<NoDoors as Doors>⟧.faults self.old + sum_by (λ d. ⟦<NoDoor as Door>⟧.faults d) doors.items) (2 ^ 64 - 1) }
+    {
+        let mut all = self.failed;
+        for door in &doors {
+            all = all.saturating_add(door.failed);
+        }
+        self.failed = all;
+    }
 }
