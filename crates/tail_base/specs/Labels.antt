@@ -37,13 +37,17 @@ squeezed in_run (b ∷ bs) =
     else if in_run then squeezed true bs
     else 45 ∷ squeezed true bs
 
+-- the bytes without the hyphens at their start
+abbrev pub trimmed_start : List ℕ → List ℕ
+trimmed_start bytes = drop (prefix_len is_hyphen bytes) bytes
+
 -- the bytes without the hyphens at their end
 abbrev pub trimmed_end : List ℕ → List ℕ
 trimmed_end bytes = take (length bytes - suffix_len is_hyphen bytes) bytes
 
 -- the bytes without the hyphens at either end
 abbrev pub trimmed : List ℕ → List ℕ
-trimmed bytes = trimmed_end (drop (prefix_len is_hyphen bytes) bytes)
+trimmed bytes = trimmed_end (trimmed_start bytes)
 
 -- a machine with no name is `node`
 abbrev pub or_node : List ℕ → List ℕ

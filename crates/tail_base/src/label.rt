@@ -1,10 +1,11 @@
 //! DNS labels.
 ghost use Rattle.std.specs.Prelude.{◌≡◌, true, IfOk};
 ghost use Rattle.std.specs.List.{list_all};
-ghost use Rattle.tail_base.specs.Labels.{has_good_ends, has_label_length, is_label, is_label_byte, label_of};
+ghost use Rattle.tail_base.specs.Labels.{has_good_ends, has_label_length, is_label, is_label_byte, label_of, label_of_host, numbered_label};
 
 use crate::ascii::is_alnum;
 use crate::memory::{Duplicate, NoMemory};
+use crate::naming::{cut, or_node, squeezed, trimmed, trimmed_end};
 use crate::text::Text;
 use std::alloc::Global;
 use std::marker::Model;
@@ -63,6 +64,31 @@ impl Label {
         Ok(Some(Label {
             text: Text::from_ascii(alloc, text)?,
         }))
+    }
+
+    /// The label that a host name gives, which needn't be a label itself: in lower case, with one
+    /// hyphen for each run of bytes other than letters and digits, cut to 63 bytes, without hyphens
+    /// at its ends, and `node` where nothing is left.
+    pub fn of_host(alloc: Global, host: &[u8]) -> Result<Label, NoMemory>
+        ensures value { IfOk result (λ label. label ≡ label_of_host host.now) }
+    {
+        let text = squeezed(alloc, host)?;
+        let name = or_node(trimmed(cut(text.as_slice(), 63)));
+        Ok(Label {
+            text: Text::from_ascii(alloc, name)?,
+        })
+    }
+
+    /// The label with a hyphen and a number behind it, cut so that they fit in 63 bytes, with no
+    /// hyphen at the cut end.
+    pub fn numbered(&self, alloc: Global, n: u32) -> Result<Label, NoMemory>
+        ensures value { IfOk result (λ label. label ≡ numbered_label self.now n) }
+    {
+        let ending = Text::from_string(format!(in alloc; "-{n}")?);
+        let front = trimmed_end(cut(self.as_slice(), 63 - ending.len()));
+        let mut text = Text::from_ascii(alloc, front)?;
+        text.push(ending.as_str())?;
+        Ok(Label { text })
     }
 
     pub fn as_str(&self) -> &str

@@ -12,6 +12,7 @@ mod label;
 mod login;
 mod memory;
 mod moment;
+mod naming;
 mod prefix;
 mod tag;
 mod text;

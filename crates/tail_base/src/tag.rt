@@ -1,6 +1,7 @@
 //! Tags.
 ghost use Rattle.std.specs.Prelude.{◌≡◌, true, IfOk};
-ghost use Rattle.tail_base.specs.Tags.{is_tag};
+ghost use Rattle.std.specs.List.{list_all};
+ghost use Rattle.tail_base.specs.Tags.{is_letter, is_tag, is_tag_byte, is_tag_name, tag_of};
 
 use crate::memory::{Duplicate, NoMemory};
 use crate::text::Text;
@@ -25,7 +26,53 @@ impl Model for Tag {
     ghost invariant = { λ a. is_tag a.text ≡ true };
 }
 
+fn is_letter(b: u8) -> bool
+    ensures value { result ≡ is_letter b }
+{
+    b.is_ascii_alphabetic()
+}
+
+fn is_tag_byte(b: u8) -> bool
+    ensures value { result ≡ is_tag_byte b }
+{
+    is_letter(b) || b.is_ascii_digit() || b == b'-'
+}
+
+fn has_tag_bytes(text: &[u8]) -> bool
+    ensures value { result ≡ list_all is_tag_byte text.now }
+{
+    text.iter().all(|b| is_tag_byte(*b))
+}
+
+fn is_tag_name(text: &[u8]) -> bool
+    ensures value { result ≡ is_tag_name text.now }
+{
+    match text {
+        [first, rest @ ..] => is_letter(*first) && rest.len() <= 62 && has_tag_bytes(rest),
+        [] => false,
+    }
+}
+
+fn is_tag(text: &[u8]) -> bool
+    ensures value { result ≡ is_tag text.now }
+{
+    text.starts_with(b"tag:") && is_tag_name(&text[4..])
+}
+
 impl Tag {
+    /// The tag that a text is, if it is one.
+    #[tactic(auto, using(crate::proofs::TagLemmas::tag_ascii))]
+    pub fn read(alloc: Global, text: &[u8]) -> Result<Option<Tag>, NoMemory>
+        ensures value { IfOk result (λ tag. tag ≡ tag_of text.now) }
+    {
+        if !is_tag(text) {
+            return Ok(None);
+        }
+        Ok(Some(Tag {
+            text: Text::from_ascii(alloc, text)?,
+        }))
+    }
+
     pub fn as_str(&self) -> &str
         ensures value { result.now ≡ self.now }
         ensures tag { is_tag self.now ≡ true }
