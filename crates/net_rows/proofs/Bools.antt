@@ -2,6 +2,7 @@
 use Rattle.std.proofs.Common.{◌≡◌, ◌<◌, ◌≤◌, ℕ, Bool, true, false, ◌⊎◌, inl, inr, sym, ◌∙◌, ap, refl, arith, nat_lt, nat_le, ◌&&◌, not, List}
 use Rattle.std.specs.Prelude.{Option, Some, None}
 use Rattle.std.specs.Option.{option_or}
+use Rattle.std.specs.Bool.{beq}
 use Rattle.std.specs.Str.{bytes_eq}
 use Rattle.std.proofs.lemmas.Slice.Eq.{bytes_eq-Decides}
 
@@ -56,3 +57,40 @@ or_none (Some x) b h = absurd (cc)
 
 pub none_or : {T : Type 0} (a b : Option T) → a ≡ None → b ≡ None → option_or a b ≡ None
 none_or a b p q = rw (p, q) refl
+
+-- each side of longer conjunctions
+pub all3 : (a b c : Bool) → (a && b && c) ≡ true → (a ≡ true) × (b ≡ true) × (c ≡ true)
+all3 a b c h = let h1 = both (a && b) c h in let h2 = both a b h1.0 in (h2.0, h2.1, h1.1)
+
+pub all4 : (a b c d : Bool) → (a && b && c && d) ≡ true → (a ≡ true) × (b ≡ true) × (c ≡ true) × (d ≡ true)
+all4 a b c d h = let h1 = both (a && b && c) d h in let h2 = all3 a b c h1.0 in (h2.0, h2.1, h2.2, h1.1)
+
+pub all5 : (a b c d e : Bool) → (a && b && c && d && e) ≡ true → (a ≡ true) × (b ≡ true) × (c ≡ true) × (d ≡ true) × (e ≡ true)
+all5 a b c d e h = let h1 = both (a && b && c && d) e h in let h2 = all4 a b c d h1.0 in (h2.0, h2.1, h2.2, h2.3, h1.1)
+
+pub all6 : (a b c d e f : Bool) → (a && b && c && d && e && f) ≡ true → (a ≡ true) × (b ≡ true) × (c ≡ true) × (d ≡ true) × (e ≡ true) × (f ≡ true)
+all6 a b c d e f h = let h1 = both (a && b && c && d && e) f h in let h2 = all5 a b c d e h1.0 in (h2.0, h2.1, h2.2, h2.3, h2.4, h1.1)
+
+pub and3 : (a b c : Bool) → a ≡ true → b ≡ true → c ≡ true → (a && b && c) ≡ true
+and3 a b c p q r = rw (p, q, r) refl
+
+pub and4 : (a b c d : Bool) → a ≡ true → b ≡ true → c ≡ true → d ≡ true → (a && b && c && d) ≡ true
+and4 a b c d p q r s = rw (p, q, r, s) refl
+
+pub and5 : (a b c d e : Bool) → a ≡ true → b ≡ true → c ≡ true → d ≡ true → e ≡ true → (a && b && c && d && e) ≡ true
+and5 a b c d e p q r s t = rw (p, q, r, s, t) refl
+
+pub and6 : (a b c d e f : Bool) → a ≡ true → b ≡ true → c ≡ true → d ≡ true → e ≡ true → f ≡ true → (a && b && c && d && e && f) ≡ true
+and6 a b c d e f p q r s t u = rw (p, q, r, s, t, u) refl
+
+pub beq_of : (a b : Bool) → beq a b ≡ true → a ≡ b
+beq_of true true h = refl
+beq_of true false h = absurd (cc)
+beq_of false true h = absurd (cc)
+beq_of false false h = refl
+
+pub beq_is : (a b : Bool) → a ≡ b → beq a b ≡ true
+beq_is true true h = refl
+beq_is true false h = absurd (cc)
+beq_is false true h = absurd (cc)
+beq_is false false h = refl

@@ -5,5 +5,7 @@ pub mod HeldLemmas
 pub mod Empty
 pub mod PutLemmas
 pub mod Scan
+pub mod Stands
 pub mod SoundPut
+pub mod SoundRows
 pub mod Sounds
