@@ -1,4 +1,5 @@
 pub mod Members
+pub mod TableLemmas
 pub mod PrefixLemmas
 pub mod SearchLemmas
 pub mod AddressLemmas

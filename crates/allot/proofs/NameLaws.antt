@@ -6,6 +6,8 @@ use Rattle.std.specs.Set.{is_member}
 use Rattle.std.specs.Str.{bytes_eq}
 use Rattle.std.proofs.lemmas.Slice.Eq.{bytes_eq-Decides}
 use Rattle.tail_base.specs.Labels.{is_label, label_of_host, numbered_label}
+use Rattle.tail_base.proofs.NumberLemmas.{numbered_label-injective, numbered_is_label}
+use Rattle.tail_base.proofs.HostLemmas.{label_of_host_is_label}
 use Rattle.net_rows.specs.Limits.{machine_limit}
 use Rattle.net_rows.specs.declared.machine.Machine.{Machine}
 use Rattle.allot.specs.Addresses.{least_from}
@@ -17,6 +19,14 @@ use Rattle.allot.proofs.Pigeonhole.{AreApart, pigeonhole, bytes_eq_equiv}
 -- whether no machine has the label with this number
 abbrev pub is_free_number : List Machine → List ℕ → ℕ → Bool
 is_free_number machines base n = not (has_name machines (numbered_label base n))
+
+pub is_free_number-is : (machines : List Machine) (base name : List ℕ) (n : ℕ) (answer value : Bool) → name ≡ numbered_label base n
+    → answer ≡ has_name machines name → answer ≡ value → is_free_number machines base n ≡ not value
+is_free_number-is machines base name n answer value is has e = ap (λ b. not b) (ap (has_name machines) (sym is) ∙ (sym has ∙ e))
+
+pub found_name : (machines : List Machine) (base name : List ℕ) (n : ℕ) → name ≡ numbered_label base n
+    → least_from (is_free_number machines base) (length machines + 1) 1 ≡ Some n → name ≡ numbered_label base (free_number machines base)
+found_name machines base name n is h = is ∙ ap (λ o. numbered_label base (unwrap_or o 0)) (sym h)
 
 -- the names of the machines
 names_of : List Machine → List (List ℕ)
@@ -39,7 +49,7 @@ length_of_names (m ∷ ms) = ap suc (length_of_names ms)
 
 -- labels of different numbers differ
 pub numbers_apart : (base : List ℕ) → AreApart (numbered_label base) (2 ^ 32)
-numbers_apart base = ?
+numbers_apart base = record { apart = numbered_label-injective base }
 
 -- a number is found
 pub number_found : (machines : List Machine) (base : List ℕ) → length machines ≤ machine_limit
@@ -47,9 +57,9 @@ pub number_found : (machines : List Machine) (base : List ℕ) → length machin
 number_found machines base few none =
     let taken : (k : ℕ) → 1 ≤ k → k < 1 + (length (names_of machines) + 1) → is_member bytes_eq (names_of machines) (numbered_label base k) ≡ true =
     λ (k : ℕ) (low : 1 ≤ k) (high : k < 1 + (length (names_of machines) + 1)).
-        let fails : is_free_number machines base k ≡ false =
-        least_from-none (is_free_number machines base) (length machines + 1) 1 none k low (omega (arith, length_of_names machines)) in
-        member_of_names machines (numbered_label base k) ∙ false_not _ fails in
+    let fails : is_free_number machines base k ≡ false =
+    least_from-none (is_free_number machines base) (length machines + 1) 1 none k low (omega (arith, length_of_names machines)) in
+    member_of_names machines (numbered_label base k) ∙ false_not _ fails in
     pigeonhole (numbered_label base) (names_of machines) (2 ^ 32) 1 (numbers_apart base) (omega (arith, length_of_names machines)) taken
 
 -- the number that is found, and what is known of it
@@ -101,9 +111,20 @@ pub name_fresh : (machines : List Machine) (host : List ℕ) → length machines
     → (m : Machine) → Contains machines m → m.name ≢ free_name machines host
 name_fresh machines host few = not_named machines (free_name machines host) (label_untaken machines (label_of_host host) few)
 
+-- a label with a number is a label
+pub free_label_is_label : (machines : List Machine) (base : List ℕ) → length machines ≤ machine_limit → is_label base ≡ true → is_label (free_label machines base) ≡ true
+free_label_is_label machines base few label =
+    elim (truth (has_name machines base)) [
+      | inl taken ↦
+          let high : free_number machines base < length machines + 2 = (number_free machines base few).high in
+          let numbered : is_label (numbered_label base (free_number machines base)) ≡ true = numbered_is_label base (free_number machines base) (omega arith) label in
+          rw taken numbered
+      | inr free ↦ rw free label
+    ]
+
 -- the name that is given is a label
 pub name_is_label : (machines : List Machine) (host : List ℕ) → length machines ≤ machine_limit → is_label (free_name machines host) ≡ true
-name_is_label machines host few = ?
+name_is_label machines host few = free_label_is_label machines (label_of_host host) few (label_of_host_is_label host)
 
 -- where the bare name is free, it is given
 pub name_bare : (machines : List Machine) (host : List ℕ) → has_name machines (label_of_host host) ≡ false → free_name machines host ≡ label_of_host host

@@ -2,5 +2,7 @@
 #![tactic(auto)]
 
 mod addresses;
+mod names;
 
 pub use addresses::{least_address, least_free};
+pub use names::free_name;

@@ -2,7 +2,8 @@
 ghost use Rattle.std.specs.Prelude.{◌≡◌, ◌≤◌, ℕ, Option, None, IfOk, IfErr, IfSome, OnOk, OnErr, IsErrOf};
 ghost use Rattle.std.specs.Option.{option_map};
 ghost use Rattle.io_edge.specs.Edge.{Rose, IsWhereTold, StillTells};
-ghost use Rattle.net_rows.specs.Rows.{Rows, after};
+ghost use Rattle.net_rows.specs.declared.rows.Rows.{Rows};
+ghost use Rattle.net_rows.specs.Rows.{after};
 ghost use Rattle.net_rows.specs.Damage.{damage};
 ghost use Rattle.net_rows.specs.declared.change.Kind.{Kind};
 

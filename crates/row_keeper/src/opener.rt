@@ -2,7 +2,7 @@
 ghost use Rattle.std.specs.Prelude.{◌≡◌, ◌≤◌, ◌+◌, ◌-◌, ◌^◌, ℕ, List, Option, Some, min, IfOk, IfSome, OnErr, IsErrOf};
 ghost use Rattle.io_edge.specs.Edge.{Rose, StillTells};
 ghost use Rattle.io_edge.specs.Asked.{IsAsked};
-ghost use Rattle.net_rows.specs.Rows.{Rows};
+ghost use Rattle.net_rows.specs.declared.rows.Rows.{Rows};
 
 use crate::keeper::Keeper;
 use io_edge::EdgeFault;
