@@ -1,9 +1,8 @@
 //! Where bytes come from.
-ghost use Rattle.std.specs.Prelude.{◌≡◌, ◌≤◌, ◌<◌, ℕ, Option, Some, None, List, [], length, take, drop, IfOk, IfSome, OnErr, is_err};
+ghost use Rattle.std.specs.Prelude.{◌≡◌, ◌≤◌, ◌<◌, ℕ, Option, Some, List, [], length, take, drop, IfOk, IfSome, OnErr, is_err};
 ghost use Rattle.io_edge.specs.Edge.{Counted, and_then_left, IsWhereTold};
 
 use crate::{Failed, Faults};
-use std::io::Read;
 use tail_base::{Bytes, Items};
 
 /// Where bytes come from, as a connection or standard input.
@@ -60,34 +59,5 @@ impl Source for MemorySource {
         into[..n].copy_from_slice(&self.bytes.as_slice()[self.at..self.at + n]);
         self.at += n;
         Ok(n)
-    }
-}
-
-/// Reads what a reader gives. It doesn't tell what is left.
-#[derive(Drop)]
-pub struct ReadSource<R> {
-    reader: R,
-    count: u64,
-}
-
-impl<R> ReadSource<R> {
-    pub fn new(reader: R) -> ReadSource<R> {
-        ReadSource { reader, count: 0 }
-    }
-}
-
-impl<R: Read> Source for ReadSource<R> {
-    ghost left = { λ _. None };
-
-    ghost read_faults = { λ s. s.count };
-
-    fn read(&mut self, into: &mut [u8]) -> Result<usize, Failed> {
-        match self.reader.read(into) {
-            Ok(n) => Ok(n),
-            Err(_) => {
-                self.count = self.count.saturating_add(1);
-                Err(Failed)
-            }
-        }
     }
 }

@@ -1,0 +1,130 @@
+-- What is known of an address that is allotted.
+use Rattle.std.proofs.Common.{◌≡◌, ◌≢◌, ◌<◌, ◌≤◌, ◌+◌, ◌-◌, ◌*◌, ◌/◌, ◌%◌, ◌^◌, ℕ, Bool, true, false, not, ◌&&◌, ◌||◌, ◌==◌, List, Option, Some, None, nat_le, nat_lt, arith, sym, ap, ◌∙◌, refl}
+use Rattle.std.specs.Prelude.{Contains}
+use Rattle.std.specs.Bool.{beq}
+use Rattle.std.specs.Cmp.{booleans_Decides}
+use Rattle.std.proofs.lemmas.Bool.{leb-true, ltb-true}
+use Rattle.std.proofs.lemmas.Bool.Decides.{nat_tests}
+use Rattle.std.proofs.Math.Nat.{mul_assoc}
+use Rattle.std.proofs.lemmas.Nat.{pow-add}
+use Rattle.std.proofs.Math.Pow.{pow_pos}
+use Rattle.tail_base.specs.Bits.{Address, Block, IsBlock, size_of, family_bits, family_size}
+use Rattle.net_rows.specs.Damage.{address_eq}
+use Rattle.net_rows.specs.Limits.{is_inside}
+use Rattle.net_rows.specs.Settings.{is_within}
+use Rattle.net_rows.specs.declared.machine.Machine.{Machine}
+use Rattle.allot.specs.Addresses.{is_reserved, has_address, is_free, address_at, free_address}
+use Rattle.allot.proofs.AddressLemmas.{free_at, free_bits}
+use Rattle.allot.proofs.PrefixLemmas.{aligned_fits}
+use Rattle.allot.proofs.SearchLemmas.{least_from-passes, least_from-within, least_from-least, least_from-none}
+use Rattle.allot.proofs.Members.{both, neither, not_true, list_any_member, mapped, mapped_none}
+
+-- The address is in the prefix, is neither its first nor its last, isn't reserved, and no machine has it.
+pub record IsFree (p : Block) (machines : List Machine) (a : Address) : Type 0 where
+  pub family : a.v6 ≡ p.base.v6
+  pub after_first : p.base.bits < a.bits
+  pub before_last : a.bits + 1 < p.base.bits + size_of p
+  pub unreserved : is_reserved a ≡ false
+  pub v4_fresh : (m : Machine) → Contains machines m → m.v4 ≢ a
+  pub v6_fresh : (m : Machine) → Contains machines m → m.v6 ≢ a
+
+-- an address is equal to itself
+pub address_eq-same : (a : Address) → address_eq a a ≡ true
+address_eq-same a =
+    let family : beq a.v6 a.v6 ≡ true = elim a.v6 as (λ v. beq v v ≡ true) [ true ↦ refl | false ↦ refl ] in
+    let bits : (a.bits == a.bits) ≡ true = grind arith in
+    rw (family, bits) refl
+
+differs_by_test : (a b : Address) → address_eq a b ≡ false → a ≢ b
+differs_by_test a b fails same =
+    let e : address_eq b b ≡ false = rw same at fails in
+    let bad : true ≡ false = sym (address_eq-same b) ∙ e in cc
+
+-- the four parts of the test
+parts : (a b c d : Bool) → (not a && not b && not c && not d) ≡ true → (a ≡ false) × (b ≡ false) × (c ≡ false) × (d ≡ false)
+parts false false false false h = (refl, refl, refl, refl)
+parts true b c d h = absurd (cc)
+parts false true c d h = absurd (cc)
+parts false false true d h = absurd (cc)
+parts false false false true h = absurd (cc)
+
+free_is : (p : Block) (machines : List Machine) (a : Address) → a.v6 ≡ p.base.v6 → p.base.bits ≤ a.bits → a.bits < p.base.bits + size_of p
+    → is_free p machines a ≡ true → IsFree p machines a
+free_is p machines a family low high free =
+    let four = parts _ _ _ _ free in
+    let not_first : (a.bits == p.base.bits) ≡ false = four.0 in
+    let not_last : (a.bits + 1 == p.base.bits + size_of p) ≡ false = four.1 in
+    let nobody : (m : Machine) → Contains machines m → (address_eq m.v4 a ≡ false) × (address_eq m.v6 a ≡ false) =
+    λ (m : Machine) (inside : Contains machines m). neither _ _ (list_any_member _ machines four.3 m inside) in
+    record {
+      family = family;
+      after_first = grind (arith, nat_tests);
+      before_last = grind (arith, nat_tests);
+      unreserved = four.2;
+      v4_fresh = λ m inside. differs_by_test m.v4 a (nobody m inside).0;
+      v6_fresh = λ m inside. differs_by_test m.v6 a (nobody m inside).1;
+    }
+
+-- the address that is found is free
+pub address_free : (p : Block) (machines : List Machine) (a : Address) → free_address p machines ≡ Some a → IsFree p machines a
+address_free p machines a h =
+    let got = mapped (address_at p) (free_bits p machines) a h in
+    let passes : free_at p machines got.0 ≡ true = least_from-passes (free_at p machines) (size_of p) p.base.bits got.0 got.1 in
+    let within : (p.base.bits ≤ got.0) × (got.0 < p.base.bits + size_of p) = least_from-within (free_at p machines) (size_of p) p.base.bits got.0 got.1 in
+    let found = free_is p machines (address_at p got.0) refl within.0 within.1 passes in
+    rw got.2 at found
+
+-- no address of a smaller number in the prefix is free
+pub address_least : (p : Block) (machines : List Machine) (a : Address) → free_address p machines ≡ Some a
+    → (n : ℕ) → p.base.bits ≤ n → n < a.bits → is_free p machines (address_at p n) ≡ false
+address_least p machines a h n low high =
+    let got = mapped (address_at p) (free_bits p machines) a h in
+    let bits : got.0 ≡ a.bits = ap (λ (x : Address). x.bits) got.2 in
+    least_from-least (free_at p machines) (size_of p) p.base.bits got.0 got.1 n low (omega arith)
+
+-- where none is found, no address of the prefix is free
+pub address_none : (p : Block) (machines : List Machine) → free_address p machines ≡ None
+    → (n : ℕ) → p.base.bits ≤ n → n < p.base.bits + size_of p → is_free p machines (address_at p n) ≡ false
+address_none p machines h n low high =
+    least_from-none (free_at p machines) (size_of p) p.base.bits (mapped_none (address_at p) (free_bits p machines) h) n low high
+
+-- the multiple of s after b
+next_multiple : (b s q r : ℕ) → 0 < s → b % s ≡ 0 → s ≡ q * r → b + s ≡ q * (r * (b / s + 1))
+next_multiple b s q r pos aligned is =
+    let whole : s * (b / s) ≡ b = omega arith in
+    let more : s * (b / s + 1) ≡ b + s = grind arith in
+    sym more ∙ ap (λ k. k * (b / s + 1)) is ∙ mul_assoc q r (b / s + 1)
+
+-- a prefix in another ends where that ends, or before
+within_ends : (outer p : Block) → IsBlock outer → IsBlock p → outer.base.v6 ≡ p.base.v6 → outer.len ≤ p.len
+    → p.base.bits < outer.base.bits + size_of outer → p.base.bits + size_of p ≤ outer.base.bits + size_of outer
+within_ends outer p o b family len below =
+    let width : family_bits outer.base.v6 ≡ family_bits p.base.v6 = ap family_bits family in
+    let cut : (family_bits p.base.v6 - p.len) + (p.len - outer.len) ≡ family_bits outer.base.v6 - outer.len = omega (arith, b.fits) in
+    let pieces : size_of outer ≡ size_of p * 2 ^ (p.len - outer.len) = sym (ap (λ k. 2 ^ k) cut) ∙ pow-add 2 (family_bits p.base.v6 - p.len) (p.len - outer.len) in
+    let end : outer.base.bits + size_of outer ≡ size_of p * (2 ^ (p.len - outer.len) * (outer.base.bits / size_of outer + 1)) =
+    next_multiple outer.base.bits (size_of outer) (size_of p) _ (pow_pos _) o.aligned pieces in
+    rw end (aligned_fits p.base.bits (size_of p) _ (pow_pos _) b.aligned (rw end at below))
+
+inside_is : (outer : Block) (a : Address) → outer.base.v6 ≡ a.v6 → outer.base.bits ≤ a.bits → a.bits < outer.base.bits + size_of outer → is_inside outer a ≡ true
+inside_is outer a family low high =
+    let one : beq outer.base.v6 a.v6 ≡ true = (booleans_Decides outer.base.v6 a.v6).1 family in
+    let two : nat_le outer.base.bits a.bits ≡ true = grind (arith, nat_tests) in
+    let three : nat_lt a.bits (outer.base.bits + size_of outer) ≡ true = grind (arith, nat_tests) in
+    rw (one, two, three) refl
+
+-- the address that is found in a prefix lies in the prefix around it
+pub address_inside : (outer p : Block) (machines : List Machine) (a : Address) → IsBlock outer → IsBlock p → is_within outer p ≡ true
+    → free_address p machines ≡ Some a → is_inside outer a ≡ true
+address_inside outer p machines a o b within h =
+    let free = address_free p machines a h in
+    let two = both (nat_le outer.len p.len) _ within in
+    let rest = both (beq outer.base.v6 p.base.v6 && nat_le outer.base.bits p.base.bits) (nat_lt p.base.bits (outer.base.bits + size_of outer)) two.1 in
+    let first = both (beq outer.base.v6 p.base.v6) (nat_le outer.base.bits p.base.bits) rest.0 in
+    let family : outer.base.v6 ≡ p.base.v6 = (booleans_Decides outer.base.v6 p.base.v6).0 first.0 in
+    let len : outer.len ≤ p.len = leb-true _ _ two.0 in
+    let low : outer.base.bits ≤ p.base.bits = leb-true _ _ first.1 in
+    let below : p.base.bits < outer.base.bits + size_of outer = ltb-true _ _ rest.1 in
+    let end : p.base.bits + size_of p ≤ outer.base.bits + size_of outer = within_ends outer p o b family len below in
+    let high : a.bits < outer.base.bits + size_of outer = omega (arith, free.before_last) in
+    inside_is outer a (family ∙ sym free.family) (omega (arith, free.after_first)) high

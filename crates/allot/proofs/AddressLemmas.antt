@@ -1,0 +1,42 @@
+-- The search for a free address.
+use Rattle.std.proofs.Common.{◌≡◌, ◌+◌, ℕ, Bool, true, false, not, ◌&&◌, ◌==◌, List, Option, Some, None, sym, ap, ◌∙◌, refl, arith}
+use Rattle.std.specs.Option.{option_map}
+use Rattle.tail_base.specs.Bits.{Address, Block, size_of}
+use Rattle.net_rows.specs.declared.machine.Machine.{Machine}
+use Rattle.allot.specs.Addresses.{is_free, address_at, least_from, free_address}
+
+-- whether the number's address in the prefix is free
+abbrev pub free_at : Block → List Machine → ℕ → Bool
+free_at p machines n = is_free p machines (address_at p n)
+
+-- the number of the least address that is free
+abbrev pub free_bits : Block → List Machine → Option ℕ
+free_bits p machines = least_from (free_at p machines) (size_of p) p.base.bits
+
+-- a conjunction whose second part is the negation of what holds
+and_not : (a b c d : Bool) → b ≡ true → (a && not b && c && d) ≡ false
+and_not true true c d h = refl
+and_not false true c d h = refl
+and_not a false c d h = absurd (cc)
+
+pub is_address_at : (p : Block) (base a : Address) (v6 : Bool) (n : ℕ) → base ≡ p.base → v6 ≡ base.v6 → a ≡ record { v6 = v6; bits = n } → a ≡ address_at p n
+is_address_at p base a v6 n b v is =
+    let family : v6 ≡ p.base.v6 = v ∙ ap (λ (x : Address). x.v6) b in
+    rw family at is
+
+pub free_at-is : (p : Block) (machines : List Machine) (a : Address) (n : ℕ) (answer value : Bool) → a ≡ address_at p n
+    → answer ≡ is_free p machines a → answer ≡ value → free_at p machines n ≡ value
+free_at-is p machines a n answer value is free e = ap (is_free p machines) (sym is) ∙ (sym free ∙ e)
+
+pub free_address-found : (p : Block) (machines : List Machine) (a : Address) (n : ℕ) → a ≡ address_at p n
+    → free_bits p machines ≡ Some n → Some a ≡ free_address p machines
+free_address-found p machines a n is h = ap Some is ∙ ap (option_map (address_at p)) (sym h)
+
+pub free_address-none : (p : Block) (machines : List Machine) → free_bits p machines ≡ None → None ≡ free_address p machines
+free_address-none p machines h = ap (option_map (address_at p)) (sym h)
+
+-- the last address of a prefix isn't free
+pub last_not_free : (p : Block) (machines : List Machine) (n : ℕ) → n + 1 ≡ p.base.bits + size_of p → free_at p machines n ≡ false
+last_not_free p machines n last =
+    let test : (n + 1 == p.base.bits + size_of p) ≡ true = grind arith in
+    and_not (not (n == p.base.bits)) (n + 1 == p.base.bits + size_of p) _ _ test

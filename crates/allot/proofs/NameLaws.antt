@@ -1,0 +1,136 @@
+-- What is known of a name that is given.
+use Rattle.std.proofs.Common.{◌≡◌, ◌≢◌, ◌<◌, ◌≤◌, ◌+◌, ◌^◌, ℕ, zero, suc, Bool, true, false, not, List, [], ◌∷◌, length, map, Option, Some, None, unwrap_or, ◌⊎◌, inl, inr, arith, sym, ap, ◌∙◌, refl, if◌then◌else◌}
+use Rattle.std.specs.Prelude.{Contains}
+use Rattle.std.specs.List.{list_any}
+use Rattle.std.specs.Set.{is_member}
+use Rattle.std.specs.Str.{bytes_eq}
+use Rattle.std.proofs.lemmas.Slice.Eq.{bytes_eq-Decides}
+use Rattle.tail_base.specs.Labels.{is_label, label_of_host, numbered_label}
+use Rattle.tail_base.proofs.NumberLemmas.{numbered_label-injective, numbered_is_label}
+use Rattle.tail_base.proofs.HostLemmas.{label_of_host_is_label}
+use Rattle.net_rows.specs.Limits.{machine_limit}
+use Rattle.net_rows.specs.declared.machine.Machine.{Machine}
+use Rattle.allot.specs.Addresses.{least_from}
+use Rattle.allot.specs.Names.{has_name, free_number, free_label, free_name}
+use Rattle.allot.proofs.SearchLemmas.{least_from-passes, least_from-within, least_from-least, least_from-none}
+use Rattle.allot.proofs.Members.{truth, not_true, list_any_member}
+use Rattle.allot.proofs.Pigeonhole.{AreApart, pigeonhole, bytes_eq_equiv}
+
+-- whether no machine has the label with this number
+abbrev pub is_free_number : List Machine → List ℕ → ℕ → Bool
+is_free_number machines base n = not (has_name machines (numbered_label base n))
+
+pub is_free_number-is : (machines : List Machine) (base name : List ℕ) (n : ℕ) (answer value : Bool) → name ≡ numbered_label base n
+    → answer ≡ has_name machines name → answer ≡ value → is_free_number machines base n ≡ not value
+is_free_number-is machines base name n answer value is has e = ap (λ b. not b) (ap (has_name machines) (sym is) ∙ (sym has ∙ e))
+
+pub found_name : (machines : List Machine) (base name : List ℕ) (n : ℕ) → name ≡ numbered_label base n
+    → least_from (is_free_number machines base) (length machines + 1) 1 ≡ Some n → name ≡ numbered_label base (free_number machines base)
+found_name machines base name n is h = is ∙ ap (λ o. numbered_label base (unwrap_or o 0)) (sym h)
+
+-- the names of the machines
+names_of : List Machine → List (List ℕ)
+names_of machines = map (λ m. m.name) machines
+
+false_not : (b : Bool) → not b ≡ false → b ≡ true
+false_not true h = refl
+false_not false h = absurd (cc)
+
+-- a machine has the name exactly where it is one of their names
+member_of_names : (machines : List Machine) (name : List ℕ) → is_member bytes_eq (names_of machines) name ≡ has_name machines name
+unfolding names_of
+member_of_names [] name = refl
+member_of_names (m ∷ ms) name = rw (bytes_eq_equiv.symm name m.name, member_of_names ms name) refl
+
+length_of_names : (machines : List Machine) → length (names_of machines) ≡ length machines
+unfolding names_of
+length_of_names [] = refl
+length_of_names (m ∷ ms) = ap suc (length_of_names ms)
+
+-- labels of different numbers differ
+pub numbers_apart : (base : List ℕ) → AreApart (numbered_label base) (2 ^ 32)
+numbers_apart base = record { apart = numbered_label-injective base }
+
+-- a number is found
+pub number_found : (machines : List Machine) (base : List ℕ) → length machines ≤ machine_limit
+    → least_from (is_free_number machines base) (length machines + 1) 1 ≡ None → ⊥
+number_found machines base few none =
+    let taken : (k : ℕ) → 1 ≤ k → k < 1 + (length (names_of machines) + 1) → is_member bytes_eq (names_of machines) (numbered_label base k) ≡ true =
+    λ (k : ℕ) (low : 1 ≤ k) (high : k < 1 + (length (names_of machines) + 1)).
+    let fails : is_free_number machines base k ≡ false =
+    least_from-none (is_free_number machines base) (length machines + 1) 1 none k low (omega (arith, length_of_names machines)) in
+    member_of_names machines (numbered_label base k) ∙ false_not _ fails in
+    pigeonhole (numbered_label base) (names_of machines) (2 ^ 32) 1 (numbers_apart base) (omega (arith, length_of_names machines)) taken
+
+-- the number that is found, and what is known of it
+pub record IsFreeNumber (machines : List Machine) (base : List ℕ) (n : ℕ) : Type 0 where
+  pub found : least_from (is_free_number machines base) (length machines + 1) 1 ≡ Some n
+  pub low : 1 ≤ n
+  pub high : n < length machines + 2
+  pub free : has_name machines (numbered_label base n) ≡ false
+  pub least : (k : ℕ) → 1 ≤ k → k < n → has_name machines (numbered_label base k) ≡ true
+
+found_number : (machines : List Machine) (base : List ℕ) (n : ℕ) → least_from (is_free_number machines base) (length machines + 1) 1 ≡ Some n
+    → IsFreeNumber machines base n
+found_number machines base n h =
+    let test = is_free_number machines base in
+    let within : (1 ≤ n) × (n < 1 + (length machines + 1)) = least_from-within test (length machines + 1) 1 n h in
+    record {
+      found = h;
+      low = within.0;
+      high = omega arith;
+      free = not_true _ (least_from-passes test (length machines + 1) 1 n h);
+      least = λ k low high. false_not _ (least_from-least test (length machines + 1) 1 n h k low high);
+    }
+
+some_number : (machines : List Machine) (base : List ℕ) → length machines ≤ machine_limit
+    → (found : Option ℕ) → found ≡ least_from (is_free_number machines base) (length machines + 1) 1 → IsFreeNumber machines base (unwrap_or found 0)
+some_number machines base few None is = absurd (number_found machines base few (sym is))
+some_number machines base few (Some n) is = found_number machines base n (sym is)
+
+-- the least free number is free, and each smaller one is taken
+pub number_free : (machines : List Machine) (base : List ℕ) → length machines ≤ machine_limit → IsFreeNumber machines base (free_number machines base)
+number_free machines base few = some_number machines base few _ refl
+
+not_named : (machines : List Machine) (name : List ℕ) → has_name machines name ≡ false → (m : Machine) → Contains machines m → m.name ≢ name
+not_named machines name none m inside same =
+    let differs : bytes_eq m.name name ≡ false = list_any_member (λ m. bytes_eq m.name name) machines none m inside in
+    let equal : bytes_eq m.name name ≡ true = (bytes_eq-Decides m.name name).1 same in
+    cc
+
+-- no machine has the label that is given
+pub label_untaken : (machines : List Machine) (base : List ℕ) → length machines ≤ machine_limit → has_name machines (free_label machines base) ≡ false
+label_untaken machines base few =
+    elim (truth (has_name machines base)) [
+      | inl taken ↦ rw taken (number_free machines base few).free
+      | inr free ↦ rw free free
+    ]
+
+-- no machine has the name that is given
+pub name_fresh : (machines : List Machine) (host : List ℕ) → length machines ≤ machine_limit
+    → (m : Machine) → Contains machines m → m.name ≢ free_name machines host
+name_fresh machines host few = not_named machines (free_name machines host) (label_untaken machines (label_of_host host) few)
+
+-- a label with a number is a label
+pub free_label_is_label : (machines : List Machine) (base : List ℕ) → length machines ≤ machine_limit → is_label base ≡ true → is_label (free_label machines base) ≡ true
+free_label_is_label machines base few label =
+    elim (truth (has_name machines base)) [
+      | inl taken ↦
+          let high : free_number machines base < length machines + 2 = (number_free machines base few).high in
+          let numbered : is_label (numbered_label base (free_number machines base)) ≡ true = numbered_is_label base (free_number machines base) (omega arith) label in
+          rw taken numbered
+      | inr free ↦ rw free label
+    ]
+
+-- the name that is given is a label
+pub name_is_label : (machines : List Machine) (host : List ℕ) → length machines ≤ machine_limit → is_label (free_name machines host) ≡ true
+name_is_label machines host few = free_label_is_label machines (label_of_host host) few (label_of_host_is_label host)
+
+-- where the bare name is free, it is given
+pub name_bare : (machines : List Machine) (host : List ℕ) → has_name machines (label_of_host host) ≡ false → free_name machines host ≡ label_of_host host
+name_bare machines host free = rw free refl
+
+-- else the name with the least number that is free is given
+pub name_numbered : (machines : List Machine) (host : List ℕ) → has_name machines (label_of_host host) ≡ true
+    → free_name machines host ≡ numbered_label (label_of_host host) (free_number machines (label_of_host host))
+name_numbered machines host taken = rw taken refl

@@ -1,0 +1,80 @@
+-- Of more values that differ than a list has, one isn't in the list.
+use Rattle.std.proofs.Common.{◌≡◌, ◌<◌, ◌≤◌, ◌+◌, ℕ, zero, suc, Bool, true, false, List, [], ◌∷◌, length, map, ◌⊎◌, inl, inr, arith, sym, ap, ◌∙◌, refl}
+use Rattle.std.specs.Cmp.{IsEquivalence}
+use Rattle.std.specs.List.{list_any, IsDistinct, AllByRecursion}
+use Rattle.std.specs.Set.{is_member}
+use Rattle.std.specs.Str.{bytes_eq}
+use Rattle.std.proofs.lemmas.Slice.Eq.{bytes_eq-Decides}
+use Rattle.std.proofs.lemmas.Map.Made.{length-le_from_is_member}
+use Rattle.allot.proofs.Members.{truth}
+use Rattle.allot.proofs.SearchLemmas.{equal_or_below}
+
+-- the values of so many numbers, from the first on
+abbrev pub values : (ℕ → List ℕ) → ℕ → ℕ → List (List ℕ)
+values f zero n = []
+values f (suc more) n = f n ∷ values f more (n + 1)
+
+length-values : (f : ℕ → List ℕ) (more n : ℕ) → length (values f more n) ≡ more
+length-values f zero n = refl
+length-values f (suc more) n = ap suc (length-values f more (n + 1))
+
+equal : (a b : List ℕ) → bytes_eq a b ≡ true → a ≡ b
+equal a b = (bytes_eq-Decides a b).0
+
+is_equal : (a b : List ℕ) → a ≡ b → bytes_eq a b ≡ true
+is_equal a b = (bytes_eq-Decides a b).1
+
+pub bytes_eq_equiv : IsEquivalence bytes_eq
+bytes_eq_equiv = record {
+  refl = λ x. is_equal x x refl;
+  symm = λ x y. elim (truth (bytes_eq x y)) [
+    | inl e ↦ e ∙ sym (is_equal y x (sym (equal x y e)))
+    | inr e ↦ elim (truth (bytes_eq y x)) [
+      | inl f ↦ let bad : true ≡ false = sym (is_equal x y (sym (equal y x f))) ∙ e in absurd (cc)
+      | inr f ↦ e ∙ sym f
+    ]
+  ];
+  congr = λ x y z e. ap (λ k. bytes_eq k z) (equal x y e);
+}
+
+-- The numbers give different values.
+pub record AreApart (f : ℕ → List ℕ) (end : ℕ) : Type 0 where
+  pub apart : (n m : ℕ) → n < end → m < end → f n ≡ f m → n ≡ m
+
+differs_from_later : (f : ℕ → List ℕ) (end : ℕ) → AreApart f end → (n : ℕ) → n < end → (more m : ℕ) → n < m → m + more ≤ end
+    → AllByRecursion (λ y. bytes_eq (f n) y ≡ false) (values f more m)
+differs_from_later f end a n small zero m lt fits = tt
+differs_from_later f end a n small (suc more) m lt fits = (
+  elim (truth (bytes_eq (f n) (f m))) [
+    | inl e ↦
+        let same : n ≡ m = a.apart n m small (omega arith) (equal (f n) (f m) e) in absurd (omega arith)
+    | inr e ↦ e
+  ],
+  differs_from_later f end a n small more (m + 1) (omega arith) (omega arith),
+)
+
+values_distinct : (f : ℕ → List ℕ) (end : ℕ) → AreApart f end → (more n : ℕ) → n + more ≤ end → IsDistinct bytes_eq (values f more n)
+unfolding IsDistinct
+values_distinct f end a zero n fits = tt
+values_distinct f end a (suc more) n fits = (
+  differs_from_later f end a n (omega arith) more (n + 1) (omega arith) (omega arith),
+  values_distinct f end a more (n + 1) (omega arith),
+)
+
+-- each value is in the list, if each number's is
+values_in : (f : ℕ → List ℕ) (held : List (List ℕ)) (more n : ℕ)
+    → ((k : ℕ) → n ≤ k → k < n + more → is_member bytes_eq held (f k) ≡ true)
+    → (q : List ℕ) → is_member bytes_eq (values f more n) q ≡ true → is_member bytes_eq held q ≡ true
+values_in f held zero n all q h = absurd (cc)
+values_in f held (suc more) n all q h =
+    elim (truth (bytes_eq q (f n))) [
+      | inl e ↦ let same : q ≡ f n = equal q (f n) e in rw same (all n (omega arith) (omega arith))
+      | inr e ↦ values_in f held more (n + 1) (λ k low high. all k (omega arith) (omega arith)) q (rw e at h)
+    ]
+
+pub pigeonhole : (f : ℕ → List ℕ) (held : List (List ℕ)) (end n : ℕ) → AreApart f end → n + (length held + 1) ≤ end
+    → ((k : ℕ) → n ≤ k → k < n + (length held + 1) → is_member bytes_eq held (f k) ≡ true) → ⊥
+pigeonhole f held end n a fits all =
+    let most : length (values f (length held + 1) n) ≤ length held =
+    length-le_from_is_member bytes_eq_equiv (values f (length held + 1) n) held (values_distinct f end a (length held + 1) n fits) (values_in f held (length held + 1) n all) in
+    omega (arith, length-values f (length held + 1) n)

@@ -1,0 +1,36 @@
+use Rattle.std.proofs.Common.{◌≡◌, ◌+◌, ◌<◌, ◌≤◌, ◌∙◌, ap, arith}
+use Rattle.std.proofs.Math.Pow.{pow_pos}
+use Rattle.tail_base.specs.Bits.{Address, size_of}
+use Rattle.allot.proofs.AddressLemmas.{free_at, free_bits, is_address_at, free_at-is, free_address-found, free_address-none, last_not_free}
+use Rattle.allot.proofs.SearchLemmas.{LeadsOn-found, LeadsOn-next, LeadsOn-end}
+use Rattle.allot.proofs.addresses.least_free.Goals as goal
+
+pub returns-then-is_free : goal.returns-then-is_free
+returns-then-is_free c =
+    let p = c.args.prefix.now in
+    let machines = c.args.machines.now in
+    let is = is_address_at p c.base.result c.new-addr.result c.is_v6-v6.result c.loop-bits.bits c.base.ensures.value c.is_v6-v6.ensures.value c.new-addr.ensures.value in
+    let passes = free_at-is p machines c.new-addr.result c.loop-bits.bits _ _ is c.is_free.ensures.value c.if-is_free.true in
+    let lt : c.loop-bits.bits < p.base.bits + size_of p = omega (arith, c.last_of-bits-end.ensures.value) in
+    record { value = free_address-found p machines c.new-addr.result c.loop-bits.bits is (LeadsOn-found (free_at p machines) _ _ _ c.loop-bits.invariant lt passes) }
+
+pub loop-bits-preserved : goal.loop-bits-preserved
+loop-bits-preserved c =
+    let p = c.args.prefix.now in
+    let machines = c.args.machines.now in
+    let is = is_address_at p c.base.result c.new-addr.result c.is_v6-v6.result c.loop-bits.bits c.base.ensures.value c.is_v6-v6.ensures.value c.new-addr.ensures.value in
+    let fails = free_at-is p machines c.new-addr.result c.loop-bits.bits _ _ is c.is_free.ensures.value c.if-is_free.false in
+    let lt : c.loop-bits.bits < p.base.bits + size_of p = omega (arith, c.last_of-bits-end.ensures.value) in
+    LeadsOn-next (free_at p machines) _ _ (free_bits p machines) c.loop-bits.invariant lt fails
+
+pub returns : goal.returns
+returns c =
+    let p = c.args.prefix.now in
+    let machines = c.args.machines.now in
+    let some : 0 < size_of p = pow_pos _ in
+    let first : c.bits-bits.result ≡ p.base.bits = c.bits-bits.ensures.value ∙ ap (λ (a : Address). a.bits) c.base-2.ensures.value in
+    let order : c.bits-bits.result ≤ c.last_of-bits-end.result = omega (arith, c.last_of-bits-end.ensures.value) in
+    let last : c.loop-bits.bits + 1 ≡ p.base.bits + size_of p = omega (arith, c.last_of-bits-end.ensures.value, c.loop-bits.auto.bits-end order) in
+    let next = LeadsOn-next (free_at p machines) _ _ (free_bits p machines) c.loop-bits.invariant (omega arith) (last_not_free p machines c.loop-bits.bits last) in
+    let none = LeadsOn-end (free_at p machines) _ (free_bits p machines) (rw last at next) in
+    record { value = free_address-none p machines none }

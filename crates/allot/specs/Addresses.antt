@@ -1,0 +1,42 @@
+-- Which address a new machine gets.
+use Rattle.std.specs.Prelude.{◌+◌, ℕ, zero, suc, Bool, List, Option, Some, None, if◌then◌else◌, nat_le, ◌&&◌, ◌||◌, ◌==◌, not}
+use Rattle.std.specs.List.{list_any}
+use Rattle.std.specs.Option.{option_map}
+use Rattle.tail_base.specs.Bits.{Address, Block, size_of}
+use Rattle.net_rows.specs.Damage.{address_eq}
+use Rattle.net_rows.specs.declared.machine.Machine.{Machine}
+use Rattle.net_rows.specs.declared.settings.SettingsFields.{SettingsFields}
+
+-- fd7a:115c:a1e0::53; 100.100.100.100, and 100.115.92.0 to 100.115.93.255
+abbrev pub is_reserved : Address → Bool
+is_reserved a =
+    if a.v6 then a.bits == 0xfd7a115ca1e000000000000000000053
+    else a.bits == 0x64646464 || (nat_le 0x64735c00 a.bits && nat_le a.bits 0x64735dff)
+
+-- a machine has the address
+abbrev pub has_address : List Machine → Address → Bool
+has_address machines a = list_any (λ m. address_eq m.v4 a || address_eq m.v6 a) machines
+
+-- The address is neither the first nor the last of the prefix, isn't reserved, and no machine has it.
+abbrev pub is_free : Block → List Machine → Address → Bool
+is_free p machines a =
+    not (a.bits == p.base.bits) && not (a.bits + 1 == p.base.bits + size_of p)
+    && not (is_reserved a) && not (has_address machines a)
+
+-- the least of so many numbers, from the first on, that passes the test
+unfoldable pub least_from : (ℕ → Bool) → ℕ → ℕ → Option ℕ
+least_from test zero n = None
+least_from test (suc more) n = if test n then Some n else least_from test more (n + 1)
+
+-- the address of this number in the prefix's family
+abbrev pub address_at : Block → ℕ → Address
+address_at p n = record { v6 = p.base.v6; bits = n }
+
+-- the least address of the prefix that is free
+abbrev pub free_address : Block → List Machine → Option Address
+free_address p machines =
+    option_map (address_at p) (least_from (λ n. is_free p machines (address_at p n)) (size_of p) p.base.bits)
+
+-- the prefix that is set for a family
+abbrev pub set_prefix : SettingsFields → Bool → Block
+set_prefix settings v6 = if v6 then settings.prefix_v6 else settings.prefix_v4

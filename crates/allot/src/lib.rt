@@ -1,0 +1,8 @@
+//! Addresses and names for new machines.
+#![tactic(auto)]
+
+mod addresses;
+mod names;
+
+pub use addresses::{least_address, least_free};
+pub use names::free_name;

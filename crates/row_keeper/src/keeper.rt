@@ -1,0 +1,49 @@
+//! Where tables are kept.
+ghost use Rattle.std.specs.Prelude.{◌≡◌, ◌≤◌, ℕ, Option, None, IfOk, IfErr, IfSome, OnOk, OnErr, IsErrOf};
+ghost use Rattle.std.specs.Option.{option_map};
+ghost use Rattle.io_edge.specs.Edge.{Rose, IsWhereTold, StillTells};
+ghost use Rattle.net_rows.specs.declared.rows.Rows.{Rows};
+ghost use Rattle.net_rows.specs.Rows.{after};
+ghost use Rattle.net_rows.specs.Damage.{damage};
+ghost use Rattle.net_rows.specs.declared.change.Kind.{Kind};
+
+use io_edge::EdgeFault;
+use net_rows::{Change, Kind, Tables};
+use std::alloc::Global;
+
+/// Why the tables weren't loaded.
+#[derive(Clone, Copy, Debug, PartialEq, Eq, Drop)]
+pub enum LoadFault {
+    /// The keeper failed at this call.
+    Failed,
+    /// What is kept breaks a rule of the tables: the kind of the row, and its id, which is 0 where the
+    /// kind has no ids.
+    Damaged { kind: Kind, id: u32 },
+    /// Memory was refused.
+    NoMemory,
+}
+
+/// Where tables are kept.
+pub trait Keeper: Drop {
+    /// The rows that it keeps, where they are told.
+    ghost told: { Self → Option Rows };
+
+    /// How often a call has failed.
+    ghost faults: { Self → ℕ };
+
+    /// The tables that it keeps, which are sound where they are told.
+    fn load(&mut self, alloc: Global) -> Result<Tables, LoadFault>
+        ensures loaded { IfOk result (λ tables. IsWhereTold tables.rows (told self.old)) }
+        ensures whole { IfErr result (λ e. (kind : Kind) (id : ℕ) → e ≡ LoadFault.Damaged kind id → told self.old ≡ None) }
+        ensures same { StillTells (told self.old) (told self.new) }
+        ensures later { faults self.old ≤ faults self.new }
+        ensures cause { IsErrOf result LoadFault.Failed → Rose (faults self.old) (faults self.new) };
+
+    /// Keeps the change, or leaves what it keeps as it was.
+    fn commit(&mut self, alloc: Global, change: &Change) -> Result<(), EdgeFault>
+        requires sound { IfSome (told self.old) (λ rows. damage (after rows change.now) ≡ None) }
+        ensures ok { OnOk result (StillTells (option_map (λ rows. after rows change.now) (told self.old)) (told self.new)) }
+        ensures err { OnErr result (StillTells (told self.old) (told self.new)) }
+        ensures later { faults self.old ≤ faults self.new }
+        ensures cause { IsErrOf result EdgeFault.Failed → Rose (faults self.old) (faults self.new) };
+}

@@ -1,0 +1,80 @@
+//! A keeper in memory.
+ghost use Rattle.std.specs.Prelude.{◌≡◌, Some, None, IfOk, OnOk, OnErr};
+ghost use Rattle.net_rows.specs.Rows.{after};
+ghost use Rattle.net_rows.specs.Damage.{damage};
+
+use crate::keeper::{Keeper, LoadFault};
+use io_edge::{EdgeFault, Faults};
+use net_rows::{Change, Tables};
+use std::alloc::Global;
+use tail_base::{Duplicate, Items, NoMemory};
+
+/// A keeper in memory, which tells what it keeps.
+#[derive(Drop)]
+pub struct MemoryKeeper {
+    pub(crate) tables: Tables,
+    pub(crate) faults: Faults,
+}
+
+/// Tables of equal rows.
+pub(crate) fn copy_of(alloc: Global, tables: &Tables) -> Result<Tables, NoMemory>
+    ensures rows { IfOk result (λ made. made.rows ≡ tables.now.rows) }
+{
+    let nothing = Change {
+        puts: Items::new(alloc),
+        gone: Items::new(alloc),
+        next: tables.next(),
+    };
+    tables.after(alloc, &nothing)
+}
+
+/// Makes the change where there is memory for it.
+fn make(alloc: Global, tables: &mut Tables, change: &Change) -> Result<(), NoMemory>
+    requires sound { damage (after tables.old.rows change.now) ≡ None }
+    ensures ok { OnOk result (tables.new.rows ≡ after tables.old.rows change.now) }
+    ensures err { OnErr result (tables.new.rows ≡ tables.old.rows) }
+{
+    let change = change.copy(alloc)?;
+    tables.reserve(&change)?;
+    tables.apply(change);
+    Ok(())
+}
+
+impl MemoryKeeper {
+    /// A keeper of these tables, of which the calls with these numbers fail.
+    pub fn new(tables: Tables, fails: Items<u32>) -> MemoryKeeper
+        ensures told { ⟦<MemoryKeeper as Keeper>⟧.told result ≡ Some tables.rows }
+        ensures faults { ⟦<MemoryKeeper as Keeper>⟧.faults result ≡ 0 }
+    {
+        MemoryKeeper {
+            tables,
+            faults: Faults::new(fails),
+        }
+    }
+}
+
+impl Keeper for MemoryKeeper {
+    ghost told = { λ k. Some k.tables.rows };
+
+    ghost faults = { λ k. k.faults.count };
+
+    fn load(&mut self, alloc: Global) -> Result<Tables, LoadFault> {
+        if self.faults.next() {
+            return Err(LoadFault::Failed);
+        }
+        match copy_of(alloc, &self.tables) {
+            Ok(tables) => Ok(tables),
+            Err(NoMemory) => Err(LoadFault::NoMemory),
+        }
+    }
+
+    fn commit(&mut self, alloc: Global, change: &Change) -> Result<(), EdgeFault> {
+        if self.faults.next() {
+            return Err(EdgeFault::Failed);
+        }
+        match make(alloc, &mut self.tables, change) {
+            Ok(()) => Ok(()),
+            Err(NoMemory) => Err(EdgeFault::NoMemory),
+        }
+    }
+}

@@ -1,0 +1,39 @@
+//! What opens a keeper by its name.
+ghost use Rattle.std.specs.Prelude.{◌≡◌, ◌≤◌, ◌+◌, ◌-◌, ◌^◌, ℕ, List, Option, Some, min, IfOk, IfSome, OnErr, IsErrOf};
+ghost use Rattle.io_edge.specs.Edge.{Rose, StillTells};
+ghost use Rattle.io_edge.specs.Asked.{IsAsked};
+ghost use Rattle.net_rows.specs.declared.rows.Rows.{Rows};
+
+use crate::keeper::Keeper;
+use io_edge::EdgeFault;
+use std::alloc::Global;
+
+/// Opens keepers by their names, as the path of a database, and closes them.
+pub trait Opener {
+    type Keeper: Keeper + Send;
+
+    /// The rows that its keeper keeps, where they are told.
+    ghost told: { Self → Option Rows };
+
+    /// The names that it was asked for, in order, where they are told.
+    ghost asked: { Self → Option (List (List ℕ)) };
+
+    /// How often a call has failed, here and at keepers that were closed.
+    ghost faults: { Self → ℕ };
+
+    /// A keeper of these rows that has not failed yet. While it is open, nothing is said of what the
+    /// opener tells to be kept.
+    fn open(&mut self, alloc: Global, name: &str) -> Result<Self::Keeper, EdgeFault>
+        ensures gives { IfOk result (λ keeper. IfSome (told self.old) (λ rows. Self.Keeper.told keeper ≡ Some rows)) }
+        ensures fresh { IfOk result (λ keeper. Self.Keeper.faults keeper ≡ 0) }
+        ensures asked { IsAsked result name.now (asked self.old) (asked self.new) }
+        ensures same { OnErr result (StillTells (told self.old) (told self.new)) }
+        ensures later { faults self.old ≤ faults self.new }
+        ensures cause { IsErrOf result EdgeFault.Failed → Rose (faults self.old) (faults self.new) };
+
+    /// Takes a keeper back, with its faults and with what it keeps.
+    fn close(&mut self, keeper: Self::Keeper)
+        ensures told { StillTells (Self.Keeper.told keeper) (told self.new) }
+        ensures asked { asked self.new ≡ asked self.old }
+        ensures faults { faults self.new ≡ min (faults self.old + Self.Keeper.faults keeper) (2 ^ 64 - 1) };
+}
