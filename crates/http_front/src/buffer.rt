@@ -1,21 +1,17 @@
 //! Bytes that were read and not yet served.
-ghost use Rattle.std.specs.Prelude.{◌≡◌, ◌≤◌, ◌+◌, ◌==◌, [], length, take, drop, vec_len, IfOk, option_map};
+ghost use Rattle.std.specs.Prelude.{◌≡◌, ◌≤◌, ◌==◌, [], length, drop, vec_len, IfOk};
 ghost use Rattle.io_edge.specs.Edge.{Rose};
-ghost use Rattle.http_front.specs.Requests.{head_limit, request_of};
-ghost use Rattle.http_front.specs.Seen.{seen};
 ghost use Rattle.http_front.specs.Taking.{Steps, Refills};
 ghost use Rattle.http_front.specs.declared.buffer.Refill.TheVariants.{Failed};
 
-use crate::lines::{any_named_is, bytes_of, first_named};
-use crate::looking::{HEAD_LIMIT, Look, ROOM, look_at};
+use crate::cutting::cut_request;
+use crate::looking::{Look, ROOM, look_at};
 use crate::request::Request;
-use crate::target::path_of;
-use http::Method;
-use httparse::spans::{EMPTY_HEADER_SPAN, HeaderSpan, RequestSpans};
+use httparse::spans::{EMPTY_HEADER_SPAN, HeaderSpan};
 use io_edge::Source;
 use std::alloc::Global;
 use std::marker::Model;
-use tail_base::{Bytes, NoMemory};
+use tail_base::NoMemory;
 
 /// How many bytes are read at once.
 const PIECE: usize = 4096;
@@ -57,51 +53,6 @@ impl Model for Buffer {
     ghost view = { λ a. drop a.at a.bytes.items };
 
     ghost invariant = { λ a. (a.at ≤ vec_len a.bytes) × (vec_len a.headers ≡ 5461) };
-}
-
-fn copied(alloc: Global, value: Option<&[u8]>) -> Result<Option<Bytes>, NoMemory>
-    ensures value { IfOk result (λ made. made ≡ option_map (λ v. v.now) value.entry) }
-{
-    match value {
-        Some(value) => Ok(Some(Bytes::from_slice(alloc, value)?)),
-        None => Ok(None),
-    }
-}
-
-fn method_of(alloc: Global, method: &[u8]) -> Result<Method, NoMemory>
-    ensures value { IfOk result (λ made. made ≡ method.now) }
-{
-    match Method::from_bytes(alloc, method) {
-        Ok(method) => Ok(method),
-        Err(_) => Err(NoMemory),
-    }
-}
-
-/// The request that the parser's spans show, with the body of that size behind the head.
-fn cut(
-    alloc: Global,
-    bytes: &[u8],
-    headers: &[HeaderSpan],
-    head: &RequestSpans,
-    size: usize,
-) -> Result<Request, NoMemory>
-    requires lines { head.now.headers ≤ length headers.now }
-    requires there { head.now.len + size ≤ length bytes.now }
-    ensures value { IfOk result (λ made. made
-        ≡ request_of (seen (take head_limit bytes.now) headers.now head.now) (take size (drop head.now.len bytes.now))) }
-{
-    let front = &bytes[..bytes.len().min(HEAD_LIMIT)];
-    let lines = &headers[..head.headers];
-    let token = copied(alloc, first_named(front, lines, b"Authorization"))?;
-    let machine = copied(alloc, first_named(front, lines, b"Ts-Machine-Key"))?;
-    Ok(Request {
-        method: method_of(alloc, bytes_of(front, head.method))?,
-        path: Bytes::from_slice(alloc, path_of(bytes_of(front, head.path)))?,
-        token,
-        machine,
-        close: any_named_is(front, lines, b"Connection", b"close"),
-        body: Bytes::from_slice(alloc, &bytes[head.len..head.len + size])?,
-    })
 }
 
 fn drop_front(bytes: &mut Vec<u8>, count: usize)
@@ -160,7 +111,7 @@ impl Buffer {
         match look_at(held, &mut self.headers) {
             Look::More => Step::More,
             Look::Bad(status) => Step::Bad(status),
-            Look::Whole(head, size) => match cut(alloc, held, &self.headers, &head, size) {
+            Look::Whole(head, size) => match cut_request(alloc, held, &self.headers, &head, size) {
                 Ok(request) => {
                     self.at += head.len + size;
                     Step::Request(request)

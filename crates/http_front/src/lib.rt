@@ -3,6 +3,7 @@
 
 mod answering;
 mod buffer;
+mod cutting;
 mod head;
 mod law;
 mod lines;
@@ -16,3 +17,6 @@ pub use buffer::Buffer;
 pub use law::one_reading;
 pub use request::{Request, Taken};
 pub use taking::take_request;
+
+#[cfg(test)]
+mod tests;

@@ -1,5 +1,6 @@
 use Rattle.std.proofs.Common.{◌≡◌, ℕ, ◌+◌, ◌-◌, List, sym, ap, ◌∙◌, take, drop, length, arith, length-drop}
 use Rattle.std.proofs.lemmas.List.{take_at, take_all, drop-drop}
+use Rattle.http_front.proofs.MethodLemmas.{seen_token}
 use Rattle.http_front.proofs.Looks.{stepped}
 use Rattle.http_front.proofs.buffer.Buffer.step.Goals as goal
 
@@ -18,3 +19,6 @@ returns-in-Ok c =
           (c.deref-in-Whole.ensures.value ∙ take_at c.look_at.new.headers _ c.self.inside.headers.len (omega arith))
           c.in-Whole.ensures.sees c.in-Ok.ensures.value (sym (drop-drop (c.in-Whole.head.len + c.in-Whole.size) at bytes));
     }
+
+pub cut_request-requires-clause-token : goal.cut_request-requires-clause-token
+cut_request-requires-clause-token c = seen_token _ _ c.in-Whole.head c.in-Whole.size c.in-Whole.ensures.sees

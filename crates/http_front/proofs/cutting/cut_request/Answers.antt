@@ -1,8 +1,10 @@
-use Rattle.std.proofs.Common.{◌≡◌, ◌+◌, ◌-◌, ap, ◌∙◌, take, drop, arith}
+use Rattle.std.proofs.Common.{sym, subst, ◌≡◌, ◌+◌, ◌-◌, ap, ◌∙◌, take, drop, arith}
+use Rattle.httparse.specs.Grammar.{IsToken}
+use Rattle.httparse.specs.Spans.{span_bytes}
 use Rattle.http_front.specs.Requests.{path_of, request_of, head_limit}
 use Rattle.http_front.specs.Seen.{seen}
 use Rattle.http_front.proofs.Looks.{front_is, request_is}
-use Rattle.http_front.proofs.buffer.cut.Goals as goal
+use Rattle.http_front.proofs.cutting.cut_request.Goals as goal
 
 pub returns : goal.returns
 returns c =
@@ -18,3 +20,8 @@ returns c =
           ∙ ap (request_of (seen (take head_limit c.args.bytes.now) c.args.headers.now c.args.head.now))
           (c.in_ok-from_slice-2.ensures.value ∙ ap (λ n. take n (drop c.args.head.now.len c.args.bytes.now)) size_is);
     }
+
+pub method_of-requires : goal.method_of-requires
+method_of-requires c =
+    let shown = ap (λ b. span_bytes b c.args.head.now.method) (front_is c.args.bytes.now c.min.result c.min.ensures) in
+    record { token = subst IsToken (sym (c.bytes_of.ensures.value ∙ shown)) c.requires.token }
