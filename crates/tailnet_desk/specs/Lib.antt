@@ -10,3 +10,4 @@ pub mod History
 pub mod Seated
 pub mod Carried
 pub mod Opening
+pub mod TagPlaces

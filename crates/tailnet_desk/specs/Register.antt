@@ -4,8 +4,10 @@ use Rattle.std.specs.List.{list_any}
 use Rattle.std.specs.Str.{bytes_eq}
 use Rattle.tail_base.specs.declared.key.MachineKey.{MachineKey}
 use Rattle.tail_base.specs.declared.key.NodeKey.{NodeKey}
-use Rattle.net_rows.specs.Limits.{counter_limit, machine_limit}
-use Rattle.net_rows.specs.Rows.{Rows, machine_of, key_of, pending_of}
+use Rattle.net_rows.specs.Room.{has_room}
+use Rattle.net_rows.specs.declared.change.Kind.TheVariants as kind
+use Rattle.net_rows.specs.Rows.{machine_of, key_of, pending_of}
+use Rattle.net_rows.specs.declared.rows.Rows.{Rows}
 use Rattle.net_rows.specs.declared.key.AuthKey.{AuthKey}
 use Rattle.net_rows.specs.declared.machine.Machine.{Machine}
 use Rattle.net_rows.specs.declared.pending.Pending.{Pending}
@@ -13,11 +15,10 @@ use Rattle.net_rows.specs.declared.change.Change.{Change}
 use Rattle.net_rows.specs.declared.change.Row.TheVariants as row
 use Rattle.net_rows.specs.declared.change.RowKey.{RowKey}
 use Rattle.net_rows.specs.declared.change.RowKey.TheVariants as gone
-use Rattle.allot.specs.Free.{free_address}
+use Rattle.allot.specs.Addresses.{free_address}
 use Rattle.allot.specs.Names.{free_name}
 use Rattle.wire_json.specs.declared.register.Register.{Register}
 use Rattle.tailnet_desk.specs.Profiles.{profile_of}
-use Rattle.tailnet_desk.specs.Seed.{has_room}
 use Rattle.tailnet_desk.specs.State.{State, is_ahead, is_live, later_by}
 use Rattle.tailnet_desk.specs.Steps.{◌>>=◌, refuse_if, or_refuse}
 use Rattle.tailnet_desk.specs.Tags.{sorted_once}
@@ -61,7 +62,7 @@ kept_place s m = record {
 -- a machine without a row gets the next id, the least free addresses and the first free name
 abbrev pub new_place : State → Result Place Refusal
 new_place s = do
-  room ← refuse_if (not (has_room s.rows.next.machine machine_limit (length s.rows.machines))) (Full scarce.Machine)
+  room ← refuse_if (not (has_room s.rows kind.Machine)) (Full scarce.Machine)
   v4 ← or_refuse (free_address s.settings.prefix_v4 s.rows.machines) (AddressesSpent 4)
   v6 ← or_refuse (free_address s.settings.prefix_v6 s.rows.machines) (AddressesSpent 6)
   Ok (record {

@@ -1,8 +1,9 @@
 -- The first user and key.
 use Rattle.std.specs.Prelude.{◌+◌, ℕ, Bool, true, false, List, [], ◌∷◌, None, Result, Ok, length, codes, nat_lt, not, ◌&&◌, ◌||◌, nat_eq, if◌then◌else◌}
 use Rattle.std.specs.List.{starts_with}
-use Rattle.net_rows.specs.Limits.{counter_limit, key_limit, user_limit}
-use Rattle.net_rows.specs.Rows.{Rows}
+use Rattle.net_rows.specs.Room.{has_room}
+use Rattle.net_rows.specs.declared.change.Kind.TheVariants as kind
+use Rattle.net_rows.specs.declared.rows.Rows.{Rows}
 use Rattle.net_rows.specs.declared.user.User.{User}
 use Rattle.net_rows.specs.declared.key.AuthKey.{AuthKey}
 use Rattle.net_rows.specs.declared.change.Change.{Change}
@@ -42,14 +43,10 @@ seed_change rows text = record {
   next = record rows.next { user = rows.next.user + 1; key = rows.next.key + 1 };
 }
 
--- the counter has an id left, and the rows are below their limit
-abbrev pub has_room : ℕ → ℕ → ℕ → Bool
-has_room next limit rows = nat_lt rows limit && nat_lt next counter_limit
-
 abbrev pub seed : State → List ℕ → Result Decision Refusal
 seed s text =
     if is_past_seed s.rows text then Ok (Only Gone)
     else do
-      user ← refuse_if (not (has_room s.rows.next.user user_limit (length s.rows.users))) (Full scarce.User)
-      key ← refuse_if (not (has_room s.rows.next.key key_limit (length s.rows.keys))) (Full scarce.Key)
+      user ← refuse_if (not (has_room s.rows kind.User)) (Full scarce.User)
+      key ← refuse_if (not (has_room s.rows kind.Key)) (Full scarce.Key)
       Ok (Changes (seed_change s.rows text) [] Gone)

@@ -4,7 +4,7 @@ use Rattle.std.specs.List.{find}
 use Rattle.std.specs.Int.{int_min}
 use Rattle.std.specs.Option.{option_map}
 use Rattle.tail_base.specs.Moments.{later_of, last_moment}
-use Rattle.net_rows.specs.Rows.{Rows}
+use Rattle.net_rows.specs.declared.rows.Rows.{Rows}
 use Rattle.net_rows.specs.Shelf.{put_row, row_at}
 use Rattle.net_rows.specs.declared.machine.Machine.{Machine}
 use Rattle.net_rows.specs.declared.settings.SettingsFields.{SettingsFields}

@@ -1,6 +1,6 @@
 -- Tags in order.
-use Rattle.std.specs.Prelude.{ℕ, List, [], ◌∷◌, nat_cmp}
-use Rattle.std.specs.Ordering.{match_ordering}
+use Rattle.std.specs.Prelude.{ℕ, List, [], ◌∷◌}
+use Rattle.std.specs.Ordering.{match_ordering, nat_cmp}
 use Rattle.std.specs.Cmp.Lexicographic.{slice_cmp}
 
 -- a tag among tags that rise, where it belongs; once if it is there

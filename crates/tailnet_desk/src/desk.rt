@@ -14,6 +14,7 @@ ghost use Rattle.tailnet_desk.specs.declared.entry.Event.TheVariants as event;
 use crate::ask::Ask;
 use crate::decision::{Decision, Stop};
 use crate::life::Snapshot;
+use crate::opening::{all_offline_of, unserved};
 use crate::presence::{MachinePresence, Presence};
 use crate::register::register;
 use crate::reply::{Answer, Refusal, Reply};
@@ -32,7 +33,7 @@ pub struct Desk<K: Keeper> {
     settings: Settings,
     tables: Tables,
     presence: Shelf<MachinePresence>,
-    now: Moment,
+    time: Moment,
     keeper: K,
 }
 
@@ -43,7 +44,7 @@ impl<K: Keeper> Model for Desk<K> {
 
     ghost Value = { Seated K };
 
-    ghost view = { λ d. record { state = record { settings = d.settings; rows = d.tables.rows; presence = d.presence.0; now = d.now }; keeper = d.keeper } };
+    ghost view = { λ d. record { state = record { settings = d.settings; rows = d.tables.rows; presence = d.presence.0; now = d.time }; keeper = d.keeper } };
 
     ghost invariant = { λ d. IsWhereTold d.tables.rows (K.told d.keeper) };
 }
@@ -83,53 +84,6 @@ fn go_offline(presence: &mut Shelf<MachinePresence>, ids: &[u32], now: Moment)
     }
 }
 
-/// All machines of the tables, offline since this moment.
-fn all_offline_of(
-    alloc: Global,
-    tables: &Tables,
-    now: Moment,
-) -> Result<Shelf<MachinePresence>, NoMemory>
-    ensures presence { IfOk result (λ made. made.0 ≡ map (λ m. offline_at now m.id) tables.now.rows.machines) }
-{
-    let mut made = Items::new(alloc);
-    for machine in tables.machines() {
-        made.push(MachinePresence {
-            id: machine.id,
-            presence: Presence::OfflineSince(now),
-        })?;
-    }
-    Ok(Shelf::from_items(made))
-}
-
-/// The first form of rows that isn't served yet.
-fn unserved(tables: &Tables) -> Option<Damage>
-    ensures value { result ≡ unserved tables.now.rows }
-{
-    let approved = tables
-        .machines()
-        .iter()
-        .find(|machine| machine.approved.len() > 0);
-    if let Some(machine) = approved {
-        return Some(Damage {
-            kind: Kind::Machine,
-            id: machine.id,
-        });
-    }
-    if tables.extras().len() > 0 {
-        return Some(Damage {
-            kind: Kind::Extras,
-            id: 0,
-        });
-    }
-    if tables.policy().is_some() {
-        return Some(Damage {
-            kind: Kind::Policy,
-            id: 0,
-        });
-    }
-    None
-}
-
 impl<K: Keeper> Desk<K> {
     /// A desk over the keeper's tables, in which no machine is online.
     ///
@@ -167,7 +121,7 @@ impl<K: Keeper> Desk<K> {
                 settings,
                 tables,
                 presence,
-                now: moment,
+                time: moment,
                 keeper,
             }),
             Err(NoMemory) => Err((OpenFault::NoMemory, keeper)),
@@ -192,7 +146,7 @@ impl<K: Keeper> Desk<K> {
         match self.keeper.commit(alloc, &change) {
             Ok(()) => {
                 self.tables.apply(change);
-                go_offline(&mut self.presence, offline.as_slice(), self.now);
+                go_offline(&mut self.presence, offline.as_slice(), self.time);
                 Reply::Done(answer)
             }
             Err(EdgeFault::Failed) => Reply::Refused(Refusal::KeeperFault),
@@ -210,12 +164,12 @@ impl<K: Keeper> Desk<K> {
     ) -> Reply
         ensures call { IsCall self.old.state (K.faults self.old.keeper) (event.Ask ask.now moment words) result self.new.state (K.faults self.new.keeper) }
     {
-        self.now = self.now.or_later(moment);
+        self.time = self.time.or_later(moment);
         let at = Snapshot {
             settings: &self.settings,
             tables: &self.tables,
             presence: self.presence.as_slice(),
-            now: self.now,
+            time: self.time,
         };
         match decide(alloc, &at, ask) {
             Err(Stop::Memory) => Reply::Refused(Refusal::NoMemory),
@@ -231,9 +185,10 @@ impl<K: Keeper> Desk<K> {
 
     /// The tables, which keep their rules.
     pub fn tables(&self) -> &Tables
-        ensures rows { result.now.rows ≡ self.entry.now.state.rows }
-        ensures sound { damage self.entry.now.state.rows ≡ None }
+        ensures rows { result.now.rows ≡ self.now.state.rows }
+        ensures sound { damage self.now.state.rows ≡ None }
     {
+        let _rules = self.tables.users();
         &self.tables
     }
 
@@ -246,7 +201,7 @@ impl<K: Keeper> Desk<K> {
             settings: _,
             tables: _,
             presence: _,
-            now: _,
+            time: _,
             keeper,
         } = self;
         keeper

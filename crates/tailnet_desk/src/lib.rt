@@ -6,6 +6,7 @@ mod decision;
 mod desk;
 mod entry;
 mod life;
+mod opening;
 mod presence;
 mod profile;
 mod register;

@@ -1,6 +1,5 @@
 //! What an event sees of the state, and which machines are live in it.
-ghost use Rattle.std.specs.Prelude.{◌≡◌};
-ghost use Rattle.std.specs.Option.{option_copied};
+ghost use Rattle.std.specs.Prelude.{◌≡◌, Some};
 ghost use Rattle.tailnet_desk.specs.State.{State, is_ahead, is_live, presence_of, stays};
 
 use crate::presence::{MachinePresence, Presence};
@@ -9,11 +8,12 @@ use std::marker::Model;
 use tail_base::Moment;
 
 /// The state at an event's moment, as its decision sees it.
+#[derive(Drop)]
 pub(crate) struct Snapshot<'a> {
     pub settings: &'a Settings,
     pub tables: &'a Tables,
     pub presence: &'a [MachinePresence],
-    pub now: Moment,
+    pub time: Moment,
 }
 
 impl<'a> Model for Snapshot<'a> {
@@ -21,7 +21,7 @@ impl<'a> Model for Snapshot<'a> {
 
     ghost Value = { State };
 
-    ghost view = { λ a. record { settings = a.settings.now; rows = a.tables.now.rows; presence = a.presence.now; now = a.now } };
+    ghost view = { λ a. record { settings = a.settings.now; rows = a.tables.now.rows; presence = a.presence.now; now = a.time } };
 }
 
 /// Whether there is no end, or it is still to come.
@@ -34,22 +34,26 @@ pub(crate) fn is_ahead(now: Moment, end: Option<Moment>) -> bool
     }
 }
 
-fn presence_of(presence: &[MachinePresence], id: u32) -> Option<Presence>
-    ensures value { result ≡ presence_of presence.now id }
-{
-    presence
-        .iter()
-        .find(|held| held.id == id)
-        .map(|held| held.presence)
-}
-
-fn stays(settings: &SettingsFields, now: Moment, presence: Option<Presence>) -> bool
-    ensures value { result ≡ stays settings.now now presence }
+fn stays(settings: &SettingsFields, now: Moment, presence: &Presence) -> bool
+    ensures value { result ≡ stays settings.now now (Some presence.now) }
 {
     match presence {
+        Presence::Online => true,
+        Presence::OfflineSince(since) => now.is_before(since.plus(settings.ephemeral_seconds)),
+    }
+}
+
+fn machine_stays(
+    settings: &SettingsFields,
+    now: Moment,
+    presence: &[MachinePresence],
+    id: u32,
+) -> bool
+    ensures value { result ≡ stays settings.now now (presence_of presence.now id) }
+{
+    match presence.iter().find(|held| held.id == id) {
         None => false,
-        Some(Presence::Online) => true,
-        Some(Presence::OfflineSince(since)) => now.is_before(since.plus(settings.ephemeral_seconds)),
+        Some(held) => stays(settings, now, &held.presence),
     }
 }
 
@@ -57,11 +61,7 @@ fn stays(settings: &SettingsFields, now: Moment, presence: Option<Presence>) -> 
 pub(crate) fn is_live(at: &Snapshot<'_>, machine: &Machine) -> bool
     ensures value { result ≡ is_live at.now machine.now }
 {
-    is_ahead(at.now, machine.expiry)
+    is_ahead(at.time, machine.expiry)
         && (!machine.ephemeral
-            || stays(
-                at.settings.fields(),
-                at.now,
-                presence_of(at.presence, machine.id),
-            ))
+            || machine_stays(at.settings.fields(), at.time, at.presence, machine.id))
 }

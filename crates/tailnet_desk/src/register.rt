@@ -1,5 +1,5 @@
 //! A machine registers with a pre-auth key.
-ghost use Rattle.std.specs.Prelude.{◌≡◌, ◌<◌, Option, Some, None, Ok, IfOk, List, ℕ};
+ghost use Rattle.std.specs.Prelude.{◌≡◌, Ok, IfOk, true};
 ghost use Rattle.std.specs.Option.{option_copied};
 ghost use Rattle.net_rows.specs.declared.machine.Machine.{Machine};
 ghost use Rattle.net_rows.specs.Rows.{pending_of};
@@ -10,10 +10,9 @@ use crate::decision::{Decision, Stop};
 use crate::life::{Snapshot, is_ahead, is_live};
 use crate::profile::profile_of;
 use crate::reply::{Answer, Refusal, Scarce};
-use crate::seed::has_room;
 use crate::tags::sorted_once;
 use allot::{free_name, least_address};
-use net_rows::{AuthKey, Change, Counters, MACHINE_LIMIT, Machine, Pending, Row, RowKey};
+use net_rows::{AuthKey, Change, Counters, Kind, Machine, Pending, Row, RowKey};
 use std::alloc::Global;
 use tail_base::{
     Addr, DiscoKey, Duplicate, Items, Label, MachineKey, Moment, NoMemory, NodeKey, Prefix, Text,
@@ -37,10 +36,10 @@ fn is_taken(machines: &[Machine], machine: &MachineKey, node: &NodeKey) -> bool
 fn usable_key<'a>(at: &Snapshot<'a>, text: &Text) -> Result<&'a AuthKey, Stop>
     ensures value { Gives (λ k. k.now) result (spec.usable_key at.now text.now) }
 {
-    let Some(key) = at.tables.by_text(text.as_slice()) else {
+    let Some(key) = at.tables.by_text(text.as_str()) else {
         return Err(Stop::Refused(Refusal::KeyUnknown));
     };
-    if !is_ahead(at.now, key.expiry) {
+    if !is_ahead(at.time, key.expiry) {
         return Err(Stop::Refused(Refusal::KeyExpired));
     }
     if key.used && !key.reusable {
@@ -79,8 +78,7 @@ fn kept_place(alloc: Global, at: &Snapshot<'_>, row: &Machine) -> Result<Place, 
 fn new_place(alloc: Global, at: &Snapshot<'_>) -> Result<Place, Stop>
     ensures value { Gives (λ p. p) result (spec.new_place at.now) }
 {
-    let id = at.tables.next().machine;
-    if !has_room(id, MACHINE_LIMIT, at.tables.machines().len()) {
+    if !at.tables.room(Kind::Machine) {
         return Err(Stop::Refused(Refusal::Full(Scarce::Machine)));
     }
     let Some(v4) = least_address(at.settings, at.tables, false) else {
@@ -89,13 +87,14 @@ fn new_place(alloc: Global, at: &Snapshot<'_>) -> Result<Place, Stop>
     let Some(v6) = least_address(at.settings, at.tables, true) else {
         return Err(Stop::Refused(Refusal::AddressesSpent { family: 6 }));
     };
+    let id = at.tables.next().machine;
     Ok(Place {
         id,
         name: free_name(alloc, at.tables, b"")?,
         v4,
         v6,
         approved: Items::new(alloc),
-        created: at.now,
+        created: at.time,
         next: id + 1,
     })
 }
@@ -116,7 +115,7 @@ fn expiry_of(at: &Snapshot<'_>, key: &AuthKey) -> Option<Moment>
     if key.tags.len() > 0 || seconds == 0 {
         None
     } else {
-        Some(at.now.plus(seconds))
+        Some(at.time.plus(seconds))
     }
 }
 
@@ -206,7 +205,7 @@ fn admitted(
     offline.push(place.id)?;
     let answer = Answer::Registered {
         profile: profile_of(alloc, at.tables, key.user)?,
-        expired: !is_ahead(at.now, expiry_of(at, key)),
+        expired: !is_ahead(at.time, expiry_of(at, key)),
     };
     Ok(Decision::Changes {
         change: admission(alloc, at, machine, form, key, place)?,

@@ -1,21 +1,16 @@
 //! The first user and key.
-ghost use Rattle.std.specs.Prelude.{◌≡◌, Ok, IfOk};
+ghost use Rattle.std.specs.Prelude.{◌≡◌, Ok, IfOk, true};
+ghost use Rattle.net_rows.specs.Room.{has_room};
+ghost use Rattle.net_rows.specs.declared.change.Kind.TheVariants as kind;
 ghost use Rattle.tailnet_desk.specs.Steps.{Gives};
-ghost use Rattle.tailnet_desk.specs.Seed.{has_room, is_past_seed, seed, seed_change, seed_key, seed_user};
+ghost use Rattle.tailnet_desk.specs.Seed.{is_past_seed, seed, seed_change, seed_key, seed_user};
 
 use crate::decision::{Decision, Stop};
 use crate::life::Snapshot;
 use crate::reply::{Answer, Refusal, Scarce};
-use net_rows::{AuthKey, COUNTER_LIMIT, Change, Counters, KEY_LIMIT, Row, Tables, USER_LIMIT, User};
+use net_rows::{AuthKey, Change, Counters, Kind, Row, Tables, User};
 use std::alloc::Global;
 use tail_base::{Duplicate, Items, Login, NoMemory, Text};
-
-/// Whether the counter has an id left and the rows are below their limit.
-pub(crate) fn has_room(next: u32, limit: usize, rows: usize) -> bool
-    ensures value { result ≡ has_room next limit rows }
-{
-    rows < limit && next < COUNTER_LIMIT
-}
 
 fn is_past_seed(tables: &Tables, text: &Text) -> bool
     ensures value { result ≡ is_past_seed tables.now.rows text.now }
@@ -51,6 +46,8 @@ fn seed_key(alloc: Global, tables: &Tables, text: &Text) -> Result<AuthKey, NoMe
 }
 
 fn seed_change(alloc: Global, tables: &Tables, text: &Text) -> Result<Change, Stop>
+    requires user { has_room tables.now.rows kind.User ≡ true }
+    requires key { has_room tables.now.rows kind.Key ≡ true }
     ensures value { Gives (λ c. c) result (Ok (seed_change tables.now.rows text.now)) }
 {
     let next = tables.next();
@@ -78,11 +75,10 @@ pub(crate) fn seed(alloc: Global, at: &Snapshot<'_>, text: &Text) -> Result<Deci
     if is_past_seed(tables, text) {
         return Ok(Decision::Only(Answer::Gone));
     }
-    let next = tables.next();
-    if !has_room(next.user, USER_LIMIT, tables.users().len()) {
+    if !tables.room(Kind::User) {
         return Err(Stop::Refused(Refusal::Full(Scarce::User)));
     }
-    if !has_room(next.key, KEY_LIMIT, tables.keys().len()) {
+    if !tables.room(Kind::Key) {
         return Err(Stop::Refused(Refusal::Full(Scarce::Key)));
     }
     Ok(Decision::Changes {

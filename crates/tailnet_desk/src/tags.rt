@@ -1,12 +1,14 @@
 //! Tags in order.
 ghost use Rattle.std.specs.Prelude.{◌≡◌, ◌≤◌, ◌<◌, ℕ, List, length, insert, IfOk};
-ghost use Rattle.tailnet_desk.specs.Tags.{sorted_once, with_tag};
+ghost use Rattle.tailnet_desk.specs.Tags.{sorted_once};
+ghost use Rattle.tailnet_desk.specs.TagPlaces.{IsPlace};
 
 use std::alloc::Global;
 use std::cmp::Ordering;
 use tail_base::{Duplicate, Items, NoMemory, Tag};
 
 /// Where a tag stands among tags that rise.
+#[derive(Clone, Copy, Debug, PartialEq, Eq, Drop)]
 enum TagPlace {
     There,
     Before(usize),
