@@ -7,7 +7,7 @@ ghost use Rattle.tailnet_desk.specs.State.{State, at_moment, all_offline, offlin
 ghost use Rattle.tailnet_desk.specs.Steps.{Gives};
 ghost use Rattle.tailnet_desk.specs.Step.{decision, changed};
 ghost use Rattle.tailnet_desk.specs.History.{IsCall};
-ghost use Rattle.tailnet_desk.specs.Carried.{Carried};
+ghost use Rattle.tailnet_desk.specs.Carried.{Carried, IsSoundDecision};
 ghost use Rattle.tailnet_desk.specs.Opening.{unserved};
 ghost use Rattle.tailnet_desk.specs.declared.entry.Event.TheVariants as event;
 
@@ -61,14 +61,26 @@ pub enum OpenFault {
     NoMemory,
 }
 
-/// What an ask comes to.
-fn decide(alloc: Global, at: &Snapshot<'_>, ask: &Ask) -> Result<Decision, Stop>
+/// What an ask comes to, by its own rules.
+fn decision_of(alloc: Global, at: &Snapshot<'_>, ask: &Ask) -> Result<Decision, Stop>
     ensures value { Gives (λ d. d) result (decision at.now ask.now) }
 {
     match ask {
         Ask::Seed { text } => seed(alloc, at, text),
         Ask::Register { machine, form } => register(alloc, at, machine, form),
     }
+}
+
+/// What an ask comes to. A change of rows keeps the rules of the tables.
+fn decide(alloc: Global, at: &Snapshot<'_>, ask: &Ask) -> Result<Decision, Stop>
+    ensures value { Gives (λ d. d) result (decision at.now ask.now) }
+    ensures sound { IsSoundDecision at.now.rows result }
+{
+    let fields = at.settings.fields();
+    let _v4 = fields.prefix_v4.base();
+    let _v6 = fields.prefix_v6.base();
+    let _rules = at.tables.users();
+    decision_of(alloc, at, ask)
 }
 
 /// The machines with these ids are offline from this moment on. It takes no memory.

@@ -43,6 +43,15 @@ fn stays(settings: &SettingsFields, now: Moment, presence: &Presence) -> bool
     }
 }
 
+fn presence_of(presence: &[MachinePresence], id: u32) -> Option<Presence>
+    ensures value { result ≡ presence_of presence.now id }
+{
+    presence
+        .iter()
+        .find(|held| held.id == id)
+        .map(|held| held.presence)
+}
+
 fn machine_stays(
     settings: &SettingsFields,
     now: Moment,
@@ -51,9 +60,9 @@ fn machine_stays(
 ) -> bool
     ensures value { result ≡ stays settings.now now (presence_of presence.now id) }
 {
-    match presence.iter().find(|held| held.id == id) {
+    match presence_of(presence, id) {
         None => false,
-        Some(held) => stays(settings, now, &held.presence),
+        Some(presence) => stays(settings, now, &presence),
     }
 }
 
