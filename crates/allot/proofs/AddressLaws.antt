@@ -1,11 +1,11 @@
 -- What is known of an address that is allotted.
-use Rattle.std.proofs.Common.{◌≡◌, ◌≢◌, ◌<◌, ◌≤◌, ◌+◌, ◌-◌, ◌*◌, ◌/◌, ◌%◌, ◌^◌, ℕ, Bool, true, false, not, ◌&&◌, ◌||◌, ◌==◌, List, Option, Some, None, nat_le, nat_lt, arith, sym, ap, ◌∙◌, refl, lit<, lit≤}
+use Rattle.std.proofs.Common.{◌≡◌, ◌≢◌, ◌<◌, ◌≤◌, ◌+◌, ℕ, Bool, true, false, not, ◌&&◌, ◌||◌, ◌==◌, List, Option, Some, None, nat_le, nat_lt, arith, sym, ap, ◌∙◌, refl, lit<, lit≤}
 use Rattle.std.specs.Prelude.{Contains}
 use Rattle.std.specs.Bool.{beq}
 use Rattle.std.specs.Cmp.{booleans_Decides}
 use Rattle.std.specs.Option.{option_map}
 use Rattle.std.proofs.lemmas.Bool.Decides.{nat_tests}
-use Rattle.tail_base.specs.Bits.{Address, Block, IsBlock, size_of, family_bits, family_size}
+use Rattle.tail_base.specs.Bits.{Address, Block, IsBlock, size_of}
 use Rattle.net_rows.specs.Damage.{address_eq}
 use Rattle.net_rows.specs.Limits.{is_inside, tailnet_v4, tailnet_v6}
 use Rattle.net_rows.specs.Settings.{is_within, AreSettings}
@@ -13,7 +13,7 @@ use Rattle.net_rows.proofs.Bools.{both, le_of, lt_of}
 use Rattle.net_rows.proofs.Members.{list_any_member}
 use Rattle.net_rows.specs.declared.settings.SettingsFields.{SettingsFields}
 use Rattle.net_rows.specs.declared.machine.Machine.{Machine}
-use Rattle.allot.specs.Addresses.{is_reserved, has_address, is_free, address_at, free_address}
+use Rattle.allot.specs.Addresses.{is_reserved, is_free, address_at, free_address}
 use Rattle.allot.proofs.AddressLemmas.{free_at, free_bits}
 use Rattle.allot.proofs.PrefixLemmas.{within_ends, inside_is}
 use Rattle.allot.proofs.SearchLemmas.{least_from-passes, least_from-within, least_from-least, least_from-none}

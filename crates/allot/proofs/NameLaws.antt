@@ -1,20 +1,17 @@
 -- What is known of a name that is given.
-use Rattle.std.proofs.Common.{◌≡◌, ◌≢◌, ◌<◌, ◌≤◌, ◌+◌, ◌^◌, ℕ, zero, suc, Bool, true, false, not, List, [], ◌∷◌, length, map, Option, Some, None, unwrap_or, ◌⊎◌, inl, inr, arith, sym, ap, ◌∙◌, refl, if◌then◌else◌}
+use Rattle.std.proofs.Common.{◌≡◌, ◌≢◌, ◌<◌, ◌≤◌, ◌+◌, ℕ, true, false, List, length, Option, Some, None, unwrap_or, inl, inr, arith, sym, refl}
 use Rattle.std.specs.Prelude.{Contains}
-use Rattle.std.specs.List.{list_any}
-use Rattle.std.specs.Set.{is_member}
 use Rattle.std.specs.Str.{bytes_eq}
 use Rattle.tail_base.specs.Labels.{is_label, label_of_host, numbered_label}
-use Rattle.tail_base.proofs.NumberLemmas.{numbered_label-injective, numbered_is_label}
+use Rattle.tail_base.proofs.NumberLemmas.{numbered_is_label}
 use Rattle.tail_base.proofs.HostLemmas.{label_of_host_is_label}
 use Rattle.net_rows.specs.Limits.{machine_limit}
 use Rattle.net_rows.specs.declared.machine.Machine.{Machine}
 use Rattle.allot.specs.Addresses.{least_from}
 use Rattle.allot.specs.Names.{has_name, free_number, free_label, free_name}
-use Rattle.allot.proofs.SearchLemmas.{least_from-passes, least_from-within, least_from-least, least_from-none}
+use Rattle.allot.proofs.SearchLemmas.{least_from-passes, least_from-within, least_from-least}
 use Rattle.net_rows.proofs.Bools.{truth, not_true, bytes_is}
 use Rattle.net_rows.proofs.Members.{list_any_member}
-use Rattle.allot.proofs.Pigeonhole.{AreApart, pigeonhole, bytes_eq_equiv}
 use Rattle.allot.proofs.NameLemmas.{is_free_number, false_not, number_found}
 
 -- the number that is found, and what is known of it
