@@ -4,8 +4,13 @@ pub mod ShelfLemmas
 pub mod HeldLemmas
 pub mod Empty
 pub mod PutLemmas
+pub mod NamedLemmas
 pub mod Scan
 pub mod Stands
+pub mod RemoveLemmas
+pub mod RowAt
 pub mod SoundPut
+pub mod SoundRemove
 pub mod SoundRows
 pub mod Sounds
+pub mod SoundGone

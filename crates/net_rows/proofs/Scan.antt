@@ -1,7 +1,9 @@
 -- The first row that doesn't fit, and what holds where there is none.
-use Rattle.std.proofs.Common.{◌≡◌, ℕ, Bool, true, false, List, [], ◌∷◌, ◌++◌, inl, inr, sym, ◌∙◌, ap, refl, append_assoc}
+use Rattle.std.proofs.Common.{◌≡◌, ◌<◌, ◌≤◌, ◌+◌, ℕ, Bool, true, false, List, [], ◌∷◌, ◌++◌, length, take, drop, get_or, inl, inr, sym, ◌∙◌, ap, refl, append_assoc, add-one}
 use Rattle.std.specs.Prelude.{Option, Some, None}
 use Rattle.std.proofs.lemmas.List.{append-nil}
+use Rattle.std.proofs.Math.Seq.{take-suc, drop-cons}
+use Rattle.std.proofs.Math.ListN.{drop_of_length-le}
 use Rattle.net_rows.specs.Damage.{first_misfit}
 use Rattle.net_rows.proofs.Bools.{truth}
 
@@ -23,3 +25,15 @@ pub no_misfit : {T : Type 0} (id : T → ℕ) (fits : List T → T → Bool) (al
 no_misfit id fits all each before [] e = refl
 no_misfit {T} id fits all each before (x ∷ xs) e =
     rw (each before x xs e) (no_misfit id fits all each (before ++ x ∷ []) xs (append_assoc before (x ∷ []) xs ∙ e))
+
+-- one step of the search, from a place where all rows before fit
+pub misfit_next : {T : Type 0} (id : T → ℕ) (fits : List T → T → Bool) (xs : List T) (i : ℕ) (d : T) → i < length xs → fits (take i xs) (get_or xs i d) ≡ true
+    → first_misfit id fits (take i xs) (drop i xs) ≡ first_misfit id fits (take (i + 1) xs) (drop (i + 1) xs)
+misfit_next id fits xs i d lt passes = rw (drop-cons xs i d lt, passes, add-one, take-suc xs i d lt) refl
+
+pub misfit_here : {T : Type 0} (id : T → ℕ) (fits : List T → T → Bool) (xs : List T) (i : ℕ) (d : T) → i < length xs → fits (take i xs) (get_or xs i d) ≡ false
+    → first_misfit id fits (take i xs) (drop i xs) ≡ Some (id (get_or xs i d))
+misfit_here id fits xs i d lt fails = rw (drop-cons xs i d lt, fails) refl
+
+pub misfit_end : {T : Type 0} (id : T → ℕ) (fits : List T → T → Bool) (xs before : List T) (i : ℕ) → length xs ≤ i → first_misfit id fits before (drop i xs) ≡ None
+misfit_end id fits xs before i h = rw (drop_of_length-le xs h) refl

@@ -3,12 +3,15 @@
 #![tactic(auto)]
 
 mod change;
+mod check;
 mod extra;
+mod fits;
 mod id;
 mod key;
 mod limits;
 mod lists;
 mod machine;
+mod named;
 mod pending;
 mod rows;
 mod settings;
@@ -17,7 +20,9 @@ mod tables;
 mod user;
 
 pub use change::{Change, Counters, Damage, Kind, Row, RowKey};
+pub use check::damage;
 pub use extra::Extra;
+pub use fits::TableRow;
 pub use id::HasId;
 pub use key::AuthKey;
 pub use limits::{

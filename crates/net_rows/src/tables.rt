@@ -6,13 +6,15 @@ ghost use Rattle.net_rows.specs.Held.{Suffices};
 ghost use Rattle.net_rows.specs.Damage.{damage};
 ghost use Rattle.net_rows.specs.Room.{has_room};
 
-use crate::change::{Change, Counters, Kind};
+use crate::change::{Change, Counters, Damage, Kind};
+use crate::check::damage;
 use crate::extra::Extra;
 use crate::key::AuthKey;
 use crate::limits::{COUNTER_LIMIT, KEY_LIMIT, MACHINE_LIMIT, PENDING_LIMIT, USER_LIMIT};
 use crate::lists::Lists;
 use crate::machine::Machine;
 use crate::pending::Pending;
+use crate::rows::Rows;
 use crate::user::User;
 use std::alloc::Global;
 use std::marker::Model;
@@ -38,6 +40,20 @@ impl Model for Tables {
 }
 
 impl Tables {
+    /// The tables of these rows, or the first rule that they break. It takes no memory.
+    pub fn checked(rows: Rows) -> Result<Tables, Damage>
+        ensures ok { IfOk result (λ made. made.rows ≡ rows) }
+        ensures sound { OnOk result (damage rows ≡ None) }
+        ensures err { IfErr result (λ found. damage rows ≡ Some found) }
+    {
+        match damage(&rows) {
+            Some(found) => Err(found),
+            None => Ok(Tables {
+                lists: Lists::from_rows(rows),
+            }),
+        }
+    }
+
     /// Makes room for the change. The rows stay as they are.
     pub fn reserve(&mut self, change: &Change) -> Result<(), NoMemory>
         ensures rows { self.new.rows ≡ self.old.rows }
@@ -65,6 +81,15 @@ impl Tables {
         lists.reserve(change.puts.as_slice())?;
         lists.apply(change.copy(alloc)?);
         Ok(Tables { lists })
+    }
+
+    /// Equal tables of their own.
+    pub fn copy(&self, alloc: Global) -> Result<Tables, NoMemory>
+        ensures rows { IfOk result (λ made. made.rows ≡ self.now.rows) }
+    {
+        Ok(Tables {
+            lists: self.lists.copy(alloc)?,
+        })
     }
 
     /// The users by id.

@@ -1,6 +1,9 @@
+pub mod AddrTexts
 pub mod Bits
+pub mod GroupTexts
 pub mod Keys
 pub mod Labels
 pub mod Logins
 pub mod Moments
+pub mod QuadTexts
 pub mod Tags

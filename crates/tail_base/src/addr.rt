@@ -1,8 +1,12 @@
 //! Addresses.
-ghost use Rattle.std.specs.Prelude.{◌≡◌, ℕ, ◌<◌, ◌↔◌, IsTrue, false};
+ghost use Rattle.std.specs.Prelude.{◌≡◌, ℕ, ◌<◌, ◌↔◌, IsTrue, false, IfOk};
+ghost use Rattle.tail_base.specs.AddrTexts.{addr_text};
 ghost use Rattle.tail_base.specs.Bits.{family_size};
 
+use crate::groups::v6_text;
 use crate::memory::{Duplicate, NoMemory};
+use crate::quad::quad_text;
+use crate::text::Text;
 use std::alloc::Global;
 use std::marker::Model;
 
@@ -48,6 +52,17 @@ impl Addr {
         ensures in_family { self.now.bits < family_size self.now.v6 }
     {
         self.bits
+    }
+
+    /// The text of the address: dotted decimal, or hexadecimal groups as RFC 5952 section 4 asks.
+    pub fn write(&self, alloc: Global) -> Result<Text, NoMemory>
+        ensures value { IfOk result (λ text. text ≡ addr_text self.now) }
+    {
+        if self.v6 {
+            v6_text(alloc, self.bits)
+        } else {
+            quad_text(alloc, self.bits)
+        }
     }
 }
 

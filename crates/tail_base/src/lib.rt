@@ -6,6 +6,7 @@ mod addr;
 mod ascii;
 mod bytes;
 mod endpoint;
+mod groups;
 mod items;
 mod key;
 mod label;
@@ -14,6 +15,7 @@ mod memory;
 mod moment;
 mod naming;
 mod prefix;
+mod quad;
 mod tag;
 mod text;
 

@@ -55,7 +55,7 @@ register_at d = do
   no_expiry ← absent field.Expiry (member_of (codes "Expiry") d)
   no_flag ← absent field.Ephemeral (member_of (codes "Ephemeral") d)
   no_host ← absent field.Hostinfo (member_of (codes "Hostinfo") d)
-  Ok (record { node = node; old = None; auth = auth; expiry = None; ephemeral = false; host = []; routes = []; tags = [] })
+  Ok (record { node = node; auth = auth })
 
 -- the registration that a body is, or its first fault
 abbrev pub register_of_body : List ℕ → Result Register WireFault

@@ -7,24 +7,14 @@ use crate::body::{inner_text_of, key_of, member, unread};
 use crate::fault::{Field, WireFault};
 use serde_json::Value;
 use std::alloc::Global;
-use tail_base::{Items, Moment, NodeKey, Prefix, Tag, Text};
+use tail_base::{NodeKey, Text};
 
-/// What a machine sends to register (`tailcfg.RegisterRequest`).
+/// What a machine sends to register (`tailcfg.RegisterRequest`), as far as it is read.
 #[derive(Drop)]
 pub struct Register {
     pub node: NodeKey,
-    /// The node key that it had, where it takes a new one.
-    pub old: Option<NodeKey>,
-    /// The text of a pre-auth key, or empty.
+    /// The text of a pre-auth key.
     pub auth: Text,
-    pub expiry: Option<Moment>,
-    pub ephemeral: bool,
-    /// The name of its host, as the machine has it.
-    pub host: Text,
-    /// The routes that it advertises.
-    pub routes: Items<Prefix>,
-    /// The tags that it asks for.
-    pub tags: Items<Tag>,
 }
 
 #[tactic(auto, unfolding(crate::specs::Register::register_at))]
@@ -37,16 +27,7 @@ fn register_of(alloc: Global, body: &Value) -> Result<Register, WireFault>
     unread(Field::Expiry, member(body, "Expiry"))?;
     unread(Field::Ephemeral, member(body, "Ephemeral"))?;
     unread(Field::Hostinfo, member(body, "Hostinfo"))?;
-    Ok(Register {
-        node,
-        old: None,
-        auth,
-        expiry: None,
-        ephemeral: false,
-        host: Text::new(alloc),
-        routes: Items::new(alloc),
-        tags: Items::new(alloc),
-    })
+    Ok(Register { node, auth })
 }
 
 /// The registration that a body is, or its first fault in the order of the members `NodeKey`,

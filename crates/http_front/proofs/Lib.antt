@@ -1,0 +1,6 @@
+pub mod Streams
+pub mod Targets
+pub mod PathLemmas
+pub mod MethodLemmas
+pub mod Heads
+pub mod Looks

@@ -1,0 +1,22 @@
+//! HTTP/1.1 at the edge: which requests a byte string is, and the bytes of an answer.
+#![tactic(auto)]
+
+mod answering;
+mod buffer;
+mod cutting;
+mod head;
+mod law;
+mod lines;
+mod looking;
+mod request;
+mod taking;
+mod target;
+
+pub use answering::{no_memory_answer, plain_answer};
+pub use buffer::Buffer;
+pub use law::one_reading;
+pub use request::{Request, Taken};
+pub use taking::take_request;
+
+#[cfg(test)]
+mod tests;

@@ -1,0 +1,12 @@
+pub mod Asks
+pub mod State
+pub mod Steps
+pub mod Profiles
+pub mod Tags
+pub mod Seed
+pub mod Register
+pub mod Step
+pub mod History
+pub mod Seated
+pub mod Carried
+pub mod Opening

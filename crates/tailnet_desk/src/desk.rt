@@ -1,0 +1,254 @@
+//! The desk.
+ghost use Rattle.std.specs.Prelude.{◌≡◌, ◌≤◌, ◌<◌, ℕ, List, Option, Some, None, IfOk, IfErr, IfSome, OnOk, IsErrOf, length, map};
+ghost use Rattle.io_edge.specs.Edge.{IsWhereTold, Rose, StillTells};
+ghost use Rattle.net_rows.specs.Damage.{damage};
+ghost use Rattle.net_rows.specs.Rows.{after};
+ghost use Rattle.tailnet_desk.specs.State.{State, at_moment, all_offline, offline_at, opening};
+ghost use Rattle.tailnet_desk.specs.Steps.{Gives};
+ghost use Rattle.tailnet_desk.specs.Step.{decision, changed};
+ghost use Rattle.tailnet_desk.specs.History.{IsCall};
+ghost use Rattle.tailnet_desk.specs.Carried.{Carried};
+ghost use Rattle.tailnet_desk.specs.Opening.{unserved};
+ghost use Rattle.tailnet_desk.specs.declared.entry.Event.TheVariants as event;
+
+use crate::ask::Ask;
+use crate::decision::{Decision, Stop};
+use crate::life::Snapshot;
+use crate::presence::{MachinePresence, Presence};
+use crate::register::register;
+use crate::reply::{Answer, Refusal, Reply};
+use crate::seed::seed;
+use io_edge::EdgeFault;
+use net_rows::{Change, Damage, Kind, Settings, Shelf, Tables};
+use row_keeper::{Keeper, LoadFault};
+use std::alloc::Global;
+use std::marker::Model;
+use tail_base::{Items, Moment, NoMemory};
+
+/// The Tailnet machine over a keeper. Contracts see it as its state and its keeper, which has the
+/// state's rows, where it tells them.
+#[derive(Drop)]
+pub struct Desk<K: Keeper> {
+    settings: Settings,
+    tables: Tables,
+    presence: Shelf<MachinePresence>,
+    now: Moment,
+    keeper: K,
+}
+
+impl<K: Keeper> Model for Desk<K> {
+    ghost use Rattle.io_edge.specs.Edge.{IsWhereTold};
+    ghost use Rattle.tailnet_desk.specs.State.{State};
+    ghost use Rattle.tailnet_desk.specs.Seated.{Seated};
+
+    ghost Value = { Seated K };
+
+    ghost view = { λ d. record { state = record { settings = d.settings; rows = d.tables.rows; presence = d.presence.0; now = d.now }; keeper = d.keeper } };
+
+    ghost invariant = { λ d. IsWhereTold d.tables.rows (K.told d.keeper) };
+}
+
+/// Why a desk didn't open.
+#[derive(Clone, Copy, Debug, PartialEq, Eq, Drop)]
+pub enum OpenFault {
+    /// The keeper failed.
+    KeeperFault,
+    /// The tables break a rule, or have a form that isn't served: approved routes, extra records or
+    /// a policy.
+    Damaged { kind: Kind, id: u32 },
+    /// Memory was refused.
+    NoMemory,
+}
+
+/// What an ask comes to.
+fn decide(alloc: Global, at: &Snapshot<'_>, ask: &Ask) -> Result<Decision, Stop>
+    ensures value { Gives (λ d. d) result (decision at.now ask.now) }
+{
+    match ask {
+        Ask::Seed { text } => seed(alloc, at, text),
+        Ask::Register { machine, form } => register(alloc, at, machine, form),
+    }
+}
+
+/// The machines with these ids are offline from this moment on. It takes no memory.
+fn go_offline(presence: &mut Shelf<MachinePresence>, ids: &[u32], now: Moment)
+    requires room { length ids.now ≤ presence.old.1 }
+    ensures presence { presence.new.0 ≡ all_offline now presence.old.0 ids.now }
+{
+    for id in ids {
+        presence.put(MachinePresence {
+            id: *id,
+            presence: Presence::OfflineSince(now),
+        });
+    }
+}
+
+/// All machines of the tables, offline since this moment.
+fn all_offline_of(
+    alloc: Global,
+    tables: &Tables,
+    now: Moment,
+) -> Result<Shelf<MachinePresence>, NoMemory>
+    ensures presence { IfOk result (λ made. made.0 ≡ map (λ m. offline_at now m.id) tables.now.rows.machines) }
+{
+    let mut made = Items::new(alloc);
+    for machine in tables.machines() {
+        made.push(MachinePresence {
+            id: machine.id,
+            presence: Presence::OfflineSince(now),
+        })?;
+    }
+    Ok(Shelf::from_items(made))
+}
+
+/// The first form of rows that isn't served yet.
+fn unserved(tables: &Tables) -> Option<Damage>
+    ensures value { result ≡ unserved tables.now.rows }
+{
+    let approved = tables
+        .machines()
+        .iter()
+        .find(|machine| machine.approved.len() > 0);
+    if let Some(machine) = approved {
+        return Some(Damage {
+            kind: Kind::Machine,
+            id: machine.id,
+        });
+    }
+    if tables.extras().len() > 0 {
+        return Some(Damage {
+            kind: Kind::Extras,
+            id: 0,
+        });
+    }
+    if tables.policy().is_some() {
+        return Some(Damage {
+            kind: Kind::Policy,
+            id: 0,
+        });
+    }
+    None
+}
+
+impl<K: Keeper> Desk<K> {
+    /// A desk over the keeper's tables, in which no machine is online.
+    ///
+    /// Where it doesn't open, the keeper comes back.
+    pub fn open(
+        alloc: Global,
+        settings: Settings,
+        mut keeper: K,
+        moment: Moment,
+    ) -> Result<Desk<K>, (OpenFault, K)>
+        ensures state { IfOk result (λ d. d.state ≡ opening settings d.state.rows moment) }
+        ensures rows { IfOk result (λ d. IsWhereTold d.state.rows (K.told keeper)) }
+        ensures served { IfOk result (λ d. unserved d.state.rows ≡ None) }
+        ensures still { IfOk result (λ d. StillTells (K.told keeper) (K.told d.keeper)) }
+        ensures later { IfOk result (λ d. K.faults keeper ≤ K.faults d.keeper) }
+        ensures kept { IfErr result (λ e. StillTells (K.told keeper) (K.told e.1)) }
+        ensures err_later { IfErr result (λ e. K.faults keeper ≤ K.faults e.1) }
+        ensures fault { IfErr result (λ e. e.0 ≡ OpenFault.KeeperFault → Rose (K.faults keeper) (K.faults e.1)) }
+        ensures damaged { IfErr result (λ e. (kind : _) (id : ℕ) → e.0 ≡ OpenFault.Damaged kind id
+            → IfSome (K.told keeper) (λ rows. unserved rows ≡ Some (record { kind = kind; id = id }))) }
+    {
+        let tables = match keeper.load(alloc) {
+            Ok(tables) => tables,
+            Err(LoadFault::Failed) => return Err((OpenFault::KeeperFault, keeper)),
+            Err(LoadFault::Damaged { kind, id }) => {
+                return Err((OpenFault::Damaged { kind, id }, keeper));
+            }
+            Err(LoadFault::NoMemory) => return Err((OpenFault::NoMemory, keeper)),
+        };
+        if let Some(Damage { kind, id }) = unserved(&tables) {
+            return Err((OpenFault::Damaged { kind, id }, keeper));
+        }
+        match all_offline_of(alloc, &tables, moment) {
+            Ok(presence) => Ok(Desk {
+                settings,
+                tables,
+                presence,
+                now: moment,
+                keeper,
+            }),
+            Err(NoMemory) => Err((OpenFault::NoMemory, keeper)),
+        }
+    }
+
+    /// Keeps a change, and answers. It takes all memory before the one commit.
+    fn carry(
+        &mut self,
+        alloc: Global,
+        change: Change,
+        offline: Items<u32>,
+        answer: Answer,
+    ) -> Reply
+        requires sound { damage (after self.old.state.rows change) ≡ None }
+        ensures carried { Carried self.old.state change offline answer result self.new.state (K.faults self.old.keeper) (K.faults self.new.keeper) }
+        ensures later { K.faults self.old.keeper ≤ K.faults self.new.keeper }
+    {
+        if self.tables.reserve(&change).is_err() || self.presence.reserve(offline.len()).is_err() {
+            return Reply::Refused(Refusal::NoMemory);
+        }
+        match self.keeper.commit(alloc, &change) {
+            Ok(()) => {
+                self.tables.apply(change);
+                go_offline(&mut self.presence, offline.as_slice(), self.now);
+                Reply::Done(answer)
+            }
+            Err(EdgeFault::Failed) => Reply::Refused(Refusal::KeeperFault),
+            Err(EdgeFault::NoMemory) => Reply::Refused(Refusal::NoMemory),
+        }
+    }
+
+    /// One event: its reply is the machine's, or want of memory, or a fault of the keeper.
+    pub fn ask(
+        &mut self,
+        alloc: Global,
+        ask: &Ask,
+        moment: Moment,
+        words: Option<[u64; 4]>,
+    ) -> Reply
+        ensures call { IsCall self.old.state (K.faults self.old.keeper) (event.Ask ask.now moment words) result self.new.state (K.faults self.new.keeper) }
+    {
+        self.now = self.now.or_later(moment);
+        let at = Snapshot {
+            settings: &self.settings,
+            tables: &self.tables,
+            presence: self.presence.as_slice(),
+            now: self.now,
+        };
+        match decide(alloc, &at, ask) {
+            Err(Stop::Memory) => Reply::Refused(Refusal::NoMemory),
+            Err(Stop::Refused(refusal)) => Reply::Refused(refusal),
+            Ok(Decision::Only(answer)) => Reply::Done(answer),
+            Ok(Decision::Changes {
+                change,
+                offline,
+                answer,
+            }) => self.carry(alloc, change, offline, answer),
+        }
+    }
+
+    /// The tables, which keep their rules.
+    pub fn tables(&self) -> &Tables
+        ensures rows { result.now.rows ≡ self.entry.now.state.rows }
+        ensures sound { damage self.entry.now.state.rows ≡ None }
+    {
+        &self.tables
+    }
+
+    /// Gives the keeper back.
+    pub fn close(self) -> K
+        ensures value { result ≡ self.keeper }
+        ensures told { IsWhereTold self.state.rows (K.told result) }
+    {
+        let Desk {
+            settings: _,
+            tables: _,
+            presence: _,
+            now: _,
+            keeper,
+        } = self;
+        keeper
+    }
+}

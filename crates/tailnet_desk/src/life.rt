@@ -1,0 +1,67 @@
+//! What an event sees of the state, and which machines are live in it.
+ghost use Rattle.std.specs.Prelude.{◌≡◌};
+ghost use Rattle.std.specs.Option.{option_copied};
+ghost use Rattle.tailnet_desk.specs.State.{State, is_ahead, is_live, presence_of, stays};
+
+use crate::presence::{MachinePresence, Presence};
+use net_rows::{Machine, Settings, SettingsFields, Tables};
+use std::marker::Model;
+use tail_base::Moment;
+
+/// The state at an event's moment, as its decision sees it.
+pub(crate) struct Snapshot<'a> {
+    pub settings: &'a Settings,
+    pub tables: &'a Tables,
+    pub presence: &'a [MachinePresence],
+    pub now: Moment,
+}
+
+impl<'a> Model for Snapshot<'a> {
+    ghost use Rattle.tailnet_desk.specs.State.{State};
+
+    ghost Value = { State };
+
+    ghost view = { λ a. record { settings = a.settings.now; rows = a.tables.now.rows; presence = a.presence.now; now = a.now } };
+}
+
+/// Whether there is no end, or it is still to come.
+pub(crate) fn is_ahead(now: Moment, end: Option<Moment>) -> bool
+    ensures value { result ≡ is_ahead now end }
+{
+    match end {
+        None => true,
+        Some(end) => now.is_before(end),
+    }
+}
+
+fn presence_of(presence: &[MachinePresence], id: u32) -> Option<Presence>
+    ensures value { result ≡ presence_of presence.now id }
+{
+    presence
+        .iter()
+        .find(|held| held.id == id)
+        .map(|held| held.presence)
+}
+
+fn stays(settings: &SettingsFields, now: Moment, presence: Option<Presence>) -> bool
+    ensures value { result ≡ stays settings.now now presence }
+{
+    match presence {
+        None => false,
+        Some(Presence::Online) => true,
+        Some(Presence::OfflineSince(since)) => now.is_before(since.plus(settings.ephemeral_seconds)),
+    }
+}
+
+/// Whether the machine is live.
+pub(crate) fn is_live(at: &Snapshot<'_>, machine: &Machine) -> bool
+    ensures value { result ≡ is_live at.now machine.now }
+{
+    is_ahead(at.now, machine.expiry)
+        && (!machine.ephemeral
+            || stays(
+                at.settings.fields(),
+                at.now,
+                presence_of(at.presence, machine.id),
+            ))
+}
