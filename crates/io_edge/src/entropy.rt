@@ -31,7 +31,8 @@ pub trait Entropy: Sized {
     /// Adds the other's count.
     fn join(&mut self, other: Self)
         ensures same { (k : ℕ) → word self.new k ≡ word self.old k }
-        ensures faults { faults self.new ≡ min (faults self.old + faults other) (2 ^ 64 - 1) };
+        ensures faults { faults self.new ≡ min (faults self.old + faults other) (2 ^ 64 - 1) }
+        ensures later { faults self.old ≤ faults self.new };
 }
 
 /// Random words in memory: it gives its answers in order, and repeats the last.
