@@ -1,4 +1,5 @@
 pub mod Streams
+pub mod Refusals
 pub mod Targets
 pub mod PathLemmas
 pub mod MethodLemmas
