@@ -1,9 +1,12 @@
 pub mod AddrTexts
 pub mod Bits
+pub mod Blocks
+pub mod EndpointTexts
 pub mod GroupTexts
 pub mod Keys
 pub mod Labels
 pub mod Logins
 pub mod Moments
+pub mod PrefixTexts
 pub mod QuadTexts
 pub mod Tags
