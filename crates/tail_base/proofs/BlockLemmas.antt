@@ -88,8 +88,8 @@ overlap_is p q = (to, from)
         let parts = and_parts (beq p.base.v6 q.base.v6 && nat_le p.base.bits (last_of q)) (nat_le q.base.bits (last_of p)) h in
         let front = and_parts (beq p.base.v6 q.base.v6) (nat_le p.base.bits (last_of q)) parts.0 in
         let family = same_family _ _ front.0 in
-        let low = leb-true _ _ front.1 in
-        let high = leb-true _ _ parts.1 in
+        let low = leb-true p.base.bits (last_of q) front.1 in
+        let high = leb-true q.base.bits (last_of p) parts.1 in
         elim (cases_lt p.base.bits q.base.bits) [
           | inl above ↦ (q.base, holds_from p q.base family (omega arith) high, holds_from q q.base refl (omega arith) (base_below q))
           | inr below ↦ (p.base, holds_from p p.base refl (omega arith) (base_below p), holds_from q p.base (sym family) below low)

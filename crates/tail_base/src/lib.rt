@@ -5,6 +5,7 @@
 mod addr;
 mod ascii;
 mod bytes;
+mod civil;
 mod endpoint;
 mod groups;
 mod items;
