@@ -9,6 +9,8 @@ pub mod Labels
 pub mod Logins
 pub mod MomentTexts
 pub mod Moments
+pub mod Numerals
+pub mod Parts
 pub mod PrefixTexts
 pub mod QuadTexts
 pub mod Tags

@@ -15,6 +15,8 @@ mod login;
 mod memory;
 mod moment;
 mod naming;
+mod numerals;
+mod parts;
 mod prefix;
 mod quad;
 mod tag;
