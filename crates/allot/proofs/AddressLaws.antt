@@ -1,23 +1,22 @@
 -- What is known of an address that is allotted.
-use Rattle.std.proofs.Common.{◌≡◌, ◌≢◌, ◌<◌, ◌≤◌, ◌+◌, ◌-◌, ◌*◌, ◌/◌, ◌%◌, ◌^◌, ℕ, Bool, true, false, not, ◌&&◌, ◌||◌, ◌==◌, List, Option, Some, None, nat_le, nat_lt, arith, sym, ap, ◌∙◌, refl}
+use Rattle.std.proofs.Common.{◌≡◌, ◌≢◌, ◌<◌, ◌≤◌, ◌+◌, ℕ, Bool, true, false, not, ◌&&◌, ◌||◌, ◌==◌, List, Option, Some, None, nat_le, nat_lt, arith, sym, ap, ◌∙◌, refl, lit<, lit≤}
 use Rattle.std.specs.Prelude.{Contains}
 use Rattle.std.specs.Bool.{beq}
 use Rattle.std.specs.Cmp.{booleans_Decides}
-use Rattle.std.proofs.lemmas.Bool.{leb-true, ltb-true}
+use Rattle.std.specs.Option.{option_map}
 use Rattle.std.proofs.lemmas.Bool.Decides.{nat_tests}
-use Rattle.std.proofs.Math.Nat.{mul_assoc}
-use Rattle.std.proofs.lemmas.Nat.{pow-add}
-use Rattle.std.proofs.Math.Pow.{pow_pos}
-use Rattle.tail_base.specs.Bits.{Address, Block, IsBlock, size_of, family_bits, family_size}
+use Rattle.tail_base.specs.Bits.{Address, Block, IsBlock, size_of}
 use Rattle.net_rows.specs.Damage.{address_eq}
-use Rattle.net_rows.specs.Limits.{is_inside}
-use Rattle.net_rows.specs.Settings.{is_within}
+use Rattle.net_rows.specs.Limits.{is_inside, tailnet_v4, tailnet_v6}
+use Rattle.net_rows.specs.Settings.{is_within, AreSettings}
+use Rattle.net_rows.proofs.Bools.{both, le_of, lt_of}
+use Rattle.net_rows.proofs.Members.{list_any_member}
+use Rattle.net_rows.specs.declared.settings.SettingsFields.{SettingsFields}
 use Rattle.net_rows.specs.declared.machine.Machine.{Machine}
-use Rattle.allot.specs.Addresses.{is_reserved, has_address, is_free, address_at, free_address}
+use Rattle.allot.specs.Addresses.{is_reserved, is_free, address_at, free_address}
 use Rattle.allot.proofs.AddressLemmas.{free_at, free_bits}
-use Rattle.allot.proofs.PrefixLemmas.{aligned_fits}
+use Rattle.allot.proofs.PrefixLemmas.{within_ends, inside_is}
 use Rattle.allot.proofs.SearchLemmas.{least_from-passes, least_from-within, least_from-least, least_from-none}
-use Rattle.allot.proofs.Members.{both, neither, not_true, list_any_member, mapped, mapped_none}
 
 -- The address is in the prefix, is neither its first nor its last, isn't reserved, and no machine has it.
 pub record IsFree (p : Block) (machines : List Machine) (a : Address) : Type 0 where
@@ -28,8 +27,22 @@ pub record IsFree (p : Block) (machines : List Machine) (a : Address) : Type 0 w
   pub v4_fresh : (m : Machine) → Contains machines m → m.v4 ≢ a
   pub v6_fresh : (m : Machine) → Contains machines m → m.v6 ≢ a
 
+neither : (a b : Bool) → (a || b) ≡ false → (a ≡ false) × (b ≡ false)
+neither false false h = (refl, refl)
+neither false true h = absurd (cc)
+neither true b h = absurd (cc)
+
+-- what a map of an option holds is the image of what the option holds
+mapped : {A B : Type 0} (f : A → B) (o : Option A) (b : B) → option_map f o ≡ Some b → (a : A) × (o ≡ Some a) × (f a ≡ b)
+mapped f None b h = absurd (cc)
+mapped f (Some a) b h = (a, refl, cc)
+
+mapped_none : {A B : Type 0} (f : A → B) (o : Option A) → option_map f o ≡ None → o ≡ None
+mapped_none f None h = refl
+mapped_none f (Some a) h = absurd (cc)
+
 -- an address is equal to itself
-pub address_eq-same : (a : Address) → address_eq a a ≡ true
+address_eq-same : (a : Address) → address_eq a a ≡ true
 address_eq-same a =
     let family : beq a.v6 a.v6 ≡ true = elim a.v6 as (λ v. beq v v ≡ true) [ true ↦ refl | false ↦ refl ] in
     let bits : (a.bits == a.bits) ≡ true = grind arith in
@@ -66,8 +79,8 @@ free_is p machines a family low high free =
     }
 
 -- the address that is found is free
-pub address_free : (p : Block) (machines : List Machine) (a : Address) → free_address p machines ≡ Some a → IsFree p machines a
-address_free p machines a h =
+pub address_fresh : (p : Block) (machines : List Machine) (a : Address) → free_address p machines ≡ Some a → IsFree p machines a
+address_fresh p machines a h =
     let got = mapped (address_at p) (free_bits p machines) a h in
     let passes : free_at p machines got.0 ≡ true = least_from-passes (free_at p machines) (size_of p) p.base.bits got.0 got.1 in
     let within : (p.base.bits ≤ got.0) × (got.0 < p.base.bits + size_of p) = least_from-within (free_at p machines) (size_of p) p.base.bits got.0 got.1 in
@@ -88,43 +101,34 @@ pub address_none : (p : Block) (machines : List Machine) → free_address p mach
 address_none p machines h n low high =
     least_from-none (free_at p machines) (size_of p) p.base.bits (mapped_none (address_at p) (free_bits p machines) h) n low high
 
--- the multiple of s after b
-next_multiple : (b s q r : ℕ) → 0 < s → b % s ≡ 0 → s ≡ q * r → b + s ≡ q * (r * (b / s + 1))
-next_multiple b s q r pos aligned is =
-    let whole : s * (b / s) ≡ b = omega arith in
-    let more : s * (b / s + 1) ≡ b + s = grind arith in
-    sym more ∙ ap (λ k. k * (b / s + 1)) is ∙ mul_assoc q r (b / s + 1)
-
--- a prefix in another ends where that ends, or before
-within_ends : (outer p : Block) → IsBlock outer → IsBlock p → outer.base.v6 ≡ p.base.v6 → outer.len ≤ p.len
-    → p.base.bits < outer.base.bits + size_of outer → p.base.bits + size_of p ≤ outer.base.bits + size_of outer
-within_ends outer p o b family len below =
-    let width : family_bits outer.base.v6 ≡ family_bits p.base.v6 = ap family_bits family in
-    let cut : (family_bits p.base.v6 - p.len) + (p.len - outer.len) ≡ family_bits outer.base.v6 - outer.len = omega (arith, b.fits) in
-    let pieces : size_of outer ≡ size_of p * 2 ^ (p.len - outer.len) = sym (ap (λ k. 2 ^ k) cut) ∙ pow-add 2 (family_bits p.base.v6 - p.len) (p.len - outer.len) in
-    let end : outer.base.bits + size_of outer ≡ size_of p * (2 ^ (p.len - outer.len) * (outer.base.bits / size_of outer + 1)) =
-    next_multiple outer.base.bits (size_of outer) (size_of p) _ (pow_pos _) o.aligned pieces in
-    rw end (aligned_fits p.base.bits (size_of p) _ (pow_pos _) b.aligned (rw end at below))
-
-inside_is : (outer : Block) (a : Address) → outer.base.v6 ≡ a.v6 → outer.base.bits ≤ a.bits → a.bits < outer.base.bits + size_of outer → is_inside outer a ≡ true
-inside_is outer a family low high =
-    let one : beq outer.base.v6 a.v6 ≡ true = (booleans_Decides outer.base.v6 a.v6).1 family in
-    let two : nat_le outer.base.bits a.bits ≡ true = grind (arith, nat_tests) in
-    let three : nat_lt a.bits (outer.base.bits + size_of outer) ≡ true = grind (arith, nat_tests) in
-    rw (one, two, three) refl
-
 -- the address that is found in a prefix lies in the prefix around it
 pub address_inside : (outer p : Block) (machines : List Machine) (a : Address) → IsBlock outer → IsBlock p → is_within outer p ≡ true
     → free_address p machines ≡ Some a → is_inside outer a ≡ true
 address_inside outer p machines a o b within h =
-    let free = address_free p machines a h in
+    let free = address_fresh p machines a h in
     let two = both (nat_le outer.len p.len) _ within in
     let rest = both (beq outer.base.v6 p.base.v6 && nat_le outer.base.bits p.base.bits) (nat_lt p.base.bits (outer.base.bits + size_of outer)) two.1 in
     let first = both (beq outer.base.v6 p.base.v6) (nat_le outer.base.bits p.base.bits) rest.0 in
     let family : outer.base.v6 ≡ p.base.v6 = (booleans_Decides outer.base.v6 p.base.v6).0 first.0 in
-    let len : outer.len ≤ p.len = leb-true _ _ two.0 in
-    let low : outer.base.bits ≤ p.base.bits = leb-true _ _ first.1 in
-    let below : p.base.bits < outer.base.bits + size_of outer = ltb-true _ _ rest.1 in
+    let len : outer.len ≤ p.len = le_of _ _ two.0 in
+    let low : outer.base.bits ≤ p.base.bits = le_of _ _ first.1 in
+    let below : p.base.bits < outer.base.bits + size_of outer = lt_of _ _ rest.1 in
     let end : p.base.bits + size_of p ≤ outer.base.bits + size_of outer = within_ends outer p o b family len below in
     let high : a.bits < outer.base.bits + size_of outer = omega (arith, free.before_last) in
     inside_is outer a (family ∙ sym free.family) (omega (arith, free.after_first)) high
+
+-- the prefixes of the tailnet are prefixes
+pub tailnet_v4_block : IsBlock tailnet_v4
+tailnet_v4_block = record { in_family = lit< tt; fits = lit≤ tt; aligned = refl }
+
+pub tailnet_v6_block : IsBlock tailnet_v6
+tailnet_v6_block = record { in_family = lit< tt; fits = lit≤ tt; aligned = refl }
+
+-- an address of a set prefix is the tailnet's
+pub v4_inside : (s : SettingsFields) (machines : List Machine) (a : Address) → AreSettings s → IsBlock s.prefix_v4
+    → free_address s.prefix_v4 machines ≡ Some a → is_inside tailnet_v4 a ≡ true
+v4_inside s machines a rules block h = address_inside tailnet_v4 s.prefix_v4 machines a tailnet_v4_block block rules.prefix_v4 h
+
+pub v6_inside : (s : SettingsFields) (machines : List Machine) (a : Address) → AreSettings s → IsBlock s.prefix_v6
+    → free_address s.prefix_v6 machines ≡ Some a → is_inside tailnet_v6 a ≡ true
+v6_inside s machines a rules block h = address_inside tailnet_v6 s.prefix_v6 machines a tailnet_v6_block block rules.prefix_v6 h

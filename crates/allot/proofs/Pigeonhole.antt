@@ -1,13 +1,11 @@
 -- Of more values that differ than a list has, one isn't in the list.
-use Rattle.std.proofs.Common.{◌≡◌, ◌<◌, ◌≤◌, ◌+◌, ℕ, zero, suc, Bool, true, false, List, [], ◌∷◌, length, map, ◌⊎◌, inl, inr, arith, sym, ap, ◌∙◌, refl}
+use Rattle.std.proofs.Common.{◌≡◌, ◌<◌, ◌≤◌, ◌+◌, ℕ, zero, suc, true, false, List, [], ◌∷◌, length, inl, inr, arith, sym, ap, ◌∙◌, refl}
 use Rattle.std.specs.Cmp.{IsEquivalence}
-use Rattle.std.specs.List.{list_any, IsDistinct, AllByRecursion}
+use Rattle.std.specs.List.{IsDistinct, AllByRecursion}
 use Rattle.std.specs.Set.{is_member}
 use Rattle.std.specs.Str.{bytes_eq}
-use Rattle.std.proofs.lemmas.Slice.Eq.{bytes_eq-Decides}
 use Rattle.std.proofs.lemmas.Map.Made.{length-le_from_is_member}
-use Rattle.allot.proofs.Members.{truth}
-use Rattle.allot.proofs.SearchLemmas.{equal_or_below}
+use Rattle.net_rows.proofs.Bools.{truth, bytes_of, bytes_is}
 
 -- the values of so many numbers, from the first on
 abbrev pub values : (ℕ → List ℕ) → ℕ → ℕ → List (List ℕ)
@@ -18,23 +16,17 @@ length-values : (f : ℕ → List ℕ) (more n : ℕ) → length (values f more 
 length-values f zero n = refl
 length-values f (suc more) n = ap suc (length-values f more (n + 1))
 
-equal : (a b : List ℕ) → bytes_eq a b ≡ true → a ≡ b
-equal a b = (bytes_eq-Decides a b).0
-
-is_equal : (a b : List ℕ) → a ≡ b → bytes_eq a b ≡ true
-is_equal a b = (bytes_eq-Decides a b).1
-
 pub bytes_eq_equiv : IsEquivalence bytes_eq
 bytes_eq_equiv = record {
-  refl = λ x. is_equal x x refl;
+  refl = λ x. bytes_is x x refl;
   symm = λ x y. elim (truth (bytes_eq x y)) [
-    | inl e ↦ e ∙ sym (is_equal y x (sym (equal x y e)))
+    | inl e ↦ e ∙ sym (bytes_is y x (sym (bytes_of x y e)))
     | inr e ↦ elim (truth (bytes_eq y x)) [
-      | inl f ↦ let bad : true ≡ false = sym (is_equal x y (sym (equal y x f))) ∙ e in absurd (cc)
+      | inl f ↦ let bad : true ≡ false = sym (bytes_is x y (sym (bytes_of y x f))) ∙ e in absurd (cc)
       | inr f ↦ e ∙ sym f
     ]
   ];
-  congr = λ x y z e. ap (λ k. bytes_eq k z) (equal x y e);
+  congr = λ x y z e. ap (λ k. bytes_eq k z) (bytes_of x y e);
 }
 
 -- The numbers give different values.
@@ -47,7 +39,7 @@ differs_from_later f end a n small zero m lt fits = tt
 differs_from_later f end a n small (suc more) m lt fits = (
   elim (truth (bytes_eq (f n) (f m))) [
     | inl e ↦
-        let same : n ≡ m = a.apart n m small (omega arith) (equal (f n) (f m) e) in absurd (omega arith)
+        let same : n ≡ m = a.apart n m small (omega arith) (bytes_of (f n) (f m) e) in absurd (omega arith)
     | inr e ↦ e
   ],
   differs_from_later f end a n small more (m + 1) (omega arith) (omega arith),
@@ -68,7 +60,7 @@ values_in : (f : ℕ → List ℕ) (held : List (List ℕ)) (more n : ℕ)
 values_in f held zero n all q h = absurd (cc)
 values_in f held (suc more) n all q h =
     elim (truth (bytes_eq q (f n))) [
-      | inl e ↦ let same : q ≡ f n = equal q (f n) e in rw same (all n (omega arith) (omega arith))
+      | inl e ↦ let same : q ≡ f n = bytes_of q (f n) e in rw same (all n (omega arith) (omega arith))
       | inr e ↦ values_in f held more (n + 1) (λ k low high. all k (omega arith) (omega arith)) q (rw e at h)
     ]
 

@@ -1,10 +1,7 @@
 -- The search for the least number that passes a test.
 use Rattle.std.proofs.Common.{◌≡◌, ◌<◌, ◌≤◌, ◌+◌, ◌-◌, ℕ, zero, suc, Bool, true, false, Option, Some, None, ◌⊎◌, inl, inr, arith, sym, ap, ◌∙◌, refl}
+use Rattle.net_rows.proofs.Bools.{truth}
 use Rattle.allot.specs.Addresses.{least_from}
-
-pub truth : (b : Bool) → (b ≡ true) ⊎ (b ≡ false)
-truth true = inl refl
-truth false = inr refl
 
 -- a number that is no greater is equal, or at least one less
 pub equal_or_below : (a b : ℕ) → a ≤ b → (a ≡ b) ⊎ (a + 1 ≤ b)

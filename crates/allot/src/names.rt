@@ -2,7 +2,7 @@
 ghost use Rattle.std.specs.Prelude.{◌≡◌, ◌≤◌, length, IfOk};
 ghost use Rattle.tail_base.specs.Labels.{numbered_label};
 ghost use Rattle.net_rows.specs.Limits.{machine_limit};
-ghost use Rattle.allot.specs.Names.{has_name, free_number, free_name};
+ghost use Rattle.allot.specs.Names.{has_name, free_number, free_label, free_name};
 
 use net_rows::{Machine, Tables};
 use std::alloc::Global;
@@ -30,17 +30,28 @@ fn numbered(alloc: Global, machines: &[Machine], base: &Label) -> Result<Label, 
     unreachable!()
 }
 
+/// The label, or where a machine has it, the label with the least number from 1 on with which no
+/// machine has it.
+pub(crate) fn free_label(
+    alloc: Global,
+    machines: &[Machine],
+    base: Label,
+) -> Result<Label, NoMemory>
+    requires few { length machines.now ≤ machine_limit }
+    ensures value { IfOk result (λ name. name ≡ free_label machines.now base) }
+{
+    if has_name(machines, &base) {
+        numbered(alloc, machines, &base)
+    } else {
+        Ok(base)
+    }
+}
+
 /// The name for a new machine of this host name: the label that the host name gives, or where a machine
 /// has it, that label with the least number from 1 on with which no machine has it. There always is one.
 #[tactic(auto, using(crate::proofs::TableLemmas::few_machines))]
 pub fn free_name(alloc: Global, tables: &Tables, host: &[u8]) -> Result<Label, NoMemory>
     ensures value { IfOk result (λ name. name ≡ free_name tables.now.rows.machines host.now) }
 {
-    let base = Label::of_host(alloc, host)?;
-    let machines = tables.machines();
-    if has_name(machines, &base) {
-        numbered(alloc, machines, &base)
-    } else {
-        Ok(base)
-    }
+    free_label(alloc, tables.machines(), Label::of_host(alloc, host)?)
 }

@@ -1,4 +1,6 @@
 pub mod Streams
+pub mod Refusals
+pub mod Serving
 pub mod Targets
 pub mod PathLemmas
 pub mod MethodLemmas

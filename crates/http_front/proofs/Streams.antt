@@ -168,3 +168,17 @@ Leads-append bytes (a ∷ qs) rest more x = (x.0 ++ more, IsWhole-append bytes a
 pub Leads-snoc : (bytes : List ℕ) (qs : List Request) (middle : List ℕ) (a : Request) (rest : List ℕ) → Leads bytes qs middle → IsWhole middle a rest → Leads bytes (qs ++ a ∷ []) rest
 Leads-snoc bytes [] middle a rest x y = (rest, subst (λ b. IsWhole b a rest) (sym x) y, refl)
 Leads-snoc bytes (c ∷ qs) middle a rest x y = (x.0, x.1, Leads-snoc x.0 qs middle a rest x.2 y)
+
+-- what was served of a byte string is the beginning of its one reading
+pub Leads_first : (bytes : List ℕ) (served requests : List Request) (rest : List ℕ) (tail : Tail) → Leads bytes served rest → Splits bytes requests tail
+    → (others : List Request) × (requests ≡ served ++ others) × Splits rest others tail
+Leads_first bytes [] requests rest tail x y = (requests, refl, subst (λ b. Splits b requests tail) x y)
+Leads_first bytes (a ∷ served) [] rest tail x y = absurd (whole_no_tail bytes a x.0 tail x.1 (subst (λ r. IsTail r tail) (sym y.1) y.2))
+Leads_first bytes (a ∷ served) (c ∷ requests) rest tail x y =
+    let one = IsWhole_unique bytes a c x.0 y.1.0 x.1 y.1.1 in
+    let below = Leads_first x.0 served requests rest tail x.2 (y.0, subst (λ m. Leads m requests y.0) (sym one.1) y.1.2, y.2) in
+    (below.0, ap (λ c. c ∷ requests) (sym one.0) ∙ ap (λ qs. a ∷ qs) below.1, below.2)
+
+-- whole requests with nothing behind them have no other reading
+pub Leads_whole : (bytes : List ℕ) (requests others : List Request) (tail : Tail) → Leads bytes requests [] → Splits bytes others tail → (others ≡ requests) × (tail ≡ at_end)
+Leads_whole bytes requests others tail x y = Splits_unique bytes others requests tail at_end y ([], x, refl)

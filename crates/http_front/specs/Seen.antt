@@ -4,6 +4,7 @@ use Rattle.httparse.specs.declared.spans.HeaderSpan.{HeaderSpan}
 use Rattle.httparse.specs.declared.spans.RequestSpans.{RequestSpans}
 use Rattle.httparse.specs.Grammar.{RequestHead}
 use Rattle.httparse.specs.Spans.{span_bytes, header_bytes}
+use Rattle.http_front.specs.Lines.{values_of}
 use Rattle.http_front.specs.Requests.{Head, head_of, length_of, head_limit, HasHead, IsUnfinished, IsBad}
 use Rattle.http_front.specs.declared.looking.Look.{Look}
 use Rattle.http_front.specs.declared.looking.Look.TheVariants as look
@@ -16,6 +17,10 @@ seen buffer headers r = record {
   minor = r.version;
   lines = map (header_bytes buffer) (take r.headers headers);
 }
+
+-- the values of the lines of that name that the spans show
+abbrev pub values_seen : List ℕ → List HeaderSpan → List ℕ → List (List ℕ)
+values_seen buffer headers name = values_of name (map (header_bytes buffer) headers)
 
 -- the spans are those of a head whose body is of that size, and all of it is there
 pub record IsSeen (bytes : List ℕ) (headers : List HeaderSpan) (r : RequestSpans) (size : ℕ) : Type 0 where

@@ -1,5 +1,5 @@
 //! Bytes that were read and not yet served.
-ghost use Rattle.std.specs.Prelude.{◌≡◌, ◌≤◌, ◌==◌, [], length, drop, vec_len, IfOk};
+ghost use Rattle.std.specs.Prelude.{◌≡◌, ◌≤◌, ◌↔◌, [], drop, vec_len, IfOk, IsTrue};
 ghost use Rattle.io_edge.specs.Edge.{Rose};
 ghost use Rattle.http_front.specs.Taking.{Steps, Refills};
 ghost use Rattle.http_front.specs.declared.buffer.Refill.TheVariants.{Failed};
@@ -98,13 +98,13 @@ impl Buffer {
 
     /// Whether no byte is held.
     pub fn is_empty(&self) -> bool
-        ensures value { result ≡ (length self.now == 0) }
+        ensures value { IsTrue result ↔ (self.now ≡ []) }
     {
         self.at == self.bytes.len()
     }
 
     /// Serves the request that the bytes begin with, if it is whole.
-    pub fn step(&mut self, alloc: Global) -> Step
+    pub(crate) fn step(&mut self, alloc: Global) -> Step
         ensures steps { Steps self.old self.new result }
     {
         let held = &self.bytes[self.at..];
@@ -122,7 +122,7 @@ impl Buffer {
     }
 
     /// Reads a piece behind the bytes held.
-    pub fn refill<I: Source>(&mut self, input: &mut I) -> Refill
+    pub(crate) fn refill<I: Source>(&mut self, input: &mut I) -> Refill
         ensures refills { Refills (I.left input.old) (I.left input.new) self.old self.new result }
         ensures later { I.read_faults input.old ≤ I.read_faults input.new }
         ensures cause { result ≡ Failed → Rose (I.read_faults input.old) (I.read_faults input.new) }

@@ -1,11 +1,10 @@
 //! How long the body behind a head is, or why the head is refused.
-ghost use Rattle.std.specs.Prelude.{◌≡◌, ◌≤◌, length, map, codes, true};
+ghost use Rattle.std.specs.Prelude.{◌≡◌, ◌≤◌, length, codes, true};
 ghost use Rattle.std.specs.Str.{all_ascii_digits};
 ghost use Rattle.std.specs.Str.Parse.{digits_value};
-ghost use Rattle.httparse.specs.Spans.{header_bytes};
-ghost use Rattle.http_front.specs.Lines.{values_of, length_value, limited, body_length};
+ghost use Rattle.http_front.specs.Lines.{length_value, limited, body_length};
 ghost use Rattle.http_front.specs.Requests.{wants_length, length_of};
-ghost use Rattle.http_front.specs.Seen.{seen};
+ghost use Rattle.http_front.specs.Seen.{seen, values_seen};
 
 use crate::lines::{all_named_are, bytes_of, count_named, first_named};
 use httparse::spans::{HeaderSpan, RequestSpans};
@@ -66,7 +65,7 @@ fn limited(value: Option<u64>) -> Result<u64, u16>
 #[tactic(auto, unfolding(crate::specs::Lines::body_length))]
 fn body_length(buffer: &[u8], headers: &[HeaderSpan], wanted: bool) -> Result<u64, u16>
     ensures value { result
-        ≡ body_length wanted (values_of (codes "Content-Length") (map (header_bytes buffer.now) headers.now)) }
+        ≡ body_length wanted (values_seen buffer.now headers.now (codes "Content-Length")) }
 {
     match first_named(buffer, headers, b"Content-Length") {
         None if wanted => Err(411),

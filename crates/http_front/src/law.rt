@@ -1,11 +1,33 @@
-//! What the definition of requests and tails comes to.
-ghost use Rattle.std.specs.Prelude.{◌≡◌, ℕ, List};
+//! What the definition of the requests of a byte string comes to. None of these functions does
+//! anything: each states a law.
+ghost use Rattle.std.specs.Prelude.{◌≡◌, ℕ, List, [], ◌++◌};
 ghost use Rattle.http_front.specs.declared.request.Request.{Request};
-ghost use Rattle.http_front.specs.Requests.{Tail, Splits};
+ghost use Rattle.http_front.specs.Requests.{Tail, at_end, bad, Leads, Splits};
 
 /// A byte string is whole requests and a tail in at most one way.
 pub fn one_reading()
     ensures one { (bytes : List ℕ) (requests others : List Request) (tail other : Tail)
         → Splits bytes requests tail → Splits bytes others other
         → (requests ≡ others) × (tail ≡ other) }
+{}
+
+/// Whole requests with nothing behind them are read as these requests and the end.
+pub fn whole_requests()
+    ensures all { (bytes : List ℕ) (requests others : List Request) (tail : Tail)
+        → Leads bytes requests [] → Splits bytes others tail
+        → (others ≡ requests) × (tail ≡ at_end) }
+{}
+
+/// What was served of a byte string is the beginning of its one reading, and what is left is read
+/// as the rest of it.
+pub fn served_first()
+    ensures first { (bytes : List ℕ) (served requests : List Request) (rest : List ℕ) (tail : Tail)
+        → Leads bytes served rest → Splits bytes requests tail
+        → (others : List Request) × (requests ≡ served ++ others) × Splits rest others tail }
+{}
+
+/// A refusal stays, whatever bytes come behind: it doesn't matter in which pieces they are read.
+pub fn refusals_stay()
+    ensures stays { (bytes more : List ℕ) (requests : List Request) (status : ℕ)
+        → Splits bytes requests (bad status) → Splits (bytes ++ more) requests (bad status) }
 {}

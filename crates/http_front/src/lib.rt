@@ -14,7 +14,7 @@ mod target;
 
 pub use answering::{no_memory_answer, plain_answer};
 pub use buffer::Buffer;
-pub use law::one_reading;
+pub use law::{one_reading, refusals_stay, served_first, whole_requests};
 pub use request::{Request, Taken};
 pub use taking::take_request;
 

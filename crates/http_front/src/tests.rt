@@ -121,6 +121,36 @@ fn pipelined(rt: HostRuntime) -> Result<(), Fail> {
 }
 
 #[test]
+fn a_fault_loses_nothing(rt: HostRuntime) -> Result<(), Fail> {
+    let alloc = rt.alloc();
+    let bytes = Bytes::from_vec(Vec::from_slice(alloc, b"GET / HTTP/1.1\r\nHost:\r\n\r\nGET")?);
+    let mut source = MemorySource::new(bytes, Items::from_vec(vec![in alloc; 1, 3]?));
+    let Ok(mut buffer) = Buffer::new(alloc) else {
+        return Ok(());
+    };
+    assert!(rt;
+        matches!(
+            take_request(alloc, &mut source, &mut buffer),
+            Taken::ReadFault
+        )
+    );
+    assert!(rt;
+        matches!(
+            take_request(alloc, &mut source, &mut buffer),
+            Taken::Request(_)
+        )
+    );
+    assert!(rt;
+        matches!(
+            take_request(alloc, &mut source, &mut buffer),
+            Taken::ReadFault
+        )
+    );
+    assert!(rt; matches!(take_request(alloc, &mut source, &mut buffer), Taken::Cut));
+    Ok(())
+}
+
+#[test]
 fn answers(rt: HostRuntime) -> Result<(), Fail> {
     let Ok(answer) = plain_answer(rt.alloc(), 404, b"{\"error\":\"NoPath\"}", true) else {
         return Ok(());

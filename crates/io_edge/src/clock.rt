@@ -10,7 +10,7 @@ pub trait Clock: Sized {
     /// Answer number k from now on, where it is told.
     ghost answer: { Self → ℕ → Option ℤ };
 
-    /// Seconds since 1970.
+    /// Seconds since 1970-01-01T00:00:00Z.
     fn seconds(&mut self) -> i64
         ensures took { Took (answer self.old) (answer self.new) result };
 
@@ -41,7 +41,6 @@ impl MemoryClock {
 impl Clock for MemoryClock {
     ghost answer = { λ s k. Some (slice_index_or s.answers (min (s.at + k) (length s.answers - 1)) (pos 0)) };
 
-    /// Seconds since 1970.
     fn seconds(&mut self) -> i64 {
         let now = self.answers.as_slice()[self.at];
         if self.at + 1 < self.answers.len() {

@@ -83,7 +83,8 @@ pub trait Doors {
         ensures coming { IsToldOfEach (map (λ d. Self.Door.coming d) doors.items) (coming self.new) }
         ensures finished { IsToldOfEach (map (λ d. Self.Door.finished d) doors.items) (finished self.new) }
         ensures asked { asked self.new ≡ asked self.old }
-        ensures faults { faults self.new ≡ min (faults self.old + sum_by (λ d. Self.Door.faults d) doors.items) (2 ^ 64 - 1) };
+        ensures faults { faults self.new ≡ min (faults self.old + sum_by (λ d. Self.Door.faults d) doors.items) (2 ^ 64 - 1) }
+        ensures later { faults self.old ≤ faults self.new };
 }
 
 /// The door of a program with no doors: nothing comes, and each call that can fail does.
@@ -157,6 +158,7 @@ impl Doors for NoDoors {
 
     fn close(&mut self, doors: Vec<NoDoor>)
         ensures faults { ⟦<NoDoors as Doors>⟧.faults self.new ≡ min (⟦<NoDoors as Doors>⟧.faults self.old + sum_by (λ d. ⟦<NoDoor as Door>⟧.faults d) doors.items) (2 ^ 64 - 1) }
+        ensures later { ⟦<NoDoors as Doors>⟧.faults self.old ≤ ⟦<NoDoors as Doors>⟧.faults self.new }
     {
         let mut all = self.failed;
         for door in &doors {

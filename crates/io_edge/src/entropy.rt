@@ -15,6 +15,7 @@ pub trait Entropy: Sized {
     /// How often a draw or a split has failed.
     ghost faults: { Self → ℕ };
 
+    /// Draws four words. A draw that fails leaves the words that come as they are.
     fn words(&mut self) -> Result<[u64; 4], Failed>
         ensures told { IfOk result (λ w. Took (word self.old) (word self.new) w) }
         ensures err { OnErr result ((k : ℕ) → word self.new k ≡ word self.old k) }
@@ -30,7 +31,8 @@ pub trait Entropy: Sized {
     /// Adds the other's count.
     fn join(&mut self, other: Self)
         ensures same { (k : ℕ) → word self.new k ≡ word self.old k }
-        ensures faults { faults self.new ≡ min (faults self.old + faults other) (2 ^ 64 - 1) };
+        ensures faults { faults self.new ≡ min (faults self.old + faults other) (2 ^ 64 - 1) }
+        ensures later { faults self.old ≤ faults self.new };
 }
 
 /// Random words in memory: it gives its answers in order, and repeats the last.
@@ -43,6 +45,8 @@ pub struct MemoryEntropy {
 }
 
 impl MemoryEntropy {
+    /// Random words with these answers, of which there is one at least. The calls with the numbers
+    /// in `fails` fail.
     pub fn new(answers: Items<[u64; 4]>, fails: Items<u32>) -> MemoryEntropy
         requires some { 0 < length answers }
         ensures told { (k : ℕ) → ⟦<MemoryEntropy as Entropy>⟧.word result k ≡ Some (slice_index_or answers (min k (length answers - 1)) []) }

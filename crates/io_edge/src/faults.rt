@@ -8,10 +8,12 @@ use tail_base::Items;
 #[derive(Clone, Copy, Debug, PartialEq, Eq)]
 pub struct Failed;
 
-/// The outside failed at this call, or memory was refused.
+/// Why a call of the outside gave nothing.
 #[derive(Clone, Copy, Debug, PartialEq, Eq)]
 pub enum EdgeFault {
+    /// The outside failed at this call.
     Failed,
+    /// Memory was refused.
     NoMemory,
 }
 

@@ -1,5 +1,5 @@
 //! The clock of the system.
-ghost use Rattle.std.specs.Prelude.{None};
+ghost use Rattle.std.specs.Prelude.{◌≡◌, ℕ, None};
 
 use crate::Clock;
 use std::alloc::Global;
@@ -16,7 +16,9 @@ pub struct HostClock<R> {
 
 impl<R: rt::Clock + Copy> HostClock<R> {
     /// The clock that the runtime reads.
-    pub fn new(rt: R) -> HostClock<R> {
+    pub fn new(rt: R) -> HostClock<R>
+        ensures untold { (k : ℕ) → ⟦<HostClock<R> as Clock>⟧.answer result k ≡ None }
+    {
         HostClock { rt, last: 0 }
     }
 }

@@ -13,3 +13,4 @@ pub mod SoundPut
 pub mod SoundRemove
 pub mod SoundRows
 pub mod Sounds
+pub mod SoundGone

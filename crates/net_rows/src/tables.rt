@@ -83,6 +83,15 @@ impl Tables {
         Ok(Tables { lists })
     }
 
+    /// Equal tables of their own.
+    pub fn copy(&self, alloc: Global) -> Result<Tables, NoMemory>
+        ensures rows { IfOk result (λ made. made.rows ≡ self.now.rows) }
+    {
+        Ok(Tables {
+            lists: self.lists.copy(alloc)?,
+        })
+    }
+
     /// The users by id.
     pub fn users(&self) -> &[User]
         ensures value { result.now ≡ self.now.rows.users }

@@ -16,18 +16,6 @@ pub struct MemoryKeeper {
     pub(crate) faults: Faults,
 }
 
-/// Tables of equal rows.
-pub(crate) fn copy_of(alloc: Global, tables: &Tables) -> Result<Tables, NoMemory>
-    ensures rows { IfOk result (λ made. made.rows ≡ tables.now.rows) }
-{
-    let nothing = Change {
-        puts: Items::new(alloc),
-        gone: Items::new(alloc),
-        next: tables.next(),
-    };
-    tables.after(alloc, &nothing)
-}
-
 /// Makes the change where there is memory for it.
 fn make(alloc: Global, tables: &mut Tables, change: &Change) -> Result<(), NoMemory>
     requires sound { damage (after tables.old.rows change.now) ≡ None }
@@ -62,7 +50,7 @@ impl Keeper for MemoryKeeper {
         if self.faults.next() {
             return Err(LoadFault::Failed);
         }
-        match copy_of(alloc, &self.tables) {
+        match self.tables.copy(alloc) {
             Ok(tables) => Ok(tables),
             Err(NoMemory) => Err(LoadFault::NoMemory),
         }

@@ -2,7 +2,7 @@
 ghost use Rattle.std.specs.Prelude.{◌≡◌, ◌∷◌, ◌++◌, [], Some, IfOk, OnOk, OnErr};
 
 use crate::keeper::Keeper;
-use crate::memory_keeper::{MemoryKeeper, copy_of};
+use crate::memory_keeper::MemoryKeeper;
 use crate::opener::Opener;
 use io_edge::{EdgeFault, Faults};
 use net_rows::Tables;
@@ -22,7 +22,12 @@ pub struct MemoryOpener {
 impl MemoryOpener {
     /// An opener of keepers of these tables. Of its own calls those with the numbers `fails` fail, and
     /// of each keeper's those with the numbers `keeper_fails`.
-    pub fn new(alloc: Global, tables: Tables, fails: Items<u32>, keeper_fails: Items<u32>) -> MemoryOpener
+    pub fn new(
+        alloc: Global,
+        tables: Tables,
+        fails: Items<u32>,
+        keeper_fails: Items<u32>,
+    ) -> MemoryOpener
         ensures told { ⟦<MemoryOpener as Opener>⟧.told result ≡ Some tables.rows }
         ensures asked { ⟦<MemoryOpener as Opener>⟧.asked result ≡ Some [] }
         ensures faults { ⟦<MemoryOpener as Opener>⟧.faults result ≡ 0 }
@@ -55,7 +60,7 @@ fn keeper_of(alloc: Global, tables: &Tables, fails: &Items<u32>) -> Result<Memor
     ensures told { IfOk result (λ keeper. ⟦<MemoryKeeper as Keeper>⟧.told keeper ≡ Some tables.now.rows) }
     ensures faults { IfOk result (λ keeper. ⟦<MemoryKeeper as Keeper>⟧.faults keeper ≡ 0) }
 {
-    Ok(MemoryKeeper::new(copy_of(alloc, tables)?, fails.copy(alloc)?))
+    Ok(MemoryKeeper::new(tables.copy(alloc)?, fails.copy(alloc)?))
 }
 
 /// Adds a name to those that were asked for.

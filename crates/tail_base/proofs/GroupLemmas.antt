@@ -1,6 +1,6 @@
 -- Runs of zero groups, and groups that are joined.
-use Rattle.std.proofs.Common.{◌≡◌, ◌≢◌, ◌<◌, ◌≤◌, ◌+◌, ◌-◌, ℕ, max, Bool, true, false, List, [], ◌∷◌, ◌++◌, zero, suc, length, take, drop, map, get_or, arith, eqb, ltb, cond, Some, None, Option, unwrap_or, refl, sym, ap, ◌∙◌, inl, inr}
-use Rattle.std.specs.List.{position, position_or_len, join_with_byte}
+use Rattle.std.proofs.Common.{◌≡◌, ◌≢◌, ◌<◌, ◌≤◌, ◌+◌, ℕ, max, Bool, true, false, List, [], ◌∷◌, ◌++◌, length, drop, get_or, arith, eqb, ltb, cond, Some, None, unwrap_or, refl, sym, ap, ◌∙◌, inl, inr}
+use Rattle.std.specs.List.{position, position_or_len}
 use Rattle.std.proofs.lemmas.Bool.{cases_eq, eq-eqb, ne_eqb}
 use Rattle.std.proofs.lemmas.Bool.Decides.{nat_tests}
 use Rattle.std.proofs.lemmas.List.{at_drop_more, at_drop_all, drop_more}

@@ -5,6 +5,7 @@
 mod addr;
 mod ascii;
 mod bytes;
+mod civil;
 mod endpoint;
 mod groups;
 mod items;
@@ -14,6 +15,8 @@ mod login;
 mod memory;
 mod moment;
 mod naming;
+mod numerals;
+mod parts;
 mod prefix;
 mod quad;
 mod tag;

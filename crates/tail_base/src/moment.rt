@@ -1,9 +1,12 @@
 //! Moments.
-ghost use Rattle.std.specs.Prelude.{◌≡◌, ℕ, ℤ, pos, ◌+ℤ◌, int_lt, if◌then◌else◌};
+ghost use Rattle.std.specs.Prelude.{◌≡◌, ℕ, ℤ, pos, ◌+ℤ◌, int_lt, if◌then◌else◌, IfOk};
 ghost use Rattle.std.specs.Int.{int_min};
 ghost use Rattle.tail_base.specs.Moments.{IsMoment, clamped, later_of, first_moment, last_moment};
+ghost use Rattle.tail_base.specs.MomentTexts.{moment_text};
 
+use crate::civil::instant_text;
 use crate::memory::{Duplicate, NoMemory};
+use crate::text::Text;
 use std::alloc::Global;
 use std::marker::Model;
 
@@ -76,6 +79,13 @@ impl Moment {
         ensures value { result ≡ int_min (self +ℤ pos seconds) last_moment }
     {
         Moment::clamp(self.seconds + i64::from(seconds))
+    }
+
+    /// The date and time of day in UTC, as `YYYY-MM-DDThh:mm:ssZ`.
+    pub fn write(&self, alloc: Global) -> Result<Text, NoMemory>
+        ensures value { IfOk result (λ text. text ≡ moment_text self.now) }
+    {
+        instant_text(alloc, (self.seconds - FIRST) as u64)
     }
 }
 

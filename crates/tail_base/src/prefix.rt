@@ -1,9 +1,12 @@
 //! Prefixes.
-ghost use Rattle.std.specs.Prelude.{◌≡◌, ℕ, ◌<◌, ◌≤◌, ◌↔◌, IsTrue};
-ghost use Rattle.tail_base.specs.Bits.{IsBlock};
+ghost use Rattle.std.specs.Prelude.{◌≡◌, ℕ, ◌<◌, ◌≤◌, ◌-◌, ◌^◌, ◌↔◌, IsTrue, IfOk};
+ghost use Rattle.tail_base.specs.Bits.{IsBlock, family_bits};
+ghost use Rattle.tail_base.specs.Blocks.{IsWithin, Overlaps, holds, is_within, last_of, overlap};
+ghost use Rattle.tail_base.specs.PrefixTexts.{prefix_text};
 
 use crate::addr::Addr;
 use crate::memory::{Duplicate, NoMemory};
+use crate::text::Text;
 use std::alloc::Global;
 use std::marker::Model;
 
@@ -50,6 +53,86 @@ impl Prefix {
         ensures block { IsBlock self.now }
     {
         self.len
+    }
+
+    /// The highest of its addresses, as a number.
+    #[tactic(auto, using(crate::proofs::BlockLemmas::prefix_fits, crate::proofs::BlockLemmas::family_top))]
+    fn last(&self) -> u128
+        ensures value { result ≡ last_of self.now }
+    {
+        let base = self.base();
+        base.bits() + ones(family_bits(base.is_v6()) - u32::from(self.len()))
+    }
+
+    /// Whether the address is one of this prefix's.
+    pub fn contains(&self, addr: &Addr) -> bool
+        ensures value { result ≡ holds self.now addr.now }
+    {
+        self.base.is_v6() == addr.is_v6()
+            && self.base.bits() <= addr.bits()
+            && addr.bits() <= self.last()
+    }
+
+    /// Whether each of its addresses is one of the outer prefix's.
+    pub fn within(&self, outer: &Prefix) -> bool
+        ensures value { result ≡ is_within self.now outer.now }
+        ensures meaning { IsTrue result ↔ IsWithin self.now outer.now }
+    {
+        is_within(self, outer)
+    }
+
+    /// Whether some address is one of both prefixes.
+    pub fn overlaps(&self, other: &Prefix) -> bool
+        ensures value { result ≡ overlap self.now other.now }
+        ensures meaning { IsTrue result ↔ Overlaps self.now other.now }
+    {
+        overlap(self, other)
+    }
+
+    /// The address, a slash, and the length in decimal.
+    pub fn write(&self, alloc: Global) -> Result<Text, NoMemory>
+        ensures value { IfOk result (λ text. text ≡ prefix_text self.now) }
+    {
+        let mut text = self.base.write(alloc)?;
+        let len = self.len;
+        let ending = format!(in alloc; "/{len}")?;
+        text.push(ending.as_str())?;
+        Ok(text)
+    }
+}
+
+/// Whether the ends of the inner prefix lie in the outer one.
+fn is_within(inner: &Prefix, outer: &Prefix) -> bool
+    ensures value { result ≡ is_within inner.now outer.now }
+{
+    inner.base.is_v6() == outer.base.is_v6()
+        && outer.base.bits() <= inner.base.bits()
+        && inner.last() <= outer.last()
+}
+
+/// Whether neither prefix ends before the other begins.
+fn overlap(p: &Prefix, q: &Prefix) -> bool
+    ensures value { result ≡ overlap p.now q.now }
+{
+    p.base.is_v6() == q.base.is_v6() && p.base.bits() <= q.last() && q.base.bits() <= p.last()
+}
+
+/// How many bits the addresses of a family have.
+fn family_bits(v6: bool) -> u32
+    ensures value { result ≡ family_bits v6 }
+{
+    if v6 { 128 } else { 32 }
+}
+
+/// The number with so many binary digits, all of them 1.
+fn ones(count: u32) -> u128
+    requires fits { count ≤ 128 }
+    ensures value { result ≡ 2 ^ count - 1 }
+{
+    if count == 128 {
+        u128::MAX
+    } else {
+        (1 << count) - 1
     }
 }
 

@@ -1,5 +1,5 @@
-use Rattle.std.proofs.Common.{◌≡◌, ◌+◌, ◌<◌, length, true, false, arith}
-use Rattle.allot.proofs.NameLaws.{is_free_number, is_free_number-is, found_name, number_found}
+use Rattle.std.proofs.Common.{◌≡◌, ◌+◌, length, true, false, arith}
+use Rattle.allot.proofs.NameLemmas.{is_free_number, is_free_number-is, found_name, number_found}
 use Rattle.allot.proofs.SearchLemmas.{LeadsOn-found, LeadsOn-next, LeadsOn-end}
 use Rattle.allot.proofs.names.numbered.Goals as goal
 

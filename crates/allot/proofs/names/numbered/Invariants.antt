@@ -1,6 +1,6 @@
 use Rattle.std.proofs.Common.{◌+◌, length}
 use Rattle.allot.specs.Addresses.{least_from}
-use Rattle.allot.proofs.NameLaws.{is_free_number}
+use Rattle.allot.proofs.NameLemmas.{is_free_number}
 use Rattle.allot.proofs.SearchLemmas.{LeadsOn}
 use Rattle.allot.proofs.names.numbered.Given as goal
 

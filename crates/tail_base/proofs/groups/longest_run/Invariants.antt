@@ -1,4 +1,4 @@
-use Rattle.std.proofs.Common.{◌≡◌, ◌+◌, max, drop}
+use Rattle.std.proofs.Common.{◌≡◌, max, drop}
 use Rattle.tail_base.specs.GroupTexts.{longest_run}
 use Rattle.tail_base.proofs.groups.longest_run.Given as goal
 

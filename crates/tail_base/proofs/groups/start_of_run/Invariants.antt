@@ -1,4 +1,4 @@
-use Rattle.std.proofs.Common.{◌≡◌, ◌+◌, max, drop}
+use Rattle.std.proofs.Common.{◌≡◌, ◌+◌, drop}
 use Rattle.tail_base.specs.GroupTexts.{start_of_run}
 use Rattle.tail_base.proofs.groups.start_of_run.Given as goal
 

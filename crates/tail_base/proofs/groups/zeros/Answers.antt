@@ -1,5 +1,4 @@
 use Rattle.std.proofs.Common.{ap, ◌∙◌, length, unwrap_or}
-use Rattle.std.specs.Prelude.{nat_lt}
 use Rattle.tail_base.proofs.GroupLemmas.{or_length}
 use Rattle.tail_base.proofs.groups.zeros.Goals as goal
 

@@ -1,0 +1,19 @@
+-- What a keeper tells after its tables were loaded.
+use Rattle.std.proofs.Common.{◌≡◌, Option, Some, None, IfSome}
+use Rattle.io_edge.specs.Edge.{IsWhereTold, StillTells}
+use Rattle.net_rows.specs.Damage.{damage}
+use Rattle.net_rows.specs.Rows.{after}
+use Rattle.net_rows.specs.declared.rows.Rows.{Rows}
+use Rattle.net_rows.specs.declared.change.Change.{Change}
+
+-- the rows that are still told are those that were loaded
+pub told_still : (before now : Option Rows) (rows : Rows) → IsWhereTold rows before → StillTells before now → IsWhereTold rows now
+told_still before None rows loaded same = tt
+told_still (Some a) (Some b) rows loaded same = let e : a ≡ b = cc in rw (← e) loaded
+told_still None (Some b) rows loaded same = absurd (cc)
+
+-- a change that keeps the rules of the rows that were loaded may be committed
+pub sound_where_told : (now : Option Rows) (rows : Rows) (change : Change) → IsWhereTold rows now → damage (after rows change) ≡ None
+    → IfSome now (λ r. damage (after r change) ≡ None)
+sound_where_told None rows change is sound = tt
+sound_where_told (Some r) rows change is sound = rw (← is) sound
