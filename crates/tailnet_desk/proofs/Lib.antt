@@ -1,3 +1,4 @@
 pub mod TagLemmas
 pub mod Rules
 pub mod Sound
+pub mod Histories

@@ -20,6 +20,7 @@ use Rattle.net_rows.specs.declared.key.AuthKey.{AuthKey}
 use Rattle.net_rows.specs.declared.machine.Machine.{Machine}
 use Rattle.net_rows.specs.declared.pending.Pending.{Pending}
 use Rattle.net_rows.specs.declared.rows.Rows.{Rows}
+use Rattle.net_rows.specs.declared.settings.SettingsFields.{SettingsFields}
 use Rattle.net_rows.specs.declared.user.User.{User}
 use Rattle.net_rows.proofs.Bools.{truth, both, not_true, bytes_of, bytes_is, lt_of}
 use Rattle.net_rows.proofs.Members.{no_member, find_member, find_none, list_any_member}
@@ -32,7 +33,7 @@ use Rattle.allot.specs.Names.{free_name}
 use Rattle.allot.proofs.AddressLaws.{IsFree, address_fresh, v4_inside, v6_inside}
 use Rattle.allot.proofs.NameLaws.{name_fresh}
 use Rattle.wire_json.specs.declared.register.Register.{Register}
-use Rattle.tailnet_desk.specs.State.{State}
+use Rattle.tailnet_desk.specs.State.{State, is_ahead}
 use Rattle.tailnet_desk.specs.Carried.{IsSoundDecision}
 use Rattle.tailnet_desk.specs.Steps.{◌>>=◌, refuse_if, or_refuse, Gives}
 use Rattle.tailnet_desk.specs.Seed.{seed, is_past_seed, seed_change, seed_user, seed_key}
@@ -72,11 +73,11 @@ room_ok false r u h = absurd (cc)
 -- a usable key is one of the tables
 usable_is : (s : State) (text : List ℕ) (k : AuthKey) → usable_key s text ≡ Ok k → key_of s.rows.keys text ≡ Some k
 usable_is s text k h =
-    let key = bind_ok (or_refuse (key_of s.rows.keys text) KeyUnknown) _ k h in
-    let timely = bind_ok (refuse_if _ KeyExpired) _ k key.2 in
-    let unused = bind_ok (refuse_if _ KeyUsed) _ k timely.2 in
-    let same : key.0 ≡ k = cc in
-    or_refuse_ok _ KeyUnknown k (rw same at key.1)
+    let found = bind_ok (or_refuse (key_of s.rows.keys text) KeyUnknown) _ k h in
+    let timely = bind_ok (refuse_if (not (is_ahead s.now found.0.expiry)) KeyExpired) _ k found.2 in
+    let unused = bind_ok (refuse_if (found.0.used && not found.0.reusable) KeyUsed) _ k timely.2 in
+    let same : found.0 ≡ k = cc in
+    or_refuse_ok _ KeyUnknown _ found.1 ∙ ap Some same
 
 -- where a machine without a row stands
 record NewPlace (s : State) (p : Place) : Type 0 where
@@ -270,6 +271,9 @@ pub record SettingsHold (s : State) : Type 0 where
   pub rules : AreSettings s.settings
   pub v4 : IsBlock s.settings.prefix_v4
   pub v6 : IsBlock s.settings.prefix_v6
+
+pub holds_of : (s : State) (f : SettingsFields) → f ≡ s.settings → AreSettings f → IsBlock f.prefix_v4 → IsBlock f.prefix_v6 → SettingsHold s
+holds_of s f e rules v4 v6 = record { rules = rw (← e) rules; v4 = rw (← e) v4; v6 = rw (← e) v6 }
 
 finish : (s : State) (mk : MachineKey) (form : Register) (k : AuthKey) (p : Place) (c : Change) (o : List ℕ) (a : Answer) (held : Option Machine) → SettingsHold s → AreSound s.rows
     → Contains s.rows.keys k → machine_of s.rows.machines mk.0 ≡ held → is_taken s.rows.machines mk form.node ≡ false

@@ -11,3 +11,4 @@ pub mod Seated
 pub mod Carried
 pub mod Opening
 pub mod TagPlaces
+pub mod Chains
