@@ -9,8 +9,8 @@ use Rattle.wire_json.specs.declared.fault.WireFault.{WireFault}
 use Rattle.wire_json.specs.declared.register.Register.{Register}
 use Rattle.tailnet_desk.specs.declared.ask.Ask.TheVariants as ask
 use Rattle.desk_front.specs.Replies.{error_body}
-use Rattle.desk_front.specs.declared.wanted.Wanted.{Wanted}
-use Rattle.desk_front.specs.declared.wanted.Wanted.TheVariants as wants
+use Rattle.desk_front.specs.declared.want.Wanted.{Wanted}
+use Rattle.desk_front.specs.declared.want.Wanted.TheVariants as wants
 
 abbrev pub unless_zero : List ℕ → Option MachineKey
 unless_zero key = if bytes_eq key (replicate 32 0) then None else Some (record { 0 = key })

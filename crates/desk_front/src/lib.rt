@@ -1,11 +1,13 @@
 //! What a request asks of the desk, and the bytes of the desk's reply.
 #![tactic(auto)]
 
+mod asking;
 mod replies;
-mod wanted;
+mod want;
 
+pub use asking::wanted;
 pub use replies::reply_answer;
-pub use wanted::{Wanted, wanted};
+pub use want::Wanted;
 
 #[cfg(test)]
 mod tests;

@@ -3,18 +3,12 @@ ghost use Rattle.std.specs.Prelude.{◌≡◌, IfOk, codes, option_and_then};
 ghost use Rattle.desk_front.specs.Wanted.{fault_answer, machine_key, machine_wants, wanted_of};
 
 use crate::replies::error_body;
+use crate::want::Wanted;
 use http_front::Request;
 use std::alloc::Global;
 use tail_base::{Bytes, MachineKey, NoMemory, Text};
 use tailnet_desk::Ask;
 use wire_json::{WireFault, read_register};
-
-/// What a request wants: something of the desk, or a fixed answer.
-#[derive(Drop)]
-pub enum Wanted {
-    Ask(Ask),
-    Answer { status: u16, body: Text },
-}
 
 fn fault_answer(alloc: Global, status: u16, name: &str) -> Result<Wanted, NoMemory>
     ensures value { IfOk result (λ w. w ≡ fault_answer status name.now) }
