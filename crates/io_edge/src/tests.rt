@@ -7,7 +7,7 @@ use std::random::RandomSource;
 use std::test::Fail;
 use std::time::Duration;
 use std::{env, fs, io, rt};
-use tail_base::{Bytes, Items, Text};
+use tail_base::{Bytes, Items, NoMemory, Text};
 
 fn items<T: Drop, const N: usize>(alloc: Global, values: [T; N]) -> Result<Items<T>, Fail>
     ensures length { IfOk result (λ made. length made ≡ N) }
@@ -23,51 +23,52 @@ fn read_three<S: Source>(source: &mut S) -> Result<(usize, [u8; 3]), Failed> {
 }
 
 #[test]
-fn sources(rt: HostRuntime) -> Result<(), Fail> {
+fn memory_source(rt: HostRuntime) -> Result<(), Fail> {
     let alloc = rt.alloc();
     let bytes = Bytes::from_slice(alloc, b"hello")?;
-    let mut memory = MemorySource::new(bytes, items(alloc, [2, 4])?);
-    for (at, want) in [
-        Ok((3, *b"hel")),
-        Err(Failed),
-        Ok((2, *b"lo.")),
-        Err(Failed),
-        Ok((0, *b"...")),
-    ]
-    .into_iter()
-    .enumerate()
-    {
-        assert_eq!(rt; read_three(&mut memory), want, "in memory, read {at}");
-    }
-
-    let mut reader = ReadSource::new(b"hello".as_slice());
-    for want in [(3, *b"hel"), (2, *b"lo."), (0, *b"...")] {
-        assert_eq!(rt; read_three(&mut reader), Ok(want));
-    }
+    let mut memory = MemorySource::new(bytes, items(alloc, [2])?);
+    let reads = [read_three(&mut memory), read_three(&mut memory)];
+    assert_eq!(rt; reads, [Ok((3, *b"hel")), Err(Failed)]);
+    let reads = [read_three(&mut memory), read_three(&mut memory)];
+    assert_eq!(rt; reads, [Ok((2, *b"lo.")), Ok((0, *b"..."))]);
     Ok(())
 }
 
 #[test]
-fn sinks(rt: HostRuntime) -> Result<(), Fail> {
+fn read_source(rt: HostRuntime) {
+    let mut reader = ReadSource::new(b"hello".as_slice());
+    let reads = [
+        read_three(&mut reader),
+        read_three(&mut reader),
+        read_three(&mut reader),
+    ];
+    assert_eq!(rt;
+        reads,
+        [Ok((3, *b"hel")), Ok((2, *b"lo.")), Ok((0, *b"..."))]
+    );
+}
+
+/// What three writes of two bytes each give.
+fn write_twos<S: Sink>(sink: &mut S) -> [Result<usize, Failed>; 3] {
+    [sink.write(b"ab"), sink.write(b"cd"), sink.write(b"ef")]
+}
+
+#[test]
+fn memory_sink(rt: HostRuntime) -> Result<(), Fail> {
     let alloc = rt.alloc();
     let mut memory = MemorySink::new(alloc, items(alloc, [2])?);
-    for (piece, want) in [
-        ("ab", Ok(2)),
-        ("cd", Err(Failed)),
-        ("ef", Ok(2)),
-        ("", Ok(0)),
-    ] {
-        assert_eq!(rt; memory.write(piece.as_bytes()), want, "writing {piece:?}");
-    }
+    assert_eq!(rt; write_twos(&mut memory), [Ok(2), Err(Failed), Ok(2)]);
     assert_eq!(rt; memory.bytes(), b"abef".as_slice());
-
-    // A slice takes three bytes and then no more, which is a fault.
-    let mut room = *b"...";
-    let mut writer = WriteSink::new(room.as_mut_slice());
-    for want in [Ok(2), Ok(1), Err(Failed)] {
-        assert_eq!(rt; writer.write(b"ab"), want);
-    }
     Ok(())
+}
+
+/// A slice takes three bytes and then no more, which is a fault.
+#[test]
+fn write_sink(rt: HostRuntime) {
+    let mut room = *b"...";
+    let wrote = write_twos(&mut WriteSink::new(room.as_mut_slice()));
+    assert_eq!(rt; wrote, [Ok(2), Ok(1), Err(Failed)]);
+    assert_eq!(rt; room, *b"abc");
 }
 
 /// A clock that reads 5 seconds, then fails, and reads 6 seconds from then on.
@@ -90,23 +91,26 @@ impl rt::Clock for Faltering<'_> {
     }
 }
 
-#[test]
-fn clocks(rt: HostRuntime) -> Result<(), Fail> {
-    let alloc = rt.alloc();
-    let mut memory = MemoryClock::new(items(alloc, [7, -1])?);
-    assert_eq!(rt; memory.seconds(), 7);
-    let mut other = memory.split(alloc)?;
-    for _ in 0..2u8 {
-        assert_eq!(rt; memory.seconds(), -1);
-        assert_eq!(rt; other.seconds(), -1);
-    }
+/// Three answers of a clock, and then one of a clock split off.
+fn answers<C: Clock + Drop>(clock: &mut C, alloc: Global) -> Result<[i64; 4], NoMemory> {
+    let first = [clock.seconds(), clock.seconds(), clock.seconds()];
+    let mut other = clock.split(alloc)?;
+    Ok([first[0], first[1], first[2], other.seconds()])
+}
 
+#[test]
+fn memory_clock(rt: HostRuntime) -> Result<(), Fail> {
+    let alloc = rt.alloc();
+    let mut memory = MemoryClock::new(items(alloc, [7, -1, 8])?);
+    assert_eq!(rt; answers(&mut memory, alloc)?, [7, -1, 8, 8]);
+    Ok(())
+}
+
+#[test]
+fn host_clock(rt: HostRuntime) -> Result<(), Fail> {
     let calls = Cell::new(0);
     let mut host = HostClock::new(Faltering(&calls));
-    for want in [0, 5, 5, 6] {
-        assert_eq!(rt; host.seconds(), want);
-    }
-    assert_eq!(rt; host.split(alloc)?.seconds(), 6);
+    assert_eq!(rt; answers(&mut host, rt.alloc())?, [0, 5, 5, 6]);
     Ok(())
 }
 
@@ -129,34 +133,33 @@ impl RandomSource for Counting<'_> {
 }
 
 #[test]
-fn random_words(rt: HostRuntime) -> Result<(), Fail> {
+fn memory_entropy(rt: HostRuntime) -> Result<(), Fail> {
     let alloc = rt.alloc();
     let answers = items(alloc, [[1, 2, 3, 4], [5, 6, 7, 8]])?;
-    let mut memory = MemoryEntropy::new(answers, items(alloc, [2, 3])?);
-    assert_eq!(rt; memory.words(), Ok([1, 2, 3, 4]));
-    assert_eq!(rt; memory.words(), Err(Failed));
-    assert!(rt; matches!(memory.split(alloc), Err(EdgeFault::Failed)));
-    let Ok(mut other) = memory.split(alloc) else {
-        return Err(Fail::from("no second source"));
-    };
-    for _ in 0..2u8 {
-        assert_eq!(rt; other.words(), Ok([5, 6, 7, 8]));
-        assert_eq!(rt; memory.words(), Ok([5, 6, 7, 8]));
+    let mut memory = MemoryEntropy::new(answers, items(alloc, [2])?);
+    let first = [memory.words(), memory.words()];
+    assert_eq!(rt; first, [Ok([1, 2, 3, 4]), Err(Failed)]);
+    if let Ok(mut other) = memory.split(alloc) {
+        let later = [memory.words(), memory.words(), other.words(), other.words()];
+        assert_eq!(rt; later, [Ok([5, 6, 7, 8]); 4]);
+        memory.join(other);
+        return Ok(());
     }
-    memory.join(other);
+    Err(Fail::from("no second one"))
+}
 
+#[test]
+fn host_entropy(rt: HostRuntime) -> Result<(), Fail> {
     let given = Cell::new(0);
     let mut host = HostEntropy::new(Counting(&given));
-    let first = 0x0807_0605_0403_0201;
-    let step = 0x0808_0808_0808_0808;
-    assert_eq!(rt;
-        host.words(),
-        Ok([first, first + step, first + 2 * step, first + 3 * step])
-    );
-    assert_eq!(rt; host.words(), Err(Failed));
-    if let Ok(other) = host.split(alloc) {
-        host.join(other);
-    }
+    let drawn = [host.words(), host.words()];
+    let words = [
+        0x0807_0605_0403_0201,
+        0x100f_0e0d_0c0b_0a09,
+        0x1817_1615_1413_1211,
+        0x201f_1e1d_1c1b_1a19,
+    ];
+    assert_eq!(rt; drawn, [Ok(words), Err(Failed)]);
     Ok(())
 }
 
@@ -167,8 +170,34 @@ fn named(alloc: Global, name: &str, bytes: &[u8]) -> Result<NamedBytes, Fail> {
     })
 }
 
+/// Whether a read answers so.
+fn gives<F: Files>(
+    files: &mut F,
+    alloc: Global,
+    name: &str,
+    most: usize,
+    want: Result<&[u8], FileFault>,
+) -> bool {
+    match (files.read(alloc, name, most), want) {
+        (Ok(bytes), Ok(want)) => bytes.as_slice() == want,
+        (Err(fault), Err(want)) => fault == want,
+        _ => false,
+    }
+}
+
+/// Whether three files, of which two have one name, are read as they are to be; the fifth read fails.
+fn reads_by_name<F: Files>(files: &mut F, alloc: Global) -> bool {
+    let first = Ok(b"12345".as_slice());
+    gives(files, alloc, "a", 5, first)
+        && gives(files, alloc, "a", 4, Err(FileFault::TooLarge))
+        && gives(files, alloc, "b", 0, Ok(b"".as_slice()))
+        && gives(files, alloc, "c", 9, Err(FileFault::Failed))
+        && gives(files, alloc, "a", 5, Err(FileFault::Failed))
+        && gives(files, alloc, "a", 6, first)
+}
+
 #[test]
-fn files(rt: HostRuntime) -> Result<(), Fail> {
+fn memory_files(rt: HostRuntime) -> Result<(), Fail> {
     let alloc = rt.alloc();
     let all = [
         named(alloc, "a", b"12345")?,
@@ -176,45 +205,28 @@ fn files(rt: HostRuntime) -> Result<(), Fail> {
         named(alloc, "a", b"other")?,
     ];
     let mut memory = MemoryFiles::new(items(alloc, all)?, items(alloc, [5])?);
-    for (name, most, want) in [
-        ("a", 5, Ok("12345")),
-        ("a", 4, Err(FileFault::TooLarge)),
-        ("b", 0, Ok("")),
-        ("c", 9, Err(FileFault::Failed)),
-        ("a", 5, Err(FileFault::Failed)),
-        ("a", 6, Ok("12345")),
-    ] {
-        let read = memory.read(alloc, name, most);
-        assert_eq!(rt;
-            read.as_ref().map(Vec::as_slice),
-            want.as_ref().map(|s| s.as_bytes()),
-            "{name}, at most {most}"
-        );
-    }
+    assert!(rt; reads_by_name(&mut memory, alloc));
     Ok(())
+}
+
+/// Whether a file of five digits is read as it is to be, while it is there and once it is gone.
+fn reads_a_file(rt: HostRuntime, path: &str) -> bool {
+    let alloc = rt.alloc();
+    let mut host = HostFiles::new(rt);
+    let digits = Ok(b"12345".as_slice());
+    fs::write(&rt, path, "12345").is_ok()
+        && gives(&mut host, alloc, path, 4, Err(FileFault::TooLarge))
+        && gives(&mut host, alloc, path, 5, digits)
+        && gives(&mut host, alloc, path, usize::MAX, digits)
+        && fs::remove_file(&rt, path).is_ok()
+        && gives(&mut host, alloc, path, 5, Err(FileFault::Failed))
 }
 
 #[test]
 fn host_files(rt: HostRuntime) -> Result<(), Fail> {
     let alloc = rt.alloc();
-    let process = std::process::id(rt.process());
-    let name = format!(in alloc; "io_edge-{process}")?;
+    let name = format!(in alloc; "io_edge-{}", std::process::id(rt.process()))?;
     let path = env::temp_dir(&rt)?.join(alloc, name.as_str())?;
-    fs::write(&rt, path.as_path(), "12345")?;
-    let mut host = HostFiles::new(rt);
-    for (most, want) in [
-        (4, Err(FileFault::TooLarge)),
-        (5, Ok("12345")),
-        (usize::MAX, Ok("12345")),
-    ] {
-        let read = host.read(alloc, path.as_str(), most);
-        assert_eq!(rt;
-            read.as_ref().map(Vec::as_slice),
-            want.as_ref().map(|s| s.as_bytes()),
-            "at most {most}"
-        );
-    }
-    fs::remove_file(&rt, path.as_path())?;
-    assert_eq!(rt; host.read(alloc, path.as_str(), 5), Err(FileFault::Failed));
+    assert!(rt; reads_a_file(rt, path.as_str()));
     Ok(())
 }

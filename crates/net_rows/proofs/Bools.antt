@@ -1,5 +1,5 @@
 -- Tests, and what they mean.
-use Rattle.std.proofs.Common.{◌≡◌, ◌<◌, ◌≤◌, ℕ, Bool, true, false, ◌⊎◌, inl, inr, sym, ◌∙◌, ap, refl, arith, nat_lt, nat_le, ◌&&◌, not, List}
+use Rattle.std.proofs.Common.{◌≡◌, ◌<◌, ◌≤◌, ℕ, Bool, true, false, ◌⊎◌, inl, inr, refl, arith, nat_lt, nat_le, ◌&&◌, not, List}
 use Rattle.std.specs.Prelude.{Option, Some, None}
 use Rattle.std.specs.Option.{option_or}
 use Rattle.std.specs.Bool.{beq}

@@ -1,9 +1,8 @@
 -- Elements of lists, and searches for them.
-use Rattle.std.proofs.Common.{◌≡◌, ◌<◌, ◌≤◌, ℕ, zero, suc, Bool, true, false, List, [], ◌∷◌, ◌++◌, arith, ◌⊎◌, inl, inr, sym, ◌∙◌, ap, refl, ◌==◌, not}
-use Rattle.std.specs.Prelude.{Contains, Option, Some, None}
+use Rattle.std.proofs.Common.{◌≡◌, zero, suc, Bool, true, false, List, [], ◌∷◌, ◌++◌, arith, ◌⊎◌, inl, inr, sym, ◌∙◌, ap, refl}
+use Rattle.std.specs.Prelude.{Contains, Some, None}
 use Rattle.std.specs.List.{find, list_any, list_all}
 use Rattle.std.proofs.lemmas.List.Elements.{Contains-append_cases}
-use Rattle.net_rows.specs.Shelf.{HasRow}
 use Rattle.net_rows.proofs.Bools.{truth}
 
 pub no_member : {T : Type 0} (x : T) → Contains [] x → ⊥

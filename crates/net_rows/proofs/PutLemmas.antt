@@ -1,7 +1,7 @@
 -- What putting and removing a row keeps of one list.
-use Rattle.std.proofs.Common.{◌≡◌, ◌<◌, ◌≤◌, ◌+◌, ℕ, zero, suc, Bool, true, false, List, [], ◌∷◌, length, arith, ◌⊎◌, inl, inr, sym, ◌∙◌, ap, refl, ◌==◌, nat_lt, not}
-use Rattle.std.specs.Prelude.{Contains, filter}
-use Rattle.net_rows.specs.Shelf.{put_row, without, IsAscending, AreBelow, Tells, IsOwn, HasRow}
+use Rattle.std.proofs.Common.{◌≡◌, ◌<◌, ◌≤◌, ◌+◌, ℕ, suc, List, [], ◌∷◌, length, arith, ◌⊎◌, inl, inr, sym, ◌∙◌, ap, refl, ◌==◌, nat_lt}
+use Rattle.std.specs.Prelude.{Contains}
+use Rattle.net_rows.specs.Shelf.{put_row, IsAscending, AreBelow, Tells, IsOwn, HasRow}
 use Rattle.net_rows.proofs.Bools.{truth}
 use Rattle.net_rows.proofs.Members.{no_member, cut_member, first_member, rest_member}
 

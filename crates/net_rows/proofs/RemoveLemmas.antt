@@ -1,5 +1,5 @@
 -- What removing a row keeps of one list.
-use Rattle.std.proofs.Common.{◌≡◌, ◌≢◌, ◌<◌, ◌≤◌, ◌+◌, ℕ, zero, suc, Bool, true, false, List, [], ◌∷◌, length, arith, ◌⊎◌, inl, inr, sym, ◌∙◌, ap, refl, ◌==◌, nat_lt, not}
+use Rattle.std.proofs.Common.{◌≡◌, ◌≢◌, ◌<◌, ◌≤◌, ℕ, false, List, [], ◌∷◌, length, arith, inl, inr, sym, ◌∙◌, ap, refl, ◌==◌, nat_lt}
 use Rattle.std.specs.Prelude.{Contains}
 use Rattle.net_rows.specs.Shelf.{put_row, without, IsAscending, AreBelow, Tells, HasRow}
 use Rattle.net_rows.proofs.Bools.{truth}

@@ -1,9 +1,9 @@
 -- Rows by ascending id are a finite map.
-use Rattle.std.proofs.Common.{◌≡◌, ◌≢◌, ◌<◌, ◌≤◌, ℕ, zero, suc, Bool, true, false, List, [], ◌∷◌, length, arith, ◌⊎◌, inl, inr, sym, ◌∙◌, ap, refl, ◌==◌, nat_lt, not}
-use Rattle.std.specs.Prelude.{Contains, Option, Some, None}
-use Rattle.net_rows.specs.Shelf.{put_row, without, row_at, IsAscending}
+use Rattle.std.proofs.Common.{◌≡◌, ◌<◌, ℕ, true, false, List, [], ◌∷◌, arith, inl, inr, sym, ◌∙◌, ap, refl, ◌==◌, nat_lt}
+use Rattle.std.specs.Prelude.{Contains, Some, None}
+use Rattle.net_rows.specs.Shelf.{row_at, IsAscending}
 use Rattle.net_rows.proofs.Bools.{truth}
-use Rattle.net_rows.proofs.Members.{no_member, cut_member, first_member, rest_member, find_nothing, find_member}
+use Rattle.net_rows.proofs.Members.{no_member, cut_member, first_member, find_nothing}
 
 -- below the least id there is no row
 pub row_at_below : {T : Type 0} (id : T → ℕ) (xs : List T) (k : ℕ) → ((y : T) → Contains xs y → k < id y) → row_at id xs k ≡ None

@@ -1,12 +1,11 @@
 -- Sound tables stay sound when a list of rows goes.
-use Rattle.std.proofs.Common.{◌≡◌, ◌≢◌, ℕ, Bool, true, false, List, [], ◌∷◌, ◌++◌, ap, refl, ◌∙◌, sym, inl, inr}
+use Rattle.std.proofs.Common.{◌≡◌, Bool, true, false, List, [], ◌∷◌, ◌++◌, refl, inl, inr}
 use Rattle.std.specs.Prelude.{Contains}
 use Rattle.std.specs.List.{list_all}
 use Rattle.net_rows.specs.Rows.{Rows, take_out, take_all_out}
 use Rattle.net_rows.specs.Sound.{AreSound}
 use Rattle.net_rows.specs.declared.key.AuthKey.{AuthKey}
 use Rattle.net_rows.specs.declared.machine.Machine.{Machine}
-use Rattle.net_rows.specs.declared.pending.Pending.{Pending}
 use Rattle.net_rows.specs.declared.change.RowKey.{RowKey}
 use Rattle.net_rows.specs.declared.change.RowKey.TheVariants as key
 use Rattle.net_rows.proofs.Bools.{both}

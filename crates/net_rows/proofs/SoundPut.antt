@@ -1,10 +1,10 @@
 -- Sound tables stay sound when a row that fits is put, and its counter raised.
-use Rattle.std.proofs.Common.{◌≡◌, ◌<◌, ◌≤◌, ℕ, arith, inl, inr, List}
-use Rattle.std.specs.Prelude.{Contains, Some, IfSome, length}
+use Rattle.std.proofs.Common.{◌<◌, ◌≤◌, ℕ, arith, List}
+use Rattle.std.specs.Prelude.{Some, length}
 use Rattle.net_rows.specs.Limits.{counter_limit, user_limit, key_limit, pending_limit, machine_limit, extra_limit, policy_limit}
-use Rattle.net_rows.specs.Shelf.{put_row, HasRow}
+use Rattle.net_rows.specs.Shelf.{put_row}
 use Rattle.net_rows.specs.Rows.{Rows}
-use Rattle.net_rows.specs.Sound.{AreUsers, AreKeys, ArePending, AreMachines, AreSound, KeyKeeps, MachineKeeps, PendingKeeps, IsCounter, FitsUser, FitsKey, FitsPending, FitsMachine}
+use Rattle.net_rows.specs.Sound.{AreSound, KeyKeeps, MachineKeeps, PendingKeeps, FitsUser, FitsKey, FitsPending, FitsMachine}
 use Rattle.net_rows.specs.declared.user.User.{User}
 use Rattle.net_rows.specs.declared.key.AuthKey.{AuthKey}
 use Rattle.net_rows.specs.declared.pending.Pending.{Pending}

@@ -1,5 +1,5 @@
 -- Sound tables stay sound when a row goes that no other row names.
-use Rattle.std.proofs.Common.{◌≡◌, ◌≢◌, ℕ, List}
+use Rattle.std.proofs.Common.{◌≢◌, ℕ, List}
 use Rattle.std.specs.Prelude.{Contains}
 use Rattle.net_rows.specs.Limits.{user_limit, key_limit, pending_limit, machine_limit}
 use Rattle.net_rows.specs.Shelf.{without}

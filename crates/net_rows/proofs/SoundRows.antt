@@ -1,6 +1,5 @@
 -- Rows of one kind: where each fits beside those before it, all rules of the kind are kept, and back.
-use Rattle.std.proofs.Common.{◌≡◌, ◌<◌, ◌≤◌, ℕ, Bool, true, false, List, [], ◌∷◌, ◌++◌, length, arith, ◌⊎◌, inl, inr, sym, ◌∙◌, ap, refl, nat_le, ◌&&◌, codes}
-use Rattle.std.specs.Prelude.{Contains}
+use Rattle.std.proofs.Common.{◌≡◌, ℕ, true, List, [], ◌∷◌, ◌++◌, length, arith, nat_le, codes}
 use Rattle.net_rows.specs.Limits.{user_limit, key_limit, pending_limit, machine_limit, endpoint_limit, route_limit, asked_tag_limit, tag_limit, host_limit, tailnet_v4, tailnet_v6, is_inside}
 use Rattle.net_rows.specs.Rows.{Rows}
 use Rattle.net_rows.specs.Damage.{stands, is_new, is_new_address, has_user, names_id, names_key, user_fits, key_fits, pending_fits, machine_fits, is_short_pending, is_short_machine, is_new_machine}

@@ -1,5 +1,5 @@
 -- Tables without damage are those that keep all rules.
-use Rattle.std.proofs.Common.{◌≡◌, ◌≤◌, ℕ, Bool, true, false, List, [], ◌∷◌, ◌++◌, length, arith, sym, ◌∙◌, ap, refl, nat_le, ◌&&◌, subst}
+use Rattle.std.proofs.Common.{◌≡◌, ◌≤◌, ℕ, Bool, true, false, List, [], length, refl, nat_le}
 use Rattle.std.specs.Prelude.{Option, Some, None, IfSome}
 use Rattle.net_rows.specs.Limits.{counter_limit, extra_limit, policy_limit}
 use Rattle.net_rows.specs.Rows.{Rows}
@@ -10,7 +10,6 @@ use Rattle.net_rows.specs.declared.key.AuthKey.{AuthKey}
 use Rattle.net_rows.specs.declared.pending.Pending.{Pending}
 use Rattle.net_rows.specs.declared.machine.Machine.{Machine}
 use Rattle.net_rows.specs.declared.change.Counters.{Counters}
-use Rattle.net_rows.specs.declared.change.Damage.{Damage}
 use Rattle.net_rows.specs.declared.change.Kind.{Kind}
 use Rattle.net_rows.specs.declared.change.Kind.TheVariants as kind
 use Rattle.net_rows.proofs.Bools.{both, and_both, all4, and4, le_of, le_is, or_none, none_or}

@@ -1,5 +1,5 @@
 -- One row's place, and what is new of it, as tests and as facts.
-use Rattle.std.proofs.Common.{◌≡◌, ◌<◌, ◌≤◌, ◌+◌, ℕ, Bool, true, false, List, [], ◌∷◌, ◌++◌, length, arith, ◌⊎◌, inl, inr, sym, ◌∙◌, ap, refl, ◌==◌, nat_lt, nat_le, not, ◌&&◌, append_assoc, length-append}
+use Rattle.std.proofs.Common.{◌≡◌, ◌<◌, ◌≤◌, ℕ, true, false, List, [], ◌∷◌, ◌++◌, length, arith, inl, inr, sym, ◌∙◌, ap, refl, ◌==◌, nat_lt, nat_le, not, length-append}
 use Rattle.std.specs.Prelude.{Contains}
 use Rattle.std.specs.List.{list_all}
 use Rattle.std.specs.Str.{bytes_eq}
@@ -9,7 +9,7 @@ use Rattle.tail_base.specs.Bits.{Address}
 use Rattle.net_rows.specs.Shelf.{IsAscending, AreBelow, Tells, HasRow}
 use Rattle.net_rows.specs.Damage.{stands, is_new, is_new_address, address_eq, has_user}
 use Rattle.net_rows.specs.declared.user.User.{User}
-use Rattle.net_rows.proofs.Bools.{truth, both, and_both, all4, and4, beq_of, beq_is, not_true, true_unless, false_unless, le_of, le_is, lt_of, lt_is, bytes_of, bytes_is}
+use Rattle.net_rows.proofs.Bools.{both, and_both, all4, and4, beq_of, beq_is, not_true, false_unless, le_of, le_is, lt_of, lt_is, bytes_of, bytes_is}
 use Rattle.net_rows.proofs.Members.{no_member, cut_member, first_member, rest_member, cut_last, list_all_member, list_all_is, list_any_found, list_any_is}
 
 -- The row's id is in range and above those before, and there is room.

@@ -1,5 +1,5 @@
 -- Whether one more row may be added.
-use Rattle.std.specs.Prelude.{ℕ, Bool, false, length, nat_lt, ◌&&◌}
+use Rattle.std.specs.Prelude.{Bool, false, length, nat_lt, ◌&&◌}
 use Rattle.net_rows.specs.Limits.{counter_limit, user_limit, key_limit, pending_limit, machine_limit}
 use Rattle.net_rows.specs.Rows.{Rows}
 use Rattle.net_rows.specs.declared.change.Kind.{Kind}

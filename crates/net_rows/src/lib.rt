@@ -17,6 +17,8 @@ mod rows;
 mod settings;
 mod shelf;
 mod tables;
+#[cfg(test)]
+mod tests;
 mod user;
 
 pub use change::{Change, Counters, Damage, Kind, Row, RowKey};

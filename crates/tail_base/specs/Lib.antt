@@ -3,6 +3,7 @@ pub mod Bits
 pub mod Blocks
 pub mod Civil
 pub mod EndpointTexts
+pub mod GroupReads
 pub mod GroupTexts
 pub mod Keys
 pub mod Labels

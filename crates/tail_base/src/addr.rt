@@ -1,11 +1,13 @@
 //! Addresses.
-ghost use Rattle.std.specs.Prelude.{◌≡◌, ℕ, ◌<◌, ◌↔◌, IsTrue, false, IfOk};
-ghost use Rattle.tail_base.specs.AddrTexts.{addr_text};
+ghost use Rattle.std.specs.Prelude.{◌≡◌, ℕ, ◌<◌, ◌↔◌, IsTrue, false, IfOk, ◌==◌};
+ghost use Rattle.std.specs.List.{list_any};
+ghost use Rattle.tail_base.specs.AddrTexts.{addr_of_text, addr_text};
 ghost use Rattle.tail_base.specs.Bits.{family_size};
 
+use crate::group_reader::v6_of_text;
 use crate::groups::v6_text;
 use crate::memory::{Duplicate, NoMemory};
-use crate::quad::quad_text;
+use crate::quad::{quad_of_text, quad_text};
 use crate::text::Text;
 use std::alloc::Global;
 use std::marker::Model;
@@ -54,6 +56,20 @@ impl Addr {
         self.bits
     }
 
+    /// The address that a text spells: four decimal numbers up to 255 without leading zeros and with
+    /// dots between them, or RFC 4291 section 2.2's first two forms.
+    pub fn read(text: &[u8]) -> Option<Addr>
+        ensures value { result ≡ addr_of_text text.now }
+    {
+        if has_colon(text) {
+            let bits = v6_of_text(text)?;
+            Some(Addr::new(true, bits))
+        } else {
+            let bits = quad_of_text(text)?;
+            Some(Addr::new(false, bits))
+        }
+    }
+
     /// The text of the address: dotted decimal, or hexadecimal groups as RFC 5952 section 4 asks.
     pub fn write(&self, alloc: Global) -> Result<Text, NoMemory>
         ensures value { IfOk result (λ text. text ≡ addr_text self.now) }
@@ -64,6 +80,12 @@ impl Addr {
             quad_text(alloc, self.bits)
         }
     }
+}
+
+fn has_colon(text: &[u8]) -> bool
+    ensures value { result ≡ list_any (λ b. b == 58) text.now }
+{
+    text.iter().any(|b| *b == b':')
 }
 
 impl Duplicate for Addr {

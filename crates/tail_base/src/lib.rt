@@ -7,6 +7,7 @@ mod ascii;
 mod bytes;
 mod civil;
 mod endpoint;
+mod group_reader;
 mod groups;
 mod items;
 mod key;

@@ -1,5 +1,5 @@
 //! The numbers of an address's text, between its dots or colons.
-ghost use Rattle.std.specs.Prelude.{◌≡◌, ◌<◌, ◌==◌, [], ◌∷◌, ◌++◌, length, position};
+ghost use Rattle.std.specs.Prelude.{◌≡◌, ◌<◌, ◌≤◌, ◌==◌, [], ◌∷◌, ◌++◌, length, position};
 ghost use Rattle.tail_base.specs.Parts.{mark_of, part_of, parts_of, with_part};
 
 use crate::numerals::{group_of, number_up_to};
@@ -43,6 +43,7 @@ impl Parts {
 
     pub fn len(&self) -> usize
         ensures value { result ≡ length self.now }
+        ensures few { length self.now ≤ 8 }
     {
         self.count
     }

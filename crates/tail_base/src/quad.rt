@@ -1,8 +1,9 @@
 //! Texts of IPv4 addresses.
 ghost use Rattle.std.specs.Prelude.{◌≡◌, ◌<◌, ◌^◌, IfOk};
-ghost use Rattle.tail_base.specs.QuadTexts.{byte_at, quad_text};
+ghost use Rattle.tail_base.specs.QuadTexts.{byte_at, quad_number, quad_of_text, quad_text};
 
 use crate::memory::NoMemory;
+use crate::parts::{Notation, parts_of};
 use crate::text::Text;
 use std::alloc::Global;
 
@@ -24,4 +25,24 @@ pub(crate) fn quad_text(alloc: Global, bits: u128) -> Result<Text, NoMemory>
     let c = byte_at(bits, 1);
     let d = byte_at(bits, 0);
     Ok(Text::from_string(format!(in alloc; "{a}.{b}.{c}.{d}")?))
+}
+
+/// The number of four bytes, the highest first.
+fn quad_number(parts: &[u16]) -> Option<u128>
+    ensures value { result ≡ quad_number parts.now }
+{
+    match parts {
+        [a, b, c, d] => {
+            let high = u128::from(*a) * 256 + u128::from(*b);
+            Some((high * 256 + u128::from(*c)) * 256 + u128::from(*d))
+        }
+        _ => None,
+    }
+}
+
+/// The number of the IPv4 address that a text spells.
+pub(crate) fn quad_of_text(text: &[u8]) -> Option<u128>
+    ensures value { result ≡ quad_of_text text.now }
+{
+    quad_number(parts_of(Notation::Decimal, text)?.as_slice())
 }

@@ -1,4 +1,3 @@
-use Rattle.std.proofs.Common.{ℕ}
 use Rattle.net_rows.proofs.named.+after_number.Given as goal
 
 abbrev pub decreases-after_number : goal.decreases-after_number

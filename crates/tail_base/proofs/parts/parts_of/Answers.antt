@@ -1,5 +1,5 @@
-use Rattle.std.proofs.Common.{◌≡◌, ◌==◌, ◌+◌, ◌-◌, ℕ, List, length, take, drop, Option, Some, None, sym, ap, ◌∙◌}
-use Rattle.std.specs.List.{position, slice_split}
+use Rattle.std.proofs.Common.{◌≡◌, ◌==◌, ◌+◌, ℕ, List, take, drop, Some, None, sym, ap, ◌∙◌}
+use Rattle.std.specs.List.{slice_split}
 use Rattle.std.proofs.lemmas.List.{take_rest}
 use Rattle.tail_base.specs.declared.parts.Notation.{Notation}
 use Rattle.tail_base.specs.Parts.{mark_of, parts_from, parts_of, with_part}

@@ -1,4 +1,4 @@
-use Rattle.std.proofs.Common.{◌<◌, ℕ, sym, ◌∙◌, arith}
+use Rattle.std.proofs.Common.{sym, ◌∙◌, arith}
 use Rattle.tail_base.proofs.PartLemmas.{part_fits}
 use Rattle.tail_base.proofs.parts.with_part.Goals as goal
 
