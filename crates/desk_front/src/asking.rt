@@ -1,6 +1,8 @@
 //! What a request asks.
 ghost use Rattle.std.specs.Prelude.{◌≡◌, IfOk, codes, option_and_then};
+ghost use Rattle.http.specs.StatusCode.{IsStatusCode};
 ghost use Rattle.desk_front.specs.Wanted.{fault_answer, machine_key, machine_wants, wanted_of};
+ghost use Rattle.desk_front.specs.Statuses.{HasStatus};
 
 use crate::replies::error_body;
 use crate::want::Wanted;
@@ -11,7 +13,9 @@ use tailnet_desk::Ask;
 use wire_json::{WireFault, read_register};
 
 fn fault_answer(alloc: Global, status: u16, name: &str) -> Result<Wanted, NoMemory>
+    requires status { IsStatusCode status }
     ensures value { IfOk result (λ w. w ≡ fault_answer status name.now) }
+    ensures status { IfOk result HasStatus }
 {
     Ok(Wanted::Answer {
         status,
@@ -44,6 +48,7 @@ fn machine_wants(
     body: &[u8],
 ) -> Result<Wanted, NoMemory>
     ensures value { IfOk result (λ w. w ≡ machine_wants machine body.now) }
+    ensures status { IfOk result HasStatus }
 {
     let Some(machine) = machine else {
         return fault_answer(alloc, 400, "NotJson");
@@ -65,6 +70,8 @@ fn machine_wants(
 #[tactic(auto, unfolding(crate::specs::Wanted::wanted_of))]
 pub fn wanted(alloc: Global, request: &Request) -> Result<Wanted, NoMemory>
     ensures value { IfOk result (λ w. w ≡ wanted_of request.now) }
+    // The status of a fixed answer is one of HTTP's.
+    ensures status { IfOk result HasStatus }
 {
     if request.path.as_slice() != b"/machine/register".as_slice() {
         return fault_answer(alloc, 404, "NoPath");

@@ -1,0 +1,4 @@
+pub mod Writes
+pub mod Tellings
+pub mod AnswerLemmas
+pub mod ServeLemmas
