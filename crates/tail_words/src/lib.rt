@@ -4,6 +4,11 @@
 mod fault;
 mod rules;
 mod settings;
+mod words;
 
 pub use fault::SettingsFault;
 pub use settings::read_settings;
+pub use words::{Pipe, read_words};
+
+#[cfg(test)]
+mod tests;

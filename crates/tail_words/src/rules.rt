@@ -57,7 +57,8 @@ pub(crate) fn is_domain(text: &[u8]) -> bool
     text.len() <= 180 && are_labels(text)
 }
 
-fn has_visible_bytes(text: &[u8]) -> bool
+/// Whether each byte is visible ASCII.
+pub(crate) fn has_visible_bytes(text: &[u8]) -> bool
     ensures value { result ≡ list_all (λ b. nat_le 33 b && nat_le b 126) text.now }
 {
     text.iter().all(|b| 33 <= *b && *b <= 126)
