@@ -1,0 +1,2 @@
+pub mod SettingsText
+pub mod Words

@@ -1,0 +1,28 @@
+-- The words of the command line, after the program's own name.
+use Rattle.std.specs.Prelude.{ℕ, Bool, List, [], ◌∷◌, length, if◌then◌else◌, nat_le, ◌&&◌, Option, Some, None, codes, option_map}
+use Rattle.std.specs.List.{list_all}
+use Rattle.std.specs.Str.{bytes_eq}
+use Rattle.tail_words.specs.declared.words.Pipe.{Pipe}
+
+-- what `pipe` is given: the settings file, and the key that is seeded
+pub record PipeWords : Type 0 where
+  pub file : List ℕ
+  pub seed : Option (List ℕ)
+
+-- the words that a `Pipe` holds
+abbrev pub pipe_words : Pipe → PipeWords
+pipe_words p = record { file = p.file.now; seed = option_map (λ t. t.now) p.seed }
+
+-- 1 to 128 visible ASCII bytes
+abbrev pub is_seed : List ℕ → Bool
+is_seed text = nat_le 1 (length text) && nat_le (length text) 128 && list_all (λ b. nat_le 33 b && nat_le b 126) text
+
+-- `pipe FILE`, and `pipe FILE --seed KEY`
+unfoldable pub words_of : List (List ℕ) → Option PipeWords
+words_of (command ∷ file ∷ []) =
+    if bytes_eq command (codes "pipe") then Some (record { file = file; seed = None }) else None
+words_of (command ∷ file ∷ flag ∷ key ∷ []) =
+    if bytes_eq command (codes "pipe") && bytes_eq flag (codes "--seed") && is_seed key
+    then Some (record { file = file; seed = Some key })
+    else None
+words_of _ = None

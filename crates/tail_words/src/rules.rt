@@ -1,0 +1,72 @@
+//! The rules of the texts in a settings file.
+ghost use Rattle.std.specs.Prelude.{◌≡◌, [], ◌&&◌, nat_le};
+ghost use Rattle.std.specs.List.{list_all};
+ghost use Rattle.tail_base.specs.Labels.{has_good_ends, has_label_length, is_alnum, is_label, is_label_byte};
+ghost use Rattle.net_rows.specs.Settings.{are_labels, is_domain, is_visible};
+
+fn is_label_byte(b: u8) -> bool
+    ensures value { result ≡ is_label_byte b }
+{
+    b.is_ascii_lowercase() || b.is_ascii_digit() || b == b'-'
+}
+
+fn has_label_bytes(text: &[u8]) -> bool
+    ensures value { result ≡ list_all is_label_byte text.now }
+{
+    text.iter().all(|b| is_label_byte(*b))
+}
+
+fn has_label_length(text: &[u8]) -> bool
+    ensures value { result ≡ has_label_length text.now }
+{
+    1 <= text.len() && text.len() <= 63
+}
+
+fn has_good_ends(text: &[u8]) -> bool
+    ensures value { result ≡ has_good_ends text.now }
+{
+    !text.starts_with(b"-") && !text.ends_with(b"-")
+}
+
+fn is_label(text: &[u8]) -> bool
+    ensures value { result ≡ is_label text.now }
+{
+    has_label_length(text) && has_label_bytes(text) && has_good_ends(text)
+}
+
+/// Whether the text is labels joined by dots.
+fn are_labels(text: &[u8]) -> bool
+    ensures value { result ≡ are_labels [] text.now }
+{
+    let mut start = 0;
+    for i in 0..text.len() {
+        if text[i] == b'.' {
+            if !is_label(&text[start..i]) {
+                return false;
+            }
+            start = i + 1;
+        }
+    }
+    is_label(&text[start..])
+}
+
+/// Whether the text is labels joined by dots, up to 180 bytes.
+pub(crate) fn is_domain(text: &[u8]) -> bool
+    ensures value { result ≡ is_domain text.now }
+{
+    text.len() <= 180 && are_labels(text)
+}
+
+/// Whether each byte is visible ASCII.
+pub(crate) fn has_visible_bytes(text: &[u8]) -> bool
+    ensures value { result ≡ list_all (λ b. nat_le 33 b && nat_le b 126) text.now }
+{
+    text.iter().all(|b| 33 <= *b && *b <= 126)
+}
+
+/// Whether the text is 1 to 255 visible ASCII bytes.
+pub(crate) fn is_visible(text: &[u8]) -> bool
+    ensures value { result ≡ is_visible text.now }
+{
+    1 <= text.len() && text.len() <= 255 && has_visible_bytes(text)
+}
