@@ -30,7 +30,7 @@ pub took_none : (old new : Giving) → ((k : ℕ) → new.answers k ≡ old.answ
 took_none old new a w f = record { moments = tt; clock = same_number new.answers old.answers a; words = tt; entropy = same_number new.words old.words w; draws = omega arith }
 
 -- the moment that the clock answered, brought to the nearest moment
-clamped_told : (m : ℤ) (o : Option ℤ) → IsWhereTold m o → IsWhereTold (clamped m) (option_map clamped o)
+pub clamped_told : (m : ℤ) (o : Option ℤ) → IsWhereTold m o → IsWhereTold (clamped m) (option_map clamped o)
 clamped_told m None h = tt
 clamped_told m (Some n) h = ap clamped h
 

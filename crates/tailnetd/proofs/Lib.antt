@@ -2,3 +2,5 @@ pub mod Writes
 pub mod Tellings
 pub mod AnswerLemmas
 pub mod ServeLemmas
+pub mod TalkLemmas
+pub mod RunLemmas

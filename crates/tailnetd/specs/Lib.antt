@@ -3,3 +3,5 @@ pub mod Pieces
 pub mod Exchanges
 pub mod Asked
 pub mod Serve
+pub mod Talk
+pub mod Run

@@ -1,7 +1,7 @@
 //! How connections end.
 
 /// Why a connection ended.
-#[derive(Clone, Copy, Debug, PartialEq, Eq)]
+#[derive(Clone, Copy, Debug, PartialEq, Eq, Drop)]
 pub enum Closed {
     /// The input ended behind a request, or a request ended the connection.
     End,

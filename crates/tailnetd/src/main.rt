@@ -3,7 +3,11 @@
 
 mod answering;
 mod closed;
+mod conversing;
+mod ended;
+mod running;
 mod serving;
+mod status;
 mod writing;
 
 fn main(_rt: HostRuntime) {}

@@ -1,0 +1,7 @@
+use Rattle.tailnet_desk.specs.Chains.{Deals}
+use Rattle.tailnetd.specs.Talk.{point_of}
+use Rattle.tailnetd.proofs.TalkLemmas.{serves_map}
+use Rattle.tailnetd.proofs.conversing.serve_desk.Goals as goal
+
+pub returns : goal.returns
+returns g c = record { serves = serves_map _ Deals (point_of g.K.Keeper.faults) (λ s e reply t h. h) _ _ _ _ _ _ _ c.serve.ensures.serves }
