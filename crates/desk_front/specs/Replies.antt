@@ -1,5 +1,5 @@
 -- The bytes of a reply: its status and its body.
-use Rattle.std.specs.Prelude.{ℕ, List, [], ◌++◌, Bool, codes, decimal}
+use Rattle.std.specs.Prelude.{ℕ, List, ◌++◌, Bool, codes, decimal}
 use Rattle.http_front.specs.AnswerBytes.{answer}
 use Rattle.wire_json.specs.Registered.{registered_text}
 use Rattle.tailnet_desk.specs.declared.reply.Answer.{Answer}

@@ -79,9 +79,5 @@ pub fn wanted(alloc: Global, request: &Request) -> Result<Wanted, NoMemory>
     if request.method.as_str() != "POST" {
         return fault_answer(alloc, 405, "BadMethod");
     }
-    machine_wants(
-        alloc,
-        header_key(&request.machine),
-        request.body.as_slice(),
-    )
+    machine_wants(alloc, header_key(&request.machine), request.body.as_slice())
 }

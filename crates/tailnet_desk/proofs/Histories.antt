@@ -1,9 +1,8 @@
 -- Chains of turns, and the legal histories that they are.
-use Rattle.std.proofs.Common.{◌≡◌, ℕ, List, [], ◌∷◌, ◌++◌, refl, ap, sym, ◌∙◌, subst}
-use Rattle.std.specs.Prelude.{map}
+use Rattle.std.proofs.Common.{List, [], ◌∷◌, ◌++◌, refl, ap, sym, ◌∙◌, subst}
 use Rattle.tailnet_desk.specs.State.{State}
-use Rattle.tailnet_desk.specs.History.{IsCall, Legal, replay, count_at_end, state_after}
-use Rattle.tailnet_desk.specs.Chains.{Turned, Chain, Point, Deals, IsHistory, turned_of}
+use Rattle.tailnet_desk.specs.History.{Legal, replay}
+use Rattle.tailnet_desk.specs.Chains.{Turned, Chain, Point, Deals, IsHistory}
 use Rattle.tailnet_desk.specs.declared.entry.Event.{Event}
 use Rattle.tailnet_desk.specs.declared.entry.Entry.{Entry}
 use Rattle.tailnet_desk.specs.declared.reply.Reply.{Reply}

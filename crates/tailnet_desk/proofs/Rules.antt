@@ -1,5 +1,5 @@
 -- A decision is never refused for want of memory or for a fault of the keeper.
-use Rattle.std.proofs.Common.{◌≡◌, ◌≤◌, ℕ, Bool, true, false, not, ◌&&◌, List, Option, Some, None, Result, Ok, Err, if◌then◌else◌, sym, refl, ap, subst, arith}
+use Rattle.std.proofs.Common.{◌≡◌, ℕ, Bool, true, false, not, ◌&&◌, List, Option, Some, None, Result, Ok, Err, if◌then◌else◌, sym, refl, ap, subst, arith}
 use Rattle.tail_base.specs.Bits.{Address}
 use Rattle.tail_base.specs.declared.key.MachineKey.{MachineKey}
 use Rattle.net_rows.specs.Room.{has_room}
@@ -12,14 +12,13 @@ use Rattle.wire_json.specs.declared.register.Register.{Register}
 use Rattle.tailnet_desk.specs.Carried.{IsRuling}
 use Rattle.tailnet_desk.specs.History.{IsCall}
 use Rattle.tailnet_desk.specs.Profiles.{profile_of}
-use Rattle.tailnet_desk.specs.Register.{register_as, by_key, place_for, new_place, kept_place, usable_key, repeats, is_taken, admitted}
+use Rattle.tailnet_desk.specs.Register.{register_as, by_key, place_for, kept_place, usable_key, repeats, is_taken, admitted}
 use Rattle.tailnet_desk.specs.Seed.{seed, is_past_seed}
 use Rattle.tailnet_desk.specs.State.{State, at_moment, is_ahead}
-use Rattle.tailnet_desk.specs.Step.{decision, decided, moment_of, outcome, step}
+use Rattle.tailnet_desk.specs.Step.{decision, decided, moment_of, outcome}
 use Rattle.tailnet_desk.specs.Steps.{◌>>=◌, refuse_if, or_refuse}
 use Rattle.tailnet_desk.specs.declared.ask.Ask.{Ask}
 use Rattle.tailnet_desk.specs.declared.ask.Ask.TheVariants as ask
-use Rattle.tailnet_desk.specs.declared.decision.Decision.{Decision}
 use Rattle.tailnet_desk.specs.declared.decision.Decision.TheVariants.{Only}
 use Rattle.tailnet_desk.specs.declared.entry.Event.{Event}
 use Rattle.tailnet_desk.specs.declared.register.Place.{Place}

@@ -3,16 +3,16 @@ use Rattle.std.proofs.Common.{◌≡◌, ◌≢◌, ◌<◌, ◌≤◌, ◌+◌,
 use Rattle.std.specs.Prelude.{Contains}
 use Rattle.std.specs.List.{starts_with}
 use Rattle.std.specs.Str.{bytes_eq}
-use Rattle.tail_base.specs.Bits.{Address, IsBlock}
+use Rattle.tail_base.specs.Bits.{IsBlock}
 use Rattle.tail_base.specs.declared.key.MachineKey.{MachineKey}
 use Rattle.tail_base.specs.declared.key.NodeKey.{NodeKey}
 use Rattle.net_rows.specs.Damage.{damage, names_key}
-use Rattle.net_rows.specs.Limits.{asked_tag_limit, counter_limit, machine_limit, tag_limit}
+use Rattle.net_rows.specs.Limits.{counter_limit, machine_limit}
 use Rattle.net_rows.specs.Room.{has_room}
 use Rattle.net_rows.specs.Rows.{after, machine_of, key_of, pending_of}
 use Rattle.net_rows.specs.Settings.{AreSettings}
 use Rattle.net_rows.specs.Shelf.{put_row, without}
-use Rattle.net_rows.specs.Sound.{AreSound, FitsMachine, FitsKey, FitsUser, MachineKeeps, KeyKeeps}
+use Rattle.net_rows.specs.Sound.{AreSound, FitsMachine, FitsKey}
 use Rattle.net_rows.specs.declared.change.Change.{Change}
 use Rattle.net_rows.specs.declared.change.Kind.TheVariants as kind
 use Rattle.net_rows.specs.declared.change.Row.TheVariants as row
@@ -22,7 +22,7 @@ use Rattle.net_rows.specs.declared.pending.Pending.{Pending}
 use Rattle.net_rows.specs.declared.rows.Rows.{Rows}
 use Rattle.net_rows.specs.declared.settings.SettingsFields.{SettingsFields}
 use Rattle.net_rows.specs.declared.user.User.{User}
-use Rattle.net_rows.proofs.Bools.{truth, both, not_true, bytes_of, bytes_is, lt_of}
+use Rattle.net_rows.proofs.Bools.{truth, both, bytes_of, bytes_is, lt_of}
 use Rattle.net_rows.proofs.Members.{no_member, find_member, find_none, list_any_member}
 use Rattle.net_rows.proofs.PutLemmas.{put_there}
 use Rattle.net_rows.proofs.SoundPut.{sound_user, sound_key, sound_machine}
@@ -30,14 +30,14 @@ use Rattle.net_rows.proofs.SoundRemove.{sound_without_pending}
 use Rattle.net_rows.proofs.Sounds.{sound_of, no_damage}
 use Rattle.allot.specs.Addresses.{free_address}
 use Rattle.allot.specs.Names.{free_name}
-use Rattle.allot.proofs.AddressLaws.{IsFree, address_fresh, v4_inside, v6_inside}
+use Rattle.allot.proofs.AddressLaws.{address_fresh, v4_inside, v6_inside}
 use Rattle.allot.proofs.NameLaws.{name_fresh}
 use Rattle.wire_json.specs.declared.register.Register.{Register}
 use Rattle.tailnet_desk.specs.State.{State, is_ahead}
 use Rattle.tailnet_desk.specs.Carried.{IsSoundDecision}
 use Rattle.tailnet_desk.specs.Steps.{◌>>=◌, refuse_if, or_refuse, Gives}
 use Rattle.tailnet_desk.specs.Seed.{seed, is_past_seed, seed_change, seed_user, seed_key}
-use Rattle.tailnet_desk.specs.Register.{register, register_as, by_key, repeats, is_taken, usable_key, place_for, new_place, kept_place, machine_row, admission, admitted, pending_gone}
+use Rattle.tailnet_desk.specs.Register.{register_as, by_key, repeats, is_taken, usable_key, place_for, new_place, kept_place, machine_row, admission, admitted, pending_gone}
 use Rattle.tailnet_desk.specs.Step.{decision}
 use Rattle.tailnet_desk.proofs.Rules.{decision_ruled}
 use Rattle.tailnet_desk.proofs.TagLemmas.{length-sorted_once}

@@ -1,5 +1,5 @@
 -- What asks need.
-use Rattle.std.specs.Prelude.{ℕ, Bool, true, false, List, length, ◌==◌}
+use Rattle.std.specs.Prelude.{Bool, false, length, ◌==◌}
 use Rattle.tailnet_desk.specs.declared.ask.Ask.{Ask}
 use Rattle.tailnet_desk.specs.declared.ask.Ask.TheVariants.{Seed, Register}
 

@@ -1,5 +1,5 @@
 -- A change that was decided is kept, or left.
-use Rattle.std.specs.Prelude.{◌≡◌, ◌≤◌, ℕ, List, None, Result, Ok, Err}
+use Rattle.std.specs.Prelude.{◌≡◌, ℕ, List, None, Result, Ok, Err}
 use Rattle.net_rows.specs.Damage.{damage}
 use Rattle.net_rows.specs.Rows.{after}
 use Rattle.net_rows.specs.declared.rows.Rows.{Rows}

@@ -6,7 +6,7 @@ use Rattle.tailnet_desk.specs.Step.{step, decided, moment_of}
 use Rattle.tailnet_desk.specs.declared.entry.Event.{Event}
 use Rattle.tailnet_desk.specs.declared.entry.Entry.{Entry}
 use Rattle.tailnet_desk.specs.declared.reply.Reply.{Reply}
-use Rattle.tailnet_desk.specs.declared.reply.Reply.TheVariants.{Done, Refused}
+use Rattle.tailnet_desk.specs.declared.reply.Reply.TheVariants.{Refused}
 use Rattle.tailnet_desk.specs.declared.reply.Refusal.{Refusal}
 use Rattle.tailnet_desk.specs.declared.reply.Refusal.TheVariants.{NoMemory, KeeperFault}
 use Rattle.tailnet_desk.specs.declared.decision.Decision.{Decision}

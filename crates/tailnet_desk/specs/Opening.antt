@@ -1,5 +1,5 @@
 -- Which tables a desk opens.
-use Rattle.std.specs.Prelude.{ℕ, Bool, List, length, nat_lt, Option, None, Some, is_some, if◌then◌else◌}
+use Rattle.std.specs.Prelude.{Bool, List, length, nat_lt, Option, None, Some, is_some, if◌then◌else◌}
 use Rattle.std.specs.List.{find}
 use Rattle.std.specs.Option.{option_map, option_or}
 use Rattle.net_rows.specs.declared.rows.Rows.{Rows}

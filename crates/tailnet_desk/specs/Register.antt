@@ -7,7 +7,6 @@ use Rattle.tail_base.specs.declared.key.NodeKey.{NodeKey}
 use Rattle.net_rows.specs.Room.{has_room}
 use Rattle.net_rows.specs.declared.change.Kind.TheVariants as kind
 use Rattle.net_rows.specs.Rows.{machine_of, key_of, pending_of}
-use Rattle.net_rows.specs.declared.rows.Rows.{Rows}
 use Rattle.net_rows.specs.declared.key.AuthKey.{AuthKey}
 use Rattle.net_rows.specs.declared.machine.Machine.{Machine}
 use Rattle.net_rows.specs.declared.pending.Pending.{Pending}

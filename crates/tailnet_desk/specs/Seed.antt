@@ -1,5 +1,5 @@
 -- The first user and key.
-use Rattle.std.specs.Prelude.{◌+◌, ℕ, Bool, true, false, List, [], ◌∷◌, None, Result, Ok, length, codes, nat_lt, not, ◌&&◌, ◌||◌, nat_eq, if◌then◌else◌}
+use Rattle.std.specs.Prelude.{◌+◌, ℕ, Bool, true, false, List, [], ◌∷◌, None, Result, Ok, length, codes, nat_lt, not, ◌||◌, nat_eq, if◌then◌else◌}
 use Rattle.std.specs.List.{starts_with}
 use Rattle.net_rows.specs.Room.{has_room}
 use Rattle.net_rows.specs.declared.change.Kind.TheVariants as kind

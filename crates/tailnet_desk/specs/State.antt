@@ -1,6 +1,5 @@
 -- The state of a tailnet.
-use Rattle.std.specs.Prelude.{ℕ, ℤ, pos, ◌+ℤ◌, int_lt, Bool, true, false, List, [], ◌∷◌, map, Option, Some, None, if◌then◌else◌, not, ◌&&◌, ◌||◌, ◌==◌}
-use Rattle.std.specs.List.{find}
+use Rattle.std.specs.Prelude.{ℕ, ℤ, pos, ◌+ℤ◌, int_lt, Bool, true, false, List, [], ◌∷◌, map, Option, Some, None, not, ◌&&◌, ◌||◌}
 use Rattle.std.specs.Int.{int_min}
 use Rattle.std.specs.Option.{option_map}
 use Rattle.tail_base.specs.Moments.{later_of, last_moment}

@@ -1,5 +1,5 @@
 -- One event is one step of the Tailnet machine.
-use Rattle.std.specs.Prelude.{◌≡◌, ℕ, ℤ, List, Option, Result, Ok, Err}
+use Rattle.std.specs.Prelude.{ℕ, ℤ, List, Result, Ok, Err}
 use Rattle.net_rows.specs.Rows.{after}
 use Rattle.net_rows.specs.declared.change.Change.{Change}
 use Rattle.tailnet_desk.specs.State.{State, at_moment, all_offline}

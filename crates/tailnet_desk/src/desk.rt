@@ -141,13 +141,7 @@ impl<K: Keeper> Desk<K> {
     }
 
     /// Keeps a change, and answers. It takes all memory before the one commit.
-    fn carry(
-        &mut self,
-        alloc: Global,
-        change: Change,
-        offline: Items<u32>,
-        answer: Answer,
-    ) -> Reply
+    fn carry(&mut self, alloc: Global, change: Change, offline: Items<u32>, answer: Answer) -> Reply
         requires sound { damage (after self.old.state.rows change) ≡ None }
         ensures carried { Carried self.old.state change offline answer result self.new.state (K.faults self.old.keeper) (K.faults self.new.keeper) }
         ensures later { K.faults self.old.keeper ≤ K.faults self.new.keeper }
@@ -187,11 +181,13 @@ impl<K: Keeper> Desk<K> {
             Err(Stop::Memory) => Reply::Refused(Refusal::NoMemory),
             Err(Stop::Refused(refusal)) => Reply::Refused(refusal),
             Ok(Decision::Only(answer)) => Reply::Done(answer),
-            Ok(Decision::Changes {
-                change,
-                offline,
-                answer,
-            }) => self.carry(alloc, change, offline, answer),
+            Ok(
+                Decision::Changes {
+                    change,
+                    offline,
+                    answer,
+                },
+            ) => self.carry(alloc, change, offline, answer),
         }
     }
 

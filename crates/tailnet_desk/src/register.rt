@@ -184,9 +184,7 @@ fn admission(
     };
     let gone = pending_gone(alloc, at.tables.pending_of(machine))?;
     let mut puts = Items::new(alloc);
-    puts.push(Row::Machine(machine_row(
-        alloc, at, machine, form, key, place,
-    )?))?;
+    puts.push(Row::Machine(machine_row(alloc, at, machine, form, key, place)?))?;
     puts.push(Row::Key(used_key(alloc, key)?))?;
     Ok(Change { puts, gone, next })
 }

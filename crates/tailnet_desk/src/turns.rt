@@ -20,13 +20,7 @@ pub trait Turns {
     ghost turn: { Self → Event → Reply → Self → Type 0 };
 
     /// One event.
-    fn ask(
-        &mut self,
-        alloc: Global,
-        ask: &Ask,
-        moment: Moment,
-        words: Option<[u64; 4]>,
-    ) -> Reply
+    fn ask(&mut self, alloc: Global, ask: &Ask, moment: Moment, words: Option<[u64; 4]>) -> Reply
         ensures turn { turn self.old (event.Ask ask.now moment words) result self.new };
 }
 
@@ -35,13 +29,7 @@ impl<K: Keeper> Turns for Desk<K> {
 
     ghost turn = { λ old event reply new. IsCall old.state (K.faults old.keeper) event reply new.state (K.faults new.keeper) };
 
-    fn ask(
-        &mut self,
-        alloc: Global,
-        ask: &Ask,
-        moment: Moment,
-        words: Option<[u64; 4]>,
-    ) -> Reply {
+    fn ask(&mut self, alloc: Global, ask: &Ask, moment: Moment, words: Option<[u64; 4]>) -> Reply {
         Desk::ask(self, alloc, ask, moment, words)
     }
 }

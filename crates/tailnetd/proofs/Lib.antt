@@ -4,3 +4,4 @@ pub mod AnswerLemmas
 pub mod ServeLemmas
 pub mod TalkLemmas
 pub mod RunLemmas
+pub mod PipeLemmas

@@ -62,7 +62,7 @@ pub talked_run : (closed : Closed) (settings : SettingsFields) (seed : Option (L
 talked_run closed settings seed moment old new f d count final at shifted is rows_told talked last rose =
     let n = length talked.seeding in
     let served = serves_from Deals closed settings.requests [] (after_answers n (with_answers old.told f)) new.told talked.seeded final (from_number (1 + n) old.told.giving.answers)
-        (λ k. shifted (k + n) ∙ ap old.told.giving.answers (omega arith)) talked.serves in
+    (λ k. shifted (k + n) ∙ ap old.told.giving.answers (omega arith)) talked.serves in
     let start : Point = record { state = opening settings d.rows moment; count = count } in
     let chain : Chain Deals start (talked.seeding ++ turns_of talked.serves.exchanges) final =
     subst (λ (s : State). Chain Deals (record { state = s; count = count }) (talked.seeding ++ turns_of talked.serves.exchanges) final) is talked.chain in

@@ -5,3 +5,5 @@ pub mod Asked
 pub mod Serve
 pub mod Talk
 pub mod Run
+pub mod Pipe
+pub mod Top

@@ -117,7 +117,10 @@ pub(crate) fn answer_request<T: Turns, O: Sink, C: Clock, N: Entropy>(
             finish_early(answer_fixed(alloc, output, 400, body.as_slice(), true))
         }
         Ok(Wanted::Answer { status, body }) => {
-            finish(answer_fixed(alloc, output, status, body.as_slice(), close), close)
+            finish(
+                answer_fixed(alloc, output, status, body.as_slice(), close),
+                close,
+            )
         }
         Ok(Wanted::Ask(ask)) => finish(
             answer_ask(alloc, turns, output, clock, entropy, &ask, close),

@@ -1,13 +1,64 @@
-//! The control server of a private tailnet.
+//! `tailnetd`: the control server of a private tailnet.
 #![tactic(auto)]
 
 mod answering;
 mod closed;
 mod conversing;
 mod ended;
+mod noting;
+mod piping;
 mod running;
 mod serving;
 mod status;
+#[cfg(test)]
+mod tests;
+mod top;
 mod writing;
 
-fn main(_rt: HostRuntime) {}
+use crate::status::Status;
+use crate::top::tailnetd;
+use io_edge::{HostClock, HostEntropy, HostFiles, NoDoors, NoLink, NoPause, ReadSource, WriteSink};
+use net_rows::Tables;
+use row_keeper::MemoryOpener;
+use std::process::ExitCode;
+use std::{env, io};
+use tail_base::Items;
+
+/// The words after the program's name.
+fn words_of(rt: &HostRuntime) -> io::Result<Vec<String>> {
+    let mut words = Vec::new(rt.alloc());
+    for word in env::args(rt)?.skip(1) {
+        words.push(word)?;
+    }
+    Ok(words)
+}
+
+/// The program over the process's own streams, files, clock and random source, and tables in memory.
+fn main(rt: HostRuntime) -> ExitCode {
+    let alloc = rt.alloc();
+    let Ok(words) = words_of(&rt) else {
+        return ExitCode::from(Status::Usage as u8);
+    };
+    let mut opener = MemoryOpener::new(
+        alloc,
+        Tables::empty(alloc),
+        Items::new(alloc),
+        Items::new(alloc),
+    );
+    let status = tailnetd(
+        &rt,
+        alloc,
+        &words,
+        &mut ReadSource::new(rt.stdin()),
+        &mut WriteSink::new(rt.stdout()),
+        &mut WriteSink::new(rt.stderr()),
+        &mut HostFiles::new(rt),
+        &mut opener,
+        &mut HostClock::new(rt),
+        &mut HostEntropy::new(rt),
+        &mut NoDoors::new(),
+        &NoPause,
+        &mut NoLink::new(),
+    );
+    ExitCode::from(status as u8)
+}

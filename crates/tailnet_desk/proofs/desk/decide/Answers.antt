@@ -1,4 +1,4 @@
-use Rattle.std.proofs.Common.{◌≡◌, ap, sym}
+use Rattle.std.proofs.Common.{◌≡◌, ap}
 use Rattle.tailnet_desk.specs.State.{State}
 use Rattle.tailnet_desk.proofs.Sound.{sound_decision, holds_of}
 use Rattle.tailnet_desk.proofs.desk.decide.Goals as goal

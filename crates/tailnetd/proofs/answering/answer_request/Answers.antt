@@ -1,4 +1,4 @@
-use Rattle.std.proofs.Common.{◌≡◌, ◌==◌, ◌||◌, refl, sym, ap, ◌∙◌, true, false, Some, arith}
+use Rattle.std.proofs.Common.{◌≡◌, ◌==◌, refl, sym, true, false, Some, arith}
 use Rattle.std.proofs.lemmas.Bool.Decides.{nat_tests}
 use Rattle.http_front.specs.AnswerBytes.{answer}
 use Rattle.tailnetd.specs.Exchanges.{ended_by}
@@ -22,7 +22,7 @@ returns-in-Ok-Answer-eq400-default-clause-answered g c =
     (λ k. refl) (λ k. refl) (omega arith) sent c.finish_early.ensures.follows
 
 pub returns-in-Ok-Answer-clause-answered : goal.returns-in-Ok-Answer-clause-answered
-returns-in-Ok-Answer-clause-answered g c = 
+returns-in-Ok-Answer-clause-answered g c =
     let w = rw c.in-Ok-Answer.field-0-is at c.in-Ok-Answer.ensures.value in
     let differs = c.in-Ok-Answer.status-test in
     let other : (c.in-Ok-Answer.status == 400) ≡ false = grind (arith, nat_tests) in

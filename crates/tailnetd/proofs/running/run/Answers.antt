@@ -5,7 +5,7 @@ use Rattle.std.proofs.lemmas.Int.{to_z-of_z}
 use Rattle.io_edge.specs.Edge.{IsWhereTold}
 use Rattle.tail_base.specs.Moments.{clamped}
 use Rattle.tailnetd.proofs.AnswerLemmas.{clamped_told}
-use Rattle.tailnetd.proofs.RunLemmas.{talked_run, faulted, kept_still, kept_given, given_some, still_still, where_given, where_still}
+use Rattle.tailnetd.proofs.RunLemmas.{talked_run, faulted, kept_given, given_some, still_still, where_given, where_still}
 use Rattle.tailnetd.proofs.running.run.Goals as goal
 
 pub returns-in-Ok-open : goal.returns-in-Ok-open

@@ -1,4 +1,4 @@
-use Rattle.std.proofs.Common.{◌≡◌, arith, refl, [], ◌-◌, ◌<◌, ◌==◌, false}
+use Rattle.std.proofs.Common.{◌≡◌, arith, refl, [], ◌-◌, ◌==◌, false}
 use Rattle.std.proofs.lemmas.Bool.Decides.{nat_tests}
 use Rattle.io_edge.proofs.Told.{left_nothing}
 use Rattle.tailnetd.proofs.ServeLemmas.{serves_none, serves_more}

@@ -1,4 +1,4 @@
-use Rattle.std.proofs.Common.{◌<◌, ℕ, []}
+use Rattle.std.proofs.Common.{◌<◌, []}
 use Rattle.tailnetd.specs.Outside.{giving}
 use Rattle.tailnetd.specs.Serve.{Serves, Told, told}
 use Rattle.tailnetd.specs.declared.closed.Closed.{Closed}

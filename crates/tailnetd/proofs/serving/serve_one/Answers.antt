@@ -1,4 +1,4 @@
-use Rattle.std.proofs.Common.{arith, refl, sym, inl, inr}
+use Rattle.std.proofs.Common.{arith, refl, inl, inr}
 use Rattle.tailnetd.proofs.ServeLemmas.{serves_none, serves_refused, served_last, goes_one}
 use Rattle.tailnetd.specs.declared.closed.Closed.TheVariants.{End, Early, ReadFault, NoMemory}
 use Rattle.tailnetd.proofs.serving.serve_one.Goals as goal

@@ -1,4 +1,3 @@
-use Rattle.std.proofs.Common.{arith}
 use Rattle.tailnetd.proofs.Writes.{wrote_more, parts}
 use Rattle.tailnetd.proofs.writing.write_all.Goals as goal
 

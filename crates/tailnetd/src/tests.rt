@@ -1,0 +1,163 @@
+//! Requests through `pipe`, byte for byte, over memory objects.
+use crate::piping::pipe_command;
+use crate::status::Status;
+use io_edge::{MemoryClock, MemoryEntropy, MemoryFiles, MemorySink, MemorySource, NamedBytes};
+use net_rows::Tables;
+use row_keeper::MemoryOpener;
+use std::alloc::Global;
+use std::test::Fail;
+use tail_base::{Bytes, Items, NoMemory, Text};
+
+const SETTINGS: &[u8] =
+    b"base_domain = \"tail.example\"\nserver_url = \"http://tail.example\"\ntoken = \"secret\"\n";
+
+/// What a run left.
+#[derive(Drop)]
+struct Ran {
+    status: Status,
+    output: MemorySink,
+    errors: MemorySink,
+    machines: usize,
+}
+
+fn files_of(alloc: Global) -> Result<MemoryFiles, NoMemory> {
+    let mut files = Items::new(alloc);
+    files.push(NamedBytes {
+        name: Text::from_str(alloc, "tailnet.toml")?,
+        bytes: Bytes::from_slice(alloc, SETTINGS)?,
+    })?;
+    Ok(MemoryFiles::new(files, Items::new(alloc)))
+}
+
+fn clock_of(alloc: Global) -> Result<MemoryClock, NoMemory> {
+    let mut answers = Items::new(alloc);
+    answers.push(1_000_000_000)?;
+    Ok(MemoryClock::new(answers))
+}
+
+fn entropy_of(alloc: Global) -> Result<MemoryEntropy, NoMemory> {
+    let mut answers = Items::new(alloc);
+    answers.push([1, 2, 3, 4])?;
+    Ok(MemoryEntropy::new(answers, Items::new(alloc)))
+}
+
+fn opener_of(alloc: Global) -> MemoryOpener {
+    MemoryOpener::new(
+        alloc,
+        Tables::empty(alloc),
+        Items::new(alloc),
+        Items::new(alloc),
+    )
+}
+
+/// Runs `pipe tailnet.toml --seed k1` over the bytes.
+fn piped(alloc: Global, input: &[u8]) -> Result<Ran, NoMemory> {
+    let mut input = MemorySource::new(Bytes::from_slice(alloc, input)?, Items::new(alloc));
+    let mut output = MemorySink::new(alloc, Items::new(alloc));
+    let mut errors = MemorySink::new(alloc, Items::new(alloc));
+    let mut opener = opener_of(alloc);
+    let status = pipe_command(
+        alloc,
+        "tailnet.toml",
+        Some("k1"),
+        &mut input,
+        &mut output,
+        &mut errors,
+        &mut files_of(alloc)?,
+        &mut opener,
+        &mut clock_of(alloc)?,
+        &mut entropy_of(alloc)?,
+    );
+    let machines = opener.tables().machines().len();
+    Ok(Ran {
+        status,
+        output,
+        errors,
+        machines,
+    })
+}
+
+const REGISTERED: &[u8] =
+    b"HTTP/1.1 200 OK\r\nContent-Type: application/json\r\nContent-Length: 147\r\n\r\n{\"AuthURL\":\"\",\"Error\":\"\",\"Login\":{\"ID\":1,\"LoginName\":\"seed@\"},\"MachineAuthorized\":true,\"NodeKeyExpired\":false,\"User\":{\"DisplayName\":\"seed\",\"ID\":1}}";
+
+const FIRST: &[u8] =
+    b"POST /machine/register HTTP/1.1\r\nHost: tail\r\nTs-Machine-Key: mkey:1111111111111111111111111111111111111111111111111111111111111111\r\nContent-Length: 110\r\n\r\n{\"Auth\":{\"AuthKey\":\"k1\"},\"NodeKey\":\"nodekey:aaaaaaaaaaaaaaaaaaaaaaaaaaaaaaaaaaaaaaaaaaaaaaaaaaaaaaaaaaaaaaaa\"}";
+
+const UNKNOWN_KEY: &[u8] =
+    b"POST /machine/register HTTP/1.1\r\nHost: tail\r\nTs-Machine-Key: mkey:1111111111111111111111111111111111111111111111111111111111111111\r\nContent-Length: 110\r\n\r\n{\"Auth\":{\"AuthKey\":\"zz\"},\"NodeKey\":\"nodekey:aaaaaaaaaaaaaaaaaaaaaaaaaaaaaaaaaaaaaaaaaaaaaaaaaaaaaaaaaaaaaaaa\"}";
+
+const KEY_UNKNOWN: &[u8] =
+    b"HTTP/1.1 401 Unauthorized\r\nContent-Type: application/json\r\nContent-Length: 22\r\n\r\n{\"error\":\"KeyUnknown\"}";
+
+/// One input, the status, the output and errors that it has to give, and how many machines it makes.
+#[derive(Drop)]
+struct Row {
+    input: &'static [u8],
+    status: Status,
+    output: &'static [u8],
+    errors: &'static [u8],
+    machines: usize,
+}
+
+/// Whether a run left what the row says.
+fn meets(ran: &Ran, row: &Row) -> bool {
+    ran.status == row.status
+        && ran.output.bytes() == row.output
+        && ran.errors.bytes() == row.errors
+        && ran.machines == row.machines
+}
+
+#[test]
+fn rows_of_pipe(rt: HostRuntime) -> Result<(), Fail> {
+    let rows = [
+        Row {
+            input: b"",
+            status: Status::Ok,
+            output: b"",
+            errors: b"",
+            machines: 0,
+        },
+        Row {
+            input: FIRST,
+            status: Status::Ok,
+            output: REGISTERED,
+            errors: b"",
+            machines: 1,
+        },
+        Row {
+            input: UNKNOWN_KEY,
+            status: Status::Ok,
+            output: KEY_UNKNOWN,
+            errors: b"",
+            machines: 0,
+        },
+        Row {
+            input: b"POST /machine/register HTTP/1.1\r\nHost: x\r\nContent-Length: 100\r\n\r\nxxxxxxxxxxxxxxxxxxxxxxxxxxxxxxxxxxxxxxxx",
+            status: Status::Early,
+            output: b"",
+            errors: b"tailnetd: closed early\n",
+            machines: 0,
+        },
+        Row {
+            input: b"GET /x HTTP/1.1\r\nHost: x\r\n\r\n",
+            status: Status::Ok,
+            output: b"HTTP/1.1 404 Not Found\r\nContent-Type: application/json\r\nContent-Length: 18\r\n\r\n{\"error\":\"NoPath\"}",
+            errors: b"",
+            machines: 0,
+        },
+        Row {
+            input: b"x\r\n\r\n",
+            status: Status::Early,
+            output: b"HTTP/1.1 400 Bad Request\r\nContent-Type: application/json\r\nContent-Length: 19\r\nConnection: close\r\n\r\n{\"error\":\"BadHead\"}",
+            errors: b"tailnetd: closed early\n",
+            machines: 0,
+        },
+    ];
+    for row in rows.iter() {
+        match piped(rt.alloc(), row.input) {
+            Ok(ran) => assert!(rt; meets(&ran, row)),
+            Err(NoMemory) => assert!(rt; false),
+        }
+    }
+    Ok(())
+}

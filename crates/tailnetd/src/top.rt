@@ -1,0 +1,64 @@
+//! The top call.
+ghost use Rattle.std.specs.Prelude.{map, string_bytes};
+ghost use Rattle.tail_words.specs.Words.{words_of};
+ghost use Rattle.tailnetd.specs.Outside.{giving};
+ghost use Rattle.tailnetd.specs.Run.{world};
+ghost use Rattle.tailnetd.specs.Serve.{told};
+ghost use Rattle.tailnetd.specs.Top.{Top};
+
+use crate::noting::note_usage;
+use crate::piping::pipe_command;
+use crate::status::Status;
+use io_edge::{Clock, Doors, Entropy, Files, Link, Pause, Sink, Source};
+use row_keeper::Opener;
+use std::alloc::Global;
+use std::sync::Wait;
+use std::thread::Threads;
+use tail_words::{Pipe, read_words};
+
+/// The whole program over its outside: the words after its name, and all that it may touch.
+///
+/// `pipe` alone is a command so far. It waits for nobody, asks no door and no link, and starts no
+/// thread.
+pub fn tailnetd<
+    R: Threads + Wait + Sync,
+    I: Source,
+    O: Sink,
+    E: Sink,
+    F: Files,
+    P: Opener,
+    C: Clock + Send,
+    N: Entropy + Send,
+    D: Doors,
+    A: Pause + Sync,
+    L: Link,
+>(
+    _rt: &R,
+    alloc: Global,
+    words: &[String],
+    input: &mut I,
+    output: &mut O,
+    errors: &mut E,
+    files: &mut F,
+    opener: &mut P,
+    clock: &mut C,
+    entropy: &mut N,
+    _doors: &mut D,
+    _pause: &A,
+    _link: &mut L,
+) -> Status
+    ensures outcome { let at = giving O.holds O.write_faults C.answer N.word N.faults in
+        Top (words_of (map string_bytes words.now)) result (F.holds files.old) (F.faults files.old) (F.faults files.new)
+        (world P.told P.faults opener.old (told I.left I.read_faults input.old (at output.old clock.old entropy.old)))
+        (world P.told P.faults opener.new (told I.left I.read_faults input.new (at output.new clock.new entropy.new))) }
+{
+    match read_words(words) {
+        Some(Pipe { file, seed }) => pipe_command(
+            alloc, file, seed, input, output, errors, files, opener, clock, entropy,
+        ),
+        None => {
+            note_usage(errors);
+            Status::Usage
+        }
+    }
+}
