@@ -89,6 +89,18 @@ const UNKNOWN_KEY: &[u8] =
 const KEY_UNKNOWN: &[u8] =
     b"HTTP/1.1 401 Unauthorized\r\nContent-Type: application/json\r\nContent-Length: 22\r\n\r\n{\"error\":\"KeyUnknown\"}";
 
+const REGISTERED_TWICE: &[u8] =
+    b"HTTP/1.1 200 OK\r\nContent-Type: application/json\r\nContent-Length: 147\r\n\r\n{\"AuthURL\":\"\",\"Error\":\"\",\"Login\":{\"ID\":1,\"LoginName\":\"seed@\"},\"MachineAuthorized\":true,\"NodeKeyExpired\":false,\"User\":{\"DisplayName\":\"seed\",\"ID\":1}}HTTP/1.1 200 OK\r\nContent-Type: application/json\r\nContent-Length: 147\r\n\r\n{\"AuthURL\":\"\",\"Error\":\"\",\"Login\":{\"ID\":1,\"LoginName\":\"seed@\"},\"MachineAuthorized\":true,\"NodeKeyExpired\":false,\"User\":{\"DisplayName\":\"seed\",\"ID\":1}}";
+
+const TWICE: &[u8] =
+    b"POST /machine/register HTTP/1.1\r\nHost: tail\r\nTs-Machine-Key: mkey:1111111111111111111111111111111111111111111111111111111111111111\r\nContent-Length: 110\r\n\r\n{\"Auth\":{\"AuthKey\":\"k1\"},\"NodeKey\":\"nodekey:aaaaaaaaaaaaaaaaaaaaaaaaaaaaaaaaaaaaaaaaaaaaaaaaaaaaaaaaaaaaaaaa\"}POST /machine/register HTTP/1.1\r\nHost: tail\r\nTs-Machine-Key: mkey:1111111111111111111111111111111111111111111111111111111111111111\r\nContent-Length: 110\r\n\r\n{\"Auth\":{\"AuthKey\":\"k1\"},\"NodeKey\":\"nodekey:aaaaaaaaaaaaaaaaaaaaaaaaaaaaaaaaaaaaaaaaaaaaaaaaaaaaaaaaaaaaaaaa\"}";
+
+const THEN_TAKEN: &[u8] =
+    b"POST /machine/register HTTP/1.1\r\nHost: tail\r\nTs-Machine-Key: mkey:1111111111111111111111111111111111111111111111111111111111111111\r\nContent-Length: 110\r\n\r\n{\"Auth\":{\"AuthKey\":\"k1\"},\"NodeKey\":\"nodekey:aaaaaaaaaaaaaaaaaaaaaaaaaaaaaaaaaaaaaaaaaaaaaaaaaaaaaaaaaaaaaaaa\"}POST /machine/register HTTP/1.1\r\nHost: tail\r\nTs-Machine-Key: mkey:2222222222222222222222222222222222222222222222222222222222222222\r\nContent-Length: 110\r\n\r\n{\"Auth\":{\"AuthKey\":\"k1\"},\"NodeKey\":\"nodekey:aaaaaaaaaaaaaaaaaaaaaaaaaaaaaaaaaaaaaaaaaaaaaaaaaaaaaaaaaaaaaaaa\"}";
+
+const REGISTERED_THEN_TAKEN: &[u8] =
+    b"HTTP/1.1 200 OK\r\nContent-Type: application/json\r\nContent-Length: 147\r\n\r\n{\"AuthURL\":\"\",\"Error\":\"\",\"Login\":{\"ID\":1,\"LoginName\":\"seed@\"},\"MachineAuthorized\":true,\"NodeKeyExpired\":false,\"User\":{\"DisplayName\":\"seed\",\"ID\":1}}HTTP/1.1 409 Conflict\r\nContent-Type: application/json\r\nContent-Length: 24\r\n\r\n{\"error\":\"NodeKeyTaken\"}";
+
 /// One input, the status, the output and errors that it has to give, and how many machines it makes.
 #[derive(Drop)]
 struct Row {
@@ -121,6 +133,20 @@ fn rows_of_pipe(rt: HostRuntime) -> Result<(), Fail> {
             input: FIRST,
             status: Status::Ok,
             output: REGISTERED,
+            errors: b"",
+            machines: 1,
+        },
+        Row {
+            input: TWICE,
+            status: Status::Ok,
+            output: REGISTERED_TWICE,
+            errors: b"",
+            machines: 1,
+        },
+        Row {
+            input: THEN_TAKEN,
+            status: Status::Ok,
+            output: REGISTERED_THEN_TAKEN,
             errors: b"",
             machines: 1,
         },

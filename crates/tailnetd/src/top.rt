@@ -1,5 +1,5 @@
 //! The top call.
-ghost use Rattle.std.specs.Prelude.{map, string_bytes};
+ghost use Rattle.std.specs.Prelude.{◌≡◌, map, string_bytes};
 ghost use Rattle.tail_words.specs.Words.{words_of};
 ghost use Rattle.tailnetd.specs.Outside.{giving};
 ghost use Rattle.tailnetd.specs.Run.{world};
@@ -43,14 +43,16 @@ pub fn tailnetd<
     opener: &mut P,
     clock: &mut C,
     entropy: &mut N,
-    _doors: &mut D,
+    doors: &mut D,
     _pause: &A,
-    _link: &mut L,
+    link: &mut L,
 ) -> Status
     ensures outcome { let at = giving O.holds O.write_faults C.answer N.word N.faults in
         Top (words_of (map string_bytes words.now)) result (F.holds files.old) (F.faults files.old) (F.faults files.new)
         (world P.told P.faults opener.old (told I.left I.read_faults input.old (at output.old clock.old entropy.old)))
         (world P.told P.faults opener.new (told I.left I.read_faults input.new (at output.new clock.new entropy.new))) }
+    ensures doors { doors.new ≡ doors.old }
+    ensures link { link.new ≡ link.old }
 {
     match read_words(words) {
         Some(Pipe { file, seed }) => pipe_command(
