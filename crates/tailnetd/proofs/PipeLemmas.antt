@@ -28,5 +28,5 @@ outcome_of (ended.Settings rule key) file before now seed old new p = p
 outcome_of ended.TooLarge file before now seed old new p = p
 outcome_of ended.FileFault file before now seed old new p = inr p
 outcome_of ended.KeeperFault file before now seed old new p = p
-outcome_of (ended.Damaged kind id) file before now seed old new p = (p.0, record { kind = kind; id = id }, p.1)
+outcome_of (ended.Damaged kind id) file before now seed old new p = (p.0, (record { kind = kind; id = id }, p.1))
 outcome_of ended.NoMemory file before now seed old new p = inl p
