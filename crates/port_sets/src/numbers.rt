@@ -1,0 +1,38 @@
+//! Decimal numbers.
+ghost use Rattle.std.specs.Prelude.{◌≡◌, ◌≤◌, length};
+ghost use Rattle.port_sets.specs.Numbers.{digits_after, digits_number, number_in};
+
+/// The number of these digits, if all are digits.
+fn digits(text: &[u8]) -> Option<u32>
+    requires short { length text.now ≤ 5 }
+    ensures value { result ≡ digits_after 0 text.now }
+{
+    let mut n = 0;
+    for b in text {
+        n = n * 10 + char::from(*b).to_digit(10)?;
+    }
+    Some(n)
+}
+
+/// The number of one to five digits. Leading zeros may stand.
+fn digits_number(text: &[u8]) -> Option<u32>
+    ensures value { result ≡ digits_number text.now }
+{
+    if 1 <= text.len() && text.len() <= 5 {
+        digits(text)
+    } else {
+        None
+    }
+}
+
+/// The number in a range that one to five digits spell.
+pub(crate) fn number_in(text: &[u8], least: u16, most: u16) -> Option<u16>
+    ensures value { result ≡ number_in least most text.now }
+{
+    let n = digits_number(text)?;
+    if u32::from(least) <= n && n <= u32::from(most) {
+        Some(n as u16)
+    } else {
+        None
+    }
+}
