@@ -1,5 +1,6 @@
-//! Decimal numbers.
-ghost use Rattle.std.specs.Prelude.{◌≡◌, ◌≤◌, length};
+//! Decimal numbers, and what stands between them.
+ghost use Rattle.std.specs.Prelude.{◌≡◌, ◌≤◌, ◌==◌, length};
+ghost use Rattle.std.specs.List.{position_or_len};
 ghost use Rattle.port_sets.specs.Numbers.{digits_after, digits_number, number_in};
 
 /// The number of these digits, if all are digits.
@@ -35,4 +36,16 @@ pub(crate) fn number_in(text: &[u8], least: u16, most: u16) -> Option<u16>
     } else {
         None
     }
+}
+
+/// The place of the first such byte, or else the length.
+pub(crate) fn place_of(text: &[u8], byte: u8) -> usize
+    ensures value { result ≡ position_or_len (λ b. b == byte) text.now }
+{
+    for (at, b) in text.iter().enumerate() {
+        if *b == byte {
+            return at;
+        }
+    }
+    text.len()
 }
