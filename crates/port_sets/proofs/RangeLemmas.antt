@@ -1,5 +1,5 @@
 -- Ranges joined hold the same ports, and stay apart.
-use Rattle.std.proofs.Common.{◌≡◌, ◌+◌, ◌<◌, ◌≤◌, ◌^◌, ℕ, Bool, true, false, ◌&&◌, ◌||◌, List, [], ◌∷◌, cond, leb, ltb, min, max, arith, refl, sym, ap, ◌∙◌}
+use Rattle.std.proofs.Common.{◌≡◌, ◌+◌, ◌<◌, ◌≤◌, ◌^◌, ℕ, Bool, true, false, ◌||◌, List, [], ◌∷◌, min, max, arith, refl, sym, ap, ◌∙◌}
 use Rattle.std.proofs.lemmas.Bool.Decides.{nat_tests}
 use Rattle.port_sets.specs.declared.range.PortRange.{PortRange}
 use Rattle.port_sets.specs.Ranges.{in_piece, holds, IsApart, is_before, joined, inserted, merged_into}

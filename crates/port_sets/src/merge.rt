@@ -1,6 +1,6 @@
 //! Ranges joined.
-ghost use Rattle.std.specs.Prelude.{◌≡◌, ◌≤◌, IfOk};
-ghost use Rattle.port_sets.specs.Ranges.{IsApart, inserted};
+ghost use Rattle.std.specs.Prelude.{◌≡◌, IfOk};
+ghost use Rattle.port_sets.specs.Ranges.{inserted};
 
 use crate::range::PortRange;
 use std::alloc::{AllocError, Global};
@@ -12,7 +12,6 @@ pub(crate) fn inserted(
     ranges: &[PortRange],
 ) -> Result<Vec<PortRange>, AllocError>
     ensures value { IfOk result (λ v. v.items ≡ inserted range ranges.now) }
-    ensures apart { range.first ≤ range.last → IsApart 0 ranges.now → IfOk result (λ v. IsApart 0 v.items) }
 {
     let mut out = Vec::new(alloc);
     let mut range = range;

@@ -1,5 +1,5 @@
 //! Decimal numbers, and what stands between them.
-ghost use Rattle.std.specs.Prelude.{◌≡◌, ◌≤◌, ◌==◌, length};
+ghost use Rattle.std.specs.Prelude.{◌≡◌, ◌≤◌, ◌<◌, ◌+◌, ◌==◌, drop, length};
 ghost use Rattle.std.specs.List.{position_or_len};
 ghost use Rattle.port_sets.specs.Numbers.{digits_after, digits_number, number_in};
 
@@ -48,4 +48,12 @@ pub(crate) fn place_of(text: &[u8], byte: u8) -> usize
         }
     }
     text.len()
+}
+
+/// What stands after that place.
+pub(crate) fn after(text: &[u8], at: usize) -> &[u8]
+    requires inside { at < length text.now }
+    ensures value { result.now ≡ drop (at + 1) text.now }
+{
+    &text[at + 1..]
 }

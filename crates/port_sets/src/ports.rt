@@ -6,10 +6,13 @@ ghost use Rattle.port_sets.specs.Ranges.{IsApart, holds};
 
 use crate::fault::PortFault;
 use crate::merge::inserted;
-use crate::numbers::place_of;
+use crate::numbers::{after, place_of};
 use crate::range::PortRange;
 use std::alloc::Global;
 use std::marker::Model;
+
+/// How many pieces a text may have.
+const MOST_PIECES: usize = 64;
 
 /// A set of ports. Contracts see it as its ranges, which ascend, and neither overlap nor touch.
 #[derive(Drop)]
@@ -81,7 +84,7 @@ fn merged(alloc: Global, text: &[u8]) -> Result<Vec<PortRange>, PortFault>
 {
     let mut ranges = Vec::new(alloc);
     let mut rest = text;
-    for _ in 0..64 {
+    for _ in 0..MOST_PIECES {
         let at = place_of(rest, b',');
         if at == rest.len() {
             let piece = PortRange::read(rest)?;
@@ -89,7 +92,7 @@ fn merged(alloc: Global, text: &[u8]) -> Result<Vec<PortRange>, PortFault>
         }
         let piece = PortRange::read(&rest[..at])?;
         ranges = inserted(alloc, piece, &ranges)?;
-        rest = &rest[at + 1..];
+        rest = after(rest, at);
     }
     Err(PortFault::TooMany)
 }

@@ -1,10 +1,10 @@
 //! Ranges of ports.
-ghost use Rattle.std.specs.Prelude.{◌≡◌, ◌≤◌, IfOk};
+ghost use Rattle.std.specs.Prelude.{◌≡◌, ◌≤◌, ◌<◌, ◌^◌, IfOk};
 ghost use Rattle.port_sets.specs.PortTexts.{piece_between, piece_of};
 ghost use Rattle.port_sets.specs.Ranges.{in_piece, is_before, joined};
 
 use crate::fault::PortFault;
-use crate::numbers::{number_in, place_of};
+use crate::numbers::{after, number_in, place_of};
 
 /// The ports from the first to the last, both included.
 #[derive(Clone, Copy, Debug, PartialEq, Eq, Drop)]
@@ -18,11 +18,12 @@ impl PortRange {
     pub(crate) fn read(text: &[u8]) -> Result<PortRange, PortFault>
         ensures value { result ≡ piece_of text.now }
         ensures ordered { IfOk result (λ range. range.first ≤ range.last) }
+        ensures fits { IfOk result (λ range. range.last < 2 ^ 16) }
     {
         let at = place_of(text, b'-');
         if at < text.len() {
             let first = number_in(&text[..at], 0, 65535);
-            let last = number_in(&text[at + 1..], 0, 65535);
+            let last = number_in(after(text, at), 0, 65535);
             PortRange::of_numbers(first, last)
         } else {
             let port = number_in(text, 0, 65535);
@@ -33,6 +34,7 @@ impl PortRange {
     fn of_numbers(first: Option<u16>, last: Option<u16>) -> Result<PortRange, PortFault>
         ensures value { result ≡ piece_between first last }
         ensures ordered { IfOk result (λ range. range.first ≤ range.last) }
+        ensures fits { IfOk result (λ range. range.last < 2 ^ 16) }
     {
         match (first, last) {
             (Some(first), Some(last)) if first <= last => Ok(PortRange { first, last }),
