@@ -1,0 +1,4 @@
+pub mod Numbers
+pub mod PortTexts
+pub mod Protocols
+pub mod Ranges
