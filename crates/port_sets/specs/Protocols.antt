@@ -1,5 +1,5 @@
 -- The protocols that a rule is about, by their IANA numbers.
-use Rattle.std.specs.Prelude.{ℕ, ◌≤◌, ◌==◌, ◌||◌, Bool, List, [], ◌∷◌, Option, Some, None, codes, if◌then◌else◌}
+use Rattle.std.specs.Prelude.{ℕ, ◌≤◌, ◌==◌, ◌||◌, Bool, false, List, [], ◌∷◌, Option, Some, None, codes, if◌then◌else◌}
 use Rattle.std.specs.List.{list_any, list_all}
 use Rattle.std.specs.Str.{bytes_eq}
 use Rattle.port_sets.specs.Numbers.{number_in}
@@ -51,6 +51,15 @@ abbrev pub first_of : Option ℕ → Option ℕ → Option ℕ
 first_of (Some proto) other = Some proto
 first_of None other = other
 
+-- the text begins with the digit 0
+abbrev pub leads_with_zero : List ℕ → Bool
+leads_with_zero [] = false
+leads_with_zero (b ∷ bs) = b == 48
+
+-- the number of a protocol, without leading zeros
+abbrev pub proto_number : List ℕ → Option ℕ
+proto_number text = if leads_with_zero text then None else number_in 1 255 text
+
 -- the protocol that a text names, or whose number it spells
 abbrev pub proto_of_text : List ℕ → Option ℕ
-proto_of_text text = first_of (proto_named text) (number_in 1 255 text)
+proto_of_text text = first_of (proto_named text) (proto_number text)

@@ -1,6 +1,6 @@
 //! Protocols.
 ghost use Rattle.std.specs.Prelude.{◌≡◌, None, option_map};
-ghost use Rattle.port_sets.specs.Protocols.{IsProtos, all_ported, has_member, is_ported, proto_named, proto_of_text, short_named};
+ghost use Rattle.port_sets.specs.Protocols.{IsProtos, all_ported, has_member, is_ported, leads_with_zero, proto_named, proto_number, proto_of_text, short_named};
 
 use crate::numbers::number_in;
 use std::marker::Model;
@@ -27,9 +27,8 @@ impl Model for Protos {
 }
 
 impl Protos {
-    /// The one protocol that the text names, or whose number from 1 to 255 it spells. The number has
-    /// one to five decimal digits, as a port has, so leading zeros may stand. Names are in lower
-    /// case.
+    /// The one protocol that the text names, or whose number from 1 to 255 it spells in decimal digits
+    /// without leading zeros. Names are in lower case.
     pub fn read(text: &[u8]) -> Option<Protos>
         ensures value { result ≡ option_map Some (proto_of_text text.now) }
     {
@@ -80,10 +79,29 @@ fn proto_of_text(text: &[u8]) -> Option<u8>
 {
     match proto_named(text) {
         Some(proto) => Some(proto),
-        None => match number_in(text, 1, 255) {
-            Some(number) => Some(number as u8),
-            None => None,
-        },
+        None => proto_number(text),
+    }
+}
+
+fn leads_with_zero(text: &[u8]) -> bool
+    ensures value { result ≡ leads_with_zero text.now }
+{
+    match text {
+        [first, ..] => *first == b'0',
+        [] => false,
+    }
+}
+
+/// The number of a protocol, without leading zeros.
+fn proto_number(text: &[u8]) -> Option<u8>
+    ensures value { result ≡ proto_number text.now }
+{
+    if leads_with_zero(text) {
+        return None;
+    }
+    match number_in(text, 1, 255) {
+        Some(number) => Some(number as u8),
+        None => None,
     }
 }
 

@@ -11,7 +11,7 @@ fn is_proto(text: &[u8], proto: u8, has_ports: bool) -> bool {
 #[test]
 fn protocols(rt: HostRuntime) {
     assert!(rt; is_proto(b"tcp", 6, true) && is_proto(b"17", 17, true));
-    assert!(rt; is_proto(b"sctp", 132, true) && is_proto(b"006", 6, true));
+    assert!(rt; is_proto(b"sctp", 132, true) && Protos::read(b"006").is_none());
     assert!(rt; is_proto(b"ip-in-ip", 4, false) && is_proto(b"255", 255, false));
     assert!(rt; Protos::read(b"0").is_none() && Protos::read(b"256").is_none());
     assert!(rt; Protos::read(b"").is_none() && Protos::read(b"TCP").is_none());
