@@ -8,6 +8,7 @@ pub mod GroupTexts
 pub mod Keys
 pub mod Labels
 pub mod Logins
+pub mod MomentReads
 pub mod MomentTexts
 pub mod Moments
 pub mod Numerals

@@ -19,7 +19,9 @@ mod naming;
 mod numerals;
 mod parts;
 mod prefix;
+mod prefix_fault;
 mod quad;
+mod stamp;
 mod tag;
 mod text;
 
@@ -33,5 +35,6 @@ pub use login::Login;
 pub use memory::{Duplicate, NoMemory};
 pub use moment::Moment;
 pub use prefix::Prefix;
+pub use prefix_fault::PrefixFault;
 pub use tag::Tag;
 pub use text::Text;

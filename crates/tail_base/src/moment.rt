@@ -1,11 +1,14 @@
 //! Moments.
-ghost use Rattle.std.specs.Prelude.{◌≡◌, ℕ, ℤ, pos, ◌+ℤ◌, int_lt, if◌then◌else◌, IfOk};
+ghost use Rattle.std.specs.Prelude.{◌≡◌, ℕ, ℤ, ◌<◌, pos, ◌+ℤ◌, ◌-ℤ◌, ◌*ℤ◌, int_lt, if◌then◌else◌, IfOk, drop};
 ghost use Rattle.std.specs.Int.{int_min};
 ghost use Rattle.tail_base.specs.Moments.{IsMoment, clamped, later_of, first_moment, last_moment};
+ghost use Rattle.jiff_core.specs.Calendar.{IsEpochDay, IsWithin};
+ghost use Rattle.tail_base.specs.MomentReads.{in_years, moment_of_text};
 ghost use Rattle.tail_base.specs.MomentTexts.{moment_text};
 
 use crate::civil::instant_text;
 use crate::memory::{Duplicate, NoMemory};
+use crate::stamp::{day_of, fraction_length, has_marks, offset_of, time_of};
 use crate::text::Text;
 use std::alloc::Global;
 use std::marker::Model;
@@ -81,11 +84,60 @@ impl Moment {
         Moment::clamp(self.seconds + i64::from(seconds))
     }
 
+    /// The moment that an RFC 3339 text spells, as `2001-09-09T03:46:40.9+02:00`: with capital `T`
+    /// and `Z`, hours to 23, minutes and seconds to 59. The fraction is dropped. None where the
+    /// text has another form, the date isn't one, or the value leaves the years 1 to 9999.
+    pub fn read(text: &[u8]) -> Option<Moment>
+        ensures value { result ≡ moment_of_text text.now }
+    {
+        if !has_marks(text) {
+            return None;
+        }
+        let day = day_of(text)?;
+        let time = time_of(text)?;
+        let rest = after(text, 19);
+        let fraction = fraction_length(rest)?;
+        let offset = offset_of(&rest[fraction..])?;
+        in_years(seconds_at(day, time, offset))
+    }
+
     /// The date and time of day in UTC, as `YYYY-MM-DDThh:mm:ssZ`.
     pub fn write(&self, alloc: Global) -> Result<Text, NoMemory>
         ensures value { IfOk result (λ text. text ≡ moment_text self.now) }
     {
         instant_text(alloc, (self.seconds - FIRST) as u64)
+    }
+}
+
+/// The seconds since 1970 of a time on a day, at an offset.
+fn seconds_at(day: i64, time: u32, offset: i64) -> i64
+    requires day_in { IsEpochDay day }
+    requires time_in { time < 86400 }
+    requires offset_in { IsWithin 86399 offset }
+    ensures value { result ≡ day *ℤ pos 86400 +ℤ pos time -ℤ offset }
+{
+    day * 86400 + i64::from(time) - offset
+}
+
+/// The text from a place on.
+fn after(text: &[u8], place: usize) -> &[u8]
+    ensures value { result.now ≡ drop place text.now }
+{
+    if text.len() < place {
+        &[]
+    } else {
+        &text[place..]
+    }
+}
+
+/// The moment of these seconds, if it lies in the years 1 to 9999.
+fn in_years(seconds: i64) -> Option<Moment>
+    ensures value { result ≡ in_years seconds }
+{
+    if FIRST <= seconds && seconds <= LAST {
+        Some(Moment { seconds })
+    } else {
+        None
     }
 }
 

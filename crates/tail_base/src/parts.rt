@@ -95,7 +95,7 @@ fn with_part(notation: Notation, parts: Parts, text: &[u8]) -> Option<Parts>
 }
 
 /// Where the first mark stands.
-fn place_of(text: &[u8], mark: u8) -> Option<usize>
+pub fn place_of(text: &[u8], mark: u8) -> Option<usize>
     ensures value { result ≡ position (λ b. b == mark) text.now }
 {
     text.iter().position(|b| *b == mark)

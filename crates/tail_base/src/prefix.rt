@@ -1,11 +1,14 @@
 //! Prefixes.
-ghost use Rattle.std.specs.Prelude.{◌≡◌, ℕ, ◌<◌, ◌≤◌, ◌-◌, ◌^◌, ◌↔◌, IsTrue, IfOk};
-ghost use Rattle.tail_base.specs.Bits.{IsBlock, family_bits};
+ghost use Rattle.std.specs.Prelude.{◌≡◌, ℕ, ◌<◌, ◌≤◌, ◌-◌, ◌%◌, ◌^◌, ◌↔◌, IsTrue, IfOk};
+ghost use Rattle.tail_base.specs.Bits.{IsBlock, family_bits, size_of};
 ghost use Rattle.tail_base.specs.Blocks.{IsWithin, Overlaps, holds, is_within, last_of, overlap};
-ghost use Rattle.tail_base.specs.PrefixTexts.{prefix_text};
+ghost use Rattle.tail_base.specs.PrefixTexts.{aligned, prefix_of_text, prefix_text};
 
 use crate::addr::Addr;
 use crate::memory::{Duplicate, NoMemory};
+use crate::numerals::number_up_to;
+use crate::parts::place_of;
+use crate::prefix_fault::PrefixFault;
 use crate::text::Text;
 use std::alloc::Global;
 use std::marker::Model;
@@ -37,6 +40,22 @@ impl Prefix {
         ensures value { result ≡ record { base = base; len = len } }
     {
         Prefix { base, len }
+    }
+
+    /// The prefix that a text spells: an address, a slash, and the length in decimal.
+    pub fn read(text: &[u8]) -> Result<Prefix, PrefixFault>
+        ensures value { result ≡ prefix_of_text text.now }
+    {
+        let Some(at) = place_of(text, b'/') else {
+            return Err(PrefixFault::BadAddress);
+        };
+        let Some(base) = Addr::read(&text[..at]) else {
+            return Err(PrefixFault::BadAddress);
+        };
+        let Some(len) = number_up_to(&text[at + 1..], family_bits(base.is_v6())) else {
+            return Err(PrefixFault::BadLength);
+        };
+        aligned(base, len as u8)
     }
 
     /// The least address.
@@ -115,6 +134,26 @@ fn overlap(p: &Prefix, q: &Prefix) -> bool
     ensures value { result ≡ overlap p.now q.now }
 {
     p.base.is_v6() == q.base.is_v6() && p.base.bits() <= q.last() && q.base.bits() <= p.last()
+}
+
+/// The bits of an address past a length.
+fn host_bits(base: Addr, len: u8) -> u128
+    requires fits { len ≤ family_bits base.v6 }
+    ensures value { result ≡ base.bits % size_of (record { base = base; len = len }) }
+{
+    base.bits() & ones(family_bits(base.is_v6()) - u32::from(len))
+}
+
+/// The prefix of this base and length, if the base has no bit set past it.
+fn aligned(base: Addr, len: u8) -> Result<Prefix, PrefixFault>
+    requires fits { len ≤ family_bits base.v6 }
+    ensures value { result ≡ aligned (record { base = base; len = len }) }
+{
+    if host_bits(base, len) == 0 {
+        Ok(Prefix { base, len })
+    } else {
+        Err(PrefixFault::HostBitsSet)
+    }
 }
 
 /// How many bits the addresses of a family have.
