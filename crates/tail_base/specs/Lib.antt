@@ -16,3 +16,4 @@ pub mod Parts
 pub mod PrefixTexts
 pub mod QuadTexts
 pub mod Tags
+pub mod V6Texts
