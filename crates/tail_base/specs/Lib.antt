@@ -15,5 +15,6 @@ pub mod Numerals
 pub mod Parts
 pub mod PrefixTexts
 pub mod QuadTexts
+pub mod SpellsAddr
 pub mod Tags
 pub mod V6Texts

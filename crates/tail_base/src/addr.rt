@@ -2,7 +2,8 @@
 ghost use Rattle.std.specs.Prelude.{◌≡◌, ℕ, ◌<◌, ◌↔◌, IsTrue, false, IfOk, ◌==◌};
 ghost use Rattle.std.specs.List.{list_any};
 ghost use Rattle.tail_base.specs.AddrTexts.{addr_of_text, addr_text};
-ghost use Rattle.tail_base.specs.Bits.{family_size};
+ghost use Rattle.tail_base.specs.Bits.{Address, family_size};
+ghost use Rattle.tail_base.specs.SpellsAddr.{SpellsAddr};
 
 use crate::group_reader::v6_of_text;
 use crate::groups::v6_text;
@@ -60,14 +61,9 @@ impl Addr {
     /// dots between them, or RFC 4291 section 2.2's first two forms.
     pub fn read(text: &[u8]) -> Option<Addr>
         ensures value { result ≡ addr_of_text text.now }
+        ensures meaning { (addr : Address) → SpellsAddr text.now addr ↔ (result ≡ Some addr) }
     {
-        if has_colon(text) {
-            let bits = v6_of_text(text)?;
-            Some(Addr::new(true, bits))
-        } else {
-            let bits = quad_of_text(text)?;
-            Some(Addr::new(false, bits))
-        }
+        addr_of_text(text)
     }
 
     /// The text of the address: dotted decimal, or hexadecimal groups as RFC 5952 section 4 asks.
@@ -79,6 +75,19 @@ impl Addr {
         } else {
             quad_text(alloc, self.bits)
         }
+    }
+}
+
+/// The address that a text spells: an IPv6 address where there is a colon.
+fn addr_of_text(text: &[u8]) -> Option<Addr>
+    ensures value { result ≡ addr_of_text text.now }
+{
+    if has_colon(text) {
+        let bits = v6_of_text(text)?;
+        Some(Addr::new(true, bits))
+    } else {
+        let bits = quad_of_text(text)?;
+        Some(Addr::new(false, bits))
     }
 }
 
