@@ -16,7 +16,7 @@ pub part_fits : (notation : Notation) (bs : List ℕ) (n : ℕ) → part_of nota
 part_fits Decimal bs n h = omega (arith, number_fits 255 bs n h)
 part_fits Hexadecimal bs n h = group_fits bs n h
 
-some_place : (t : Bool) (n i : ℕ) → cond t (Some n) None ≡ Some i → (t ≡ true) × (n ≡ i)
+pub some_place : (t : Bool) (n i : ℕ) → cond t (Some n) None ≡ Some i → (t ≡ true) × (n ≡ i)
 some_place t n i h =
     let parts = pick_some t (Some n) i h in
     let same : n ≡ i = cc (parts.1) in

@@ -16,5 +16,6 @@ pub mod Parts
 pub mod PrefixTexts
 pub mod QuadTexts
 pub mod SpellsAddr
+pub mod SpellsPrefix
 pub mod Tags
 pub mod V6Texts

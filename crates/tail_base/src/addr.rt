@@ -69,12 +69,9 @@ impl Addr {
     /// The text of the address: dotted decimal, or hexadecimal groups as RFC 5952 section 4 asks.
     pub fn write(&self, alloc: Global) -> Result<Text, NoMemory>
         ensures value { IfOk result (λ text. text ≡ addr_text self.now) }
+        ensures read_again { IfOk result (λ text. addr_of_text text ≡ Some self.now) }
     {
-        if self.v6 {
-            v6_text(alloc, self.bits)
-        } else {
-            quad_text(alloc, self.bits)
-        }
+        addr_text(alloc, self)
     }
 }
 
@@ -88,6 +85,18 @@ fn addr_of_text(text: &[u8]) -> Option<Addr>
     } else {
         let bits = quad_of_text(text)?;
         Some(Addr::new(false, bits))
+    }
+}
+
+/// The text of an address, which is read again.
+fn addr_text(alloc: Global, addr: &Addr) -> Result<Text, NoMemory>
+    ensures value { IfOk result (λ text. text ≡ addr_text addr.now) }
+    ensures in_family { addr.now.bits < family_size addr.now.v6 }
+{
+    if addr.v6 {
+        v6_text(alloc, addr.bits)
+    } else {
+        quad_text(alloc, addr.bits)
     }
 }
 

@@ -1,6 +1,7 @@
 //! Prefixes.
 ghost use Rattle.std.specs.Prelude.{◌≡◌, ℕ, ◌<◌, ◌≤◌, ◌-◌, ◌%◌, ◌^◌, ◌↔◌, IsTrue, IfOk};
-ghost use Rattle.tail_base.specs.Bits.{IsBlock, family_bits, size_of};
+ghost use Rattle.tail_base.specs.Bits.{Block, IsBlock, family_bits, size_of};
+ghost use Rattle.tail_base.specs.SpellsPrefix.{SpellsPrefix};
 ghost use Rattle.tail_base.specs.Blocks.{IsWithin, Overlaps, holds, is_within, last_of, overlap};
 ghost use Rattle.tail_base.specs.PrefixTexts.{aligned, prefix_of_text, prefix_text};
 
@@ -45,17 +46,9 @@ impl Prefix {
     /// The prefix that a text spells: an address, a slash, and the length in decimal.
     pub fn read(text: &[u8]) -> Result<Prefix, PrefixFault>
         ensures value { result ≡ prefix_of_text text.now }
+        ensures meaning { (p : Block) → SpellsPrefix text.now p ↔ (result ≡ Ok p) }
     {
-        let Some(at) = place_of(text, b'/') else {
-            return Err(PrefixFault::BadAddress);
-        };
-        let Some(base) = Addr::read(&text[..at]) else {
-            return Err(PrefixFault::BadAddress);
-        };
-        let Some(len) = number_up_to(&text[at + 1..], family_bits(base.is_v6())) else {
-            return Err(PrefixFault::BadLength);
-        };
-        aligned(base, len as u8)
+        prefix_of_text(text)
     }
 
     /// The least address.
@@ -111,13 +104,38 @@ impl Prefix {
     /// The address, a slash, and the length in decimal.
     pub fn write(&self, alloc: Global) -> Result<Text, NoMemory>
         ensures value { IfOk result (λ text. text ≡ prefix_text self.now) }
+        ensures read_again { IfOk result (λ text. prefix_of_text text ≡ Ok self.now) }
     {
-        let mut text = self.base.write(alloc)?;
-        let len = self.len;
-        let ending = format!(in alloc; "/{len}")?;
-        text.push(ending.as_str())?;
-        Ok(text)
+        prefix_text(alloc, self)
     }
+}
+
+/// The prefix that a text spells, or its first fault.
+fn prefix_of_text(text: &[u8]) -> Result<Prefix, PrefixFault>
+    ensures value { result ≡ prefix_of_text text.now }
+{
+    let Some(at) = place_of(text, b'/') else {
+        return Err(PrefixFault::BadAddress);
+    };
+    let Some(base) = Addr::read(&text[..at]) else {
+        return Err(PrefixFault::BadAddress);
+    };
+    let Some(len) = number_up_to(&text[at + 1..], family_bits(base.is_v6())) else {
+        return Err(PrefixFault::BadLength);
+    };
+    aligned(base, len as u8)
+}
+
+/// The text of a prefix.
+fn prefix_text(alloc: Global, prefix: &Prefix) -> Result<Text, NoMemory>
+    ensures value { IfOk result (λ text. text ≡ prefix_text prefix.now) }
+    ensures block { IsBlock prefix.now }
+{
+    let mut text = prefix.base.write(alloc)?;
+    let len = prefix.len();
+    let ending = format!(in alloc; "/{len}")?;
+    text.push(ending.as_str())?;
+    Ok(text)
 }
 
 /// Whether the ends of the inner prefix lie in the outer one.
