@@ -16,6 +16,7 @@ pub mod Parts
 pub mod PrefixTexts
 pub mod QuadTexts
 pub mod SpellsAddr
+pub mod SpellsMoment
 pub mod SpellsPrefix
 pub mod Tags
 pub mod V6Texts
