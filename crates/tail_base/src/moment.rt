@@ -5,6 +5,7 @@ ghost use Rattle.tail_base.specs.Moments.{IsMoment, clamped, later_of, first_mom
 ghost use Rattle.jiff_core.specs.Calendar.{IsEpochDay, IsWithin};
 ghost use Rattle.tail_base.specs.MomentReads.{in_years, moment_of_text};
 ghost use Rattle.tail_base.specs.MomentTexts.{moment_text};
+ghost use Rattle.tail_base.specs.SpellsMoment.{SpellsMoment};
 
 use crate::civil::instant_text;
 use crate::memory::{Duplicate, NoMemory};
@@ -89,24 +90,41 @@ impl Moment {
     /// text has another form, the date isn't one, or the value leaves the years 1 to 9999.
     pub fn read(text: &[u8]) -> Option<Moment>
         ensures value { result ≡ moment_of_text text.now }
+        ensures spelled { (n : ℤ) → SpellsMoment text.now n → result ≡ Some n }
     {
-        if !has_marks(text) {
-            return None;
-        }
-        let day = day_of(text)?;
-        let time = time_of(text)?;
-        let rest = after(text, 19);
-        let fraction = fraction_length(rest)?;
-        let offset = offset_of(&rest[fraction..])?;
-        in_years(seconds_at(day, time, offset))
+        moment_of_text(text)
     }
 
     /// The date and time of day in UTC, as `YYYY-MM-DDThh:mm:ssZ`.
     pub fn write(&self, alloc: Global) -> Result<Text, NoMemory>
         ensures value { IfOk result (λ text. text ≡ moment_text self.now) }
+        ensures read_again { IfOk result (λ text. moment_of_text text ≡ Some self.now) }
     {
-        instant_text(alloc, (self.seconds - FIRST) as u64)
+        moment_text(alloc, *self)
     }
+}
+
+/// The moment that a text spells.
+fn moment_of_text(text: &[u8]) -> Option<Moment>
+    ensures value { result ≡ moment_of_text text.now }
+{
+    if !has_marks(text) {
+        return None;
+    }
+    let day = day_of(text)?;
+    let time = time_of(text)?;
+    let rest = after(text, 19);
+    let fraction = fraction_length(rest)?;
+    let offset = offset_of(&rest[fraction..])?;
+    in_years(seconds_at(day, time, offset))
+}
+
+/// The text of a moment.
+fn moment_text(alloc: Global, moment: Moment) -> Result<Text, NoMemory>
+    ensures value { IfOk result (λ text. text ≡ moment_text moment) }
+    ensures moment { IsMoment moment }
+{
+    instant_text(alloc, (moment.seconds - FIRST) as u64)
 }
 
 /// The seconds since 1970 of a time on a day, at an offset.
