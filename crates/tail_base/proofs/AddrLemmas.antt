@@ -53,8 +53,8 @@ digit_other b h = grind (arith, nat_tests)
 free : (n : ℕ) → n < 256 → list_all (is_other 58) (decimal n) ≡ true
 free n small = all_weaker is_ascii_digit (is_other 58) digit_other (decimal n) (decimal_digits n (omega arith))
 
-quad_other : (n : ℕ) → n < 2 ^ 32 → list_all (is_other 58) (quad_text n) ≡ true
-quad_other n small =
+pub quad_no_colon : (n : ℕ) → n < 2 ^ 32 → list_all (is_other 58) (quad_text n) ≡ true
+quad_no_colon n small =
     let a = byte_at n 3 in
     let b = byte_at n 2 in
     let c = byte_at n 1 in
@@ -86,7 +86,7 @@ read_family true text bits h =
     cond-true (list_any colon text) (option_map v6_addr (v6_of_text text)) (option_map v4_addr (quad_of_text text)) (v6_colon text bits h)
     ∙ ap (option_map v6_addr) (v6_read text bits h)
 read_family false text bits h =
-    cond-false (list_any colon text) (option_map v6_addr (v6_of_text text)) (option_map v4_addr (quad_of_text text)) (ap (list_any colon) h.1 ∙ none_of (quad_text bits) (quad_other bits h.0))
+    cond-false (list_any colon text) (option_map v6_addr (v6_of_text text)) (option_map v4_addr (quad_of_text text)) (ap (list_any colon) h.1 ∙ none_of (quad_text bits) (quad_no_colon bits h.0))
     ∙ ap (option_map v4_addr) (ap quad_of_text h.1 ∙ quad_read bits h.0)
 
 pub addr_read : (text : List ℕ) (addr : Address) → SpellsAddr text addr → addr_of_text text ≡ Some addr

@@ -23,6 +23,7 @@ use Rattle.tail_base.specs.V6Texts.{SpellsGroups, SpellsV6}
 use Rattle.tail_base.proofs.AddrLemmas.{addr_read, addr_spelled}
 use Rattle.tail_base.proofs.AllBytes.{all_append, all_weaker}
 use Rattle.tail_base.proofs.DecimalLemmas.{number_of_decimal, number_text}
+use Rattle.tail_base.proofs.FreeLemmas.{IsForeign, addr_other}
 use Rattle.tail_base.proofs.HexLemmas.{v6_written}
 use Rattle.tail_base.proofs.NumberLemmas.{decimal_digits}
 use Rattle.tail_base.proofs.NumeralLemmas.{number_fits}
@@ -42,47 +43,11 @@ hex_other b h = elim (cases_eq b 47) [
   | inr other ↦ not_from_false (eqb b 47) (ne_eqb b 47 other)
 ]
 
-hexes_other : (bs : List ℕ) → AllDigits 16 bs → list_all (is_other 47) bs ≡ true
-hexes_other [] h = refl
-hexes_other (b ∷ bs) h = and_from _ _ (hex_other b h.0) (hexes_other bs h.1)
-
-joined_other : (texts : List (List ℕ)) (groups : List ℕ) → SpellsGroups texts groups → list_all (is_other 47) (join_with_byte 58 texts) ≡ true
-joined_other [] [] h = refl
-joined_other [] (group ∷ groups) h = absurd h
-joined_other (text ∷ texts) [] h = absurd h
-joined_other (text ∷ []) (group ∷ groups) h = hexes_other text h.0.digits
-joined_other (text ∷ next ∷ texts) (group ∷ groups) h =
-    all_append (is_other 47) text (58 ∷ join_with_byte 58 (next ∷ texts)) (hexes_other text h.0.digits) (joined_other (next ∷ texts) groups h.1)
-
-v6_other : (text : List ℕ) (n : ℕ) → SpellsV6 text n → list_all (is_other 47) text ≡ true
-v6_other text n h = elim h.form [
-  | inl form ↦ ap (list_all (is_other 47)) form.is ∙ joined_other form.texts h.groups form.spelled
-  | inr form ↦
-      ap (list_all (is_other 47)) form.is
-      ∙ all_append (is_other 47) (join_with_byte 58 form.before_texts) (58 ∷ 58 ∷ join_with_byte 58 form.after_texts)
-      (joined_other form.before_texts form.before form.spelled_before) (joined_other form.after_texts form.after form.spelled_after)
-]
-
 digit_other : (b : ℕ) → is_ascii_digit b ≡ true → is_other 47 b ≡ true
 digit_other b h = grind (arith, nat_tests)
 
-free : (n : ℕ) → n < 256 → list_all (is_other 47) (decimal n) ≡ true
-free n small = all_weaker is_ascii_digit (is_other 47) digit_other (decimal n) (decimal_digits n (omega arith))
-
-quad_other : (n : ℕ) → n < 2 ^ 32 → list_all (is_other 47) (quad_text n) ≡ true
-quad_other n small =
-    let a = byte_at n 3 in
-    let b = byte_at n 2 in
-    let c = byte_at n 1 in
-    let d = byte_at n 0 in
-    let last = free d (omega arith) in
-    let third = all_append (is_other 47) (decimal c) (46 ∷ decimal d) (free c (omega arith)) last in
-    let second = all_append (is_other 47) (decimal b) (46 ∷ (decimal c ++ 46 ∷ decimal d)) (free b (omega arith)) third in
-    all_append (is_other 47) (decimal a) (46 ∷ (decimal b ++ 46 ∷ (decimal c ++ 46 ∷ decimal d))) (free a (omega arith)) second
-
-addr_other : (text : List ℕ) (v6 : Bool) (bits : ℕ) → SpellsAddr text (record { v6 = v6; bits = bits }) → list_all (is_other 47) text ≡ true
-addr_other text true bits h = v6_other text bits h
-addr_other text false bits h = ap (list_all (is_other 47)) h.1 ∙ quad_other bits h.0
+slash_foreign : IsForeign 47
+slash_foreign = record { hex = hex_other; digit = digit_other; colon = refl; dot = refl }
 
 -- ---- the first slash
 
@@ -112,7 +77,7 @@ prefix_read text p h =
     let base = h.base_text in
     let ending = decimal p.len in
     let whole = base ++ 47 ∷ ending in
-    let place = position_is 47 base ending (addr_other base p.base.v6 p.base.bits h.base) in
+    let place = position_is 47 base ending (addr_other 47 slash_foreign base p.base.v6 p.base.bits h.base) in
     let front : take (length base) whole ≡ base = take_at base (47 ∷ ending) (length base) refl in
     let back : drop (length base + 1) whole ≡ ending = drop-append-add base (47 ∷ ending) 1 in
     let addr = addr_read base p.base h.base in

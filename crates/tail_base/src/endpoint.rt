@@ -1,5 +1,6 @@
 //! Endpoints.
-ghost use Rattle.std.specs.Prelude.{◌≡◌, ◌<◌, ◌≤◌, length, IfOk};
+ghost use Rattle.std.specs.Prelude.{◌≡◌, ◌<◌, ◌≤◌, ◌^◌, length, IfOk};
+ghost use Rattle.tail_base.specs.Bits.{family_size};
 ghost use Rattle.tail_base.specs.EndpointTexts.{bracketed, bracketed_at, endpoint_of_text, endpoint_text, plain, plain_at, port_of};
 
 use crate::addr::Addr;
@@ -72,6 +73,28 @@ fn bracketed(text: &[u8]) -> Option<Endpoint>
     bracketed_at(text, at)
 }
 
+/// The text of an endpoint.
+fn endpoint_text(alloc: Global, endpoint: &Endpoint) -> Result<Text, NoMemory>
+    ensures value { IfOk result (λ text. text ≡ endpoint_text endpoint.now) }
+    ensures in_family { endpoint.now.addr.bits < family_size endpoint.now.addr.v6 }
+    ensures port { endpoint.now.port < 2 ^ 16 }
+{
+    let _family = endpoint.addr.bits();
+    let port = endpoint.port;
+    let addr = endpoint.addr.write(alloc)?;
+    let mut text = Text::new(alloc);
+    if endpoint.addr.is_v6() {
+        text.push("[")?;
+        text.push(addr.as_str())?;
+        text.push("]")?;
+    } else {
+        text.push(addr.as_str())?;
+    }
+    let ending = format!(in alloc; ":{port}")?;
+    text.push(ending.as_str())?;
+    Ok(text)
+}
+
 impl Endpoint {
     /// The endpoint that a text spells, as `1.2.3.4:5` or `[fd00::1]:5`.
     pub fn read(text: &[u8]) -> Option<Endpoint>
@@ -86,20 +109,9 @@ impl Endpoint {
     /// The address and the port with a colon between them, an IPv6 address in brackets.
     pub fn write(&self, alloc: Global) -> Result<Text, NoMemory>
         ensures value { IfOk result (λ text. text ≡ endpoint_text self.now) }
+        ensures read_again { IfOk result (λ text. endpoint_of_text text ≡ Some self.now) }
     {
-        let addr = self.addr.write(alloc)?;
-        let mut text = Text::new(alloc);
-        if self.addr.is_v6() {
-            text.push("[")?;
-            text.push(addr.as_str())?;
-            text.push("]")?;
-        } else {
-            text.push(addr.as_str())?;
-        }
-        let port = self.port;
-        let ending = format!(in alloc; ":{port}")?;
-        text.push(ending.as_str())?;
-        Ok(text)
+        endpoint_text(alloc, self)
     }
 }
 

@@ -23,6 +23,8 @@ mod prefix_fault;
 mod quad;
 mod stamp;
 mod tag;
+#[cfg(test)]
+mod tests;
 mod text;
 
 pub use addr::Addr;
