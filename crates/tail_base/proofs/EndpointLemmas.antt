@@ -1,21 +1,19 @@
 -- What is written of an endpoint is read again.
-use Rattle.std.proofs.Common.{◌≡◌, ◌<◌, ◌≤◌, ◌+◌, ◌^◌, ℕ, Bool, true, false, List, [], ◌∷◌, ◌++◌, length, take, drop, eqb, cond, Option, Some, None, arith, refl, sym, ap, ◌∙◌, inl, inr}
+use Rattle.std.proofs.Common.{◌≡◌, ◌<◌, ◌+◌, ◌^◌, ℕ, Bool, true, false, List, [], ◌∷◌, ◌++◌, length, take, drop, eqb, Some, arith, refl, ap, ◌∙◌, inl, inr}
 use Rattle.std.specs.Prelude.{codes}
 use Rattle.std.specs.Char.{is_ascii_digit, digit_value}
 use Rattle.std.specs.Fmt.{decimal}
-use Rattle.std.specs.List.{list_all, position}
+use Rattle.std.specs.List.{list_all}
 use Rattle.std.specs.Option.{option_map, option_and_then}
 use Rattle.std.proofs.Math.Seq.{drop-append-add}
 use Rattle.std.proofs.lemmas.Bool.{and_parts, cases_eq, cond-false, ne_eqb, not_from_false, not-true}
 use Rattle.std.proofs.lemmas.Bool.Decides.{nat_tests}
 use Rattle.std.proofs.lemmas.List.{append_assoc, take_at, drop_at}
 use Rattle.tail_base.specs.declared.endpoint.Endpoint.{Endpoint}
-use Rattle.tail_base.specs.Bits.{Address, family_size}
-use Rattle.tail_base.specs.AddrTexts.{addr_text}
+use Rattle.tail_base.specs.Bits.{family_size}
 use Rattle.tail_base.specs.EndpointTexts.{bracketed, bracketed_at, endpoint_of_text, endpoint_text, made, plain, plain_at, port_of}
 use Rattle.tail_base.specs.GroupReads.{v6_of_text}
 use Rattle.tail_base.specs.GroupTexts.{groups_of, groups_text}
-use Rattle.tail_base.specs.Numerals.{number_up_to}
 use Rattle.tail_base.specs.QuadTexts.{quad_of_text, quad_text}
 use Rattle.tail_base.proofs.DecimalLemmas.{number_of_decimal}
 use Rattle.tail_base.proofs.FreeLemmas.{IsForeign, quad_other, v6_other}

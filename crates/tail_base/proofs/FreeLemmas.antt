@@ -1,11 +1,10 @@
 -- Marks that stand in no address.
-use Rattle.std.proofs.Common.{◌≡◌, ◌<◌, ◌^◌, ℕ, Bool, true, false, List, [], ◌∷◌, ◌++◌, eqb, arith, refl, ap, ◌∙◌, inl, inr}
+use Rattle.std.proofs.Common.{◌≡◌, ◌<◌, ◌^◌, ℕ, Bool, true, false, List, [], ◌∷◌, ◌++◌, arith, refl, ap, ◌∙◌, inl, inr}
 use Rattle.std.specs.Char.{is_ascii_digit, digit_value}
 use Rattle.std.specs.Fmt.{decimal}
 use Rattle.std.specs.List.{join_with_byte, list_all}
 use Rattle.std.specs.Str.Parse.{AllDigits}
 use Rattle.std.proofs.lemmas.Bool.{and_from}
-use Rattle.tail_base.specs.Bits.{Address}
 use Rattle.tail_base.specs.QuadTexts.{byte_at, quad_text}
 use Rattle.tail_base.specs.SpellsAddr.{SpellsAddr}
 use Rattle.tail_base.specs.V6Texts.{SpellsGroups, SpellsV6}

@@ -1,12 +1,11 @@
 -- Which texts are read as prefixes, and what is written of them.
-use Rattle.std.proofs.Common.{◌≡◌, ◌<◌, ◌+◌, ◌%◌, ◌^◌, ℕ, suc, Bool, true, false, not, List, [], ◌∷◌, ◌++◌, length, take, drop, get_or, eqb, ltb, cond, Option, Some, None, Result, Ok, Err, arith, refl, sym, ap, ◌∙◌, inl, inr}
+use Rattle.std.proofs.Common.{◌≡◌, ◌<◌, ◌+◌, ◌%◌, ℕ, suc, Bool, true, false, not, List, [], ◌∷◌, ◌++◌, length, take, drop, get_or, eqb, ltb, cond, Option, Some, None, Result, Ok, Err, arith, refl, sym, ap, ◌∙◌, inl, inr}
 use Rattle.std.specs.Prelude.{◌↔◌, codes}
 use Rattle.std.specs.Char.{is_ascii_digit, digit_value}
 use Rattle.std.specs.Fmt.{decimal}
-use Rattle.std.specs.List.{join_with_byte, list_all, position, position_or_len}
-use Rattle.std.specs.Str.Parse.{AllDigits}
+use Rattle.std.specs.List.{list_all, position, position_or_len}
 use Rattle.std.proofs.Math.Seq.{drop-append-add}
-use Rattle.std.proofs.lemmas.Bool.{and_parts, and_from, cases_eq, ne_eqb, eq-eqb, eqb-true, not_from_false, not_from_true, cond-true, cond-false, lt-ltb, ltb-true}
+use Rattle.std.proofs.lemmas.Bool.{and_parts, cases_eq, ne_eqb, eq-eqb, eqb-true, not_from_false, not_from_true, cond-true, cond-false, lt-ltb, ltb-true}
 use Rattle.std.proofs.lemmas.Bool.Decides.{nat_tests}
 use Rattle.std.proofs.lemmas.List.{take_at, append_assoc, length-append}
 use Rattle.std.proofs.lemmas.List.Sums.{passes_at_first, split_at_first}
@@ -16,16 +15,12 @@ use Rattle.tail_base.specs.Bits.{Address, Block, IsBlock, family_bits, family_si
 use Rattle.tail_base.specs.AddrTexts.{addr_of_text, addr_text}
 use Rattle.tail_base.specs.Numerals.{number_up_to}
 use Rattle.tail_base.specs.PrefixTexts.{divided, is_aligned, prefix_of_text, prefix_text, with_base, with_length}
-use Rattle.tail_base.specs.QuadTexts.{byte_at, quad_text}
 use Rattle.tail_base.specs.SpellsAddr.{SpellsAddr}
 use Rattle.tail_base.specs.SpellsPrefix.{SpellsPrefix}
-use Rattle.tail_base.specs.V6Texts.{SpellsGroups, SpellsV6}
 use Rattle.tail_base.proofs.AddrLemmas.{addr_read, addr_spelled}
-use Rattle.tail_base.proofs.AllBytes.{all_append, all_weaker}
 use Rattle.tail_base.proofs.DecimalLemmas.{number_of_decimal, number_text}
 use Rattle.tail_base.proofs.FreeLemmas.{IsForeign, addr_other}
 use Rattle.tail_base.proofs.HexLemmas.{v6_written}
-use Rattle.tail_base.proofs.NumberLemmas.{decimal_digits}
 use Rattle.tail_base.proofs.NumeralLemmas.{number_fits}
 use Rattle.tail_base.proofs.PartLemmas.{some_place}
 use Rattle.tail_base.proofs.SplitLemmas.{is_other}

@@ -1,5 +1,5 @@
-use Rattle.std.proofs.Common.{◌≡◌, ℕ, List, ◌++◌, length}
-use Rattle.tail_base.specs.Keys.{key_of_text, key_text}
+use Rattle.std.proofs.Common.{◌≡◌}
+use Rattle.tail_base.specs.Keys.{key_text}
 use Rattle.tail_base.proofs.KeyLemmas.{key_again}
 use Rattle.tail_base.proofs.key.written.Goals as goal
 
