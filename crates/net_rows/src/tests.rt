@@ -7,10 +7,12 @@ use std::alloc::Global;
 use std::test::Fail;
 use tail_base::{Items, Login, MachineKey, Moment, NoMemory, NodeKey, Text};
 
-fn text(rt: &HostRuntime, text: &str) -> Result<Text, Fail>
-    ensures value { IfOk result (λ made. made ≡ text.now) }
+fn list_of<T: Drop>(alloc: Global, item: T) -> Result<Items<T>, NoMemory>
+    ensures value { IfOk result (λ made. made ≡ item ∷ []) }
 {
-    Ok(Text::from_str(rt.alloc(), text).ok().ok_or("memory")?)
+    let mut made = Items::new(alloc);
+    made.push(item)?;
+    Ok(made)
 }
 
 fn login(rt: &HostRuntime) -> Result<Login, Fail> {
@@ -18,64 +20,70 @@ fn login(rt: &HostRuntime) -> Result<Login, Fail> {
     Ok(read.ok_or("no login")?)
 }
 
-fn key(rt: &HostRuntime, owner: u32, secret: &str) -> Result<AuthKey, Fail> {
+fn key(alloc: Global, owner: u32, secret: &str) -> Result<AuthKey, NoMemory> {
     Ok(AuthKey {
         id: 1,
-        text: text(rt, secret)?,
+        text: Text::from_str(alloc, secret)?,
         user: owner,
         reusable: false,
         ephemeral: false,
         used: false,
         expiry: None,
-        tags: Items::new(rt.alloc()),
+        tags: Items::new(alloc),
     })
 }
 
-fn entry(rt: &HostRuntime, secret: &str) -> Result<Pending, Fail> {
+fn entry(alloc: Global, secret: &str) -> Result<Pending, NoMemory> {
     Ok(Pending {
         id: 12,
-        text: text(rt, secret)?,
+        text: Text::from_str(alloc, secret)?,
         machine: MachineKey([7; 32]),
         node: NodeKey([7; 32]),
-        host: Text::new(rt.alloc()),
-        routes: Items::new(rt.alloc()),
-        tags: Items::new(rt.alloc()),
+        host: Text::new(alloc),
+        routes: Items::new(alloc),
+        tags: Items::new(alloc),
         ephemeral: false,
         expiry: None,
         made: Moment::clamp(0),
     })
 }
 
-/// The damage of rows of one user, one key and one pending entry.
-fn damage_of(
-    rt: &HostRuntime,
+/// Rows of one user, one key and one pending entry.
+fn rows_of(
+    alloc: Global,
     next_user: u32,
+    login: Login,
+    key: AuthKey,
+    entry: Pending,
+) -> Result<Rows, NoMemory> {
+    Ok(Rows {
+        users: list_of(alloc, User { id: 1, login })?,
+        keys: list_of(alloc, key)?,
+        pending: list_of(alloc, entry)?,
+        machines: Items::new(alloc),
+        extras: Items::new(alloc),
+        policy: None,
+        next: Counters {
+            user: next_user,
+            key: 2,
+            pending: 13,
+            machine: 1,
+        },
+    })
+}
+
+/// The damage of such rows.
+fn damage_of(
+    alloc: Global,
+    next_user: u32,
+    login: Login,
     owner: u32,
     secret: &str,
     word: &str,
-) -> Result<Option<Damage>, Fail> {
-    let mut users = Items::new(rt.alloc());
-    let login = login(rt)?;
-    users.push(User { id: 1, login }).ok().ok_or("memory")?;
-    let mut keys = Items::new(rt.alloc());
-    keys.push(key(rt, owner, secret)?).ok().ok_or("memory")?;
-    let mut pending = Items::new(rt.alloc());
-    pending.push(entry(rt, word)?).ok().ok_or("memory")?;
-    let next = Counters {
-        user: next_user,
-        key: 2,
-        pending: 13,
-        machine: 1,
-    };
-    let rows = Rows {
-        users,
-        keys,
-        pending,
-        machines: Items::new(rt.alloc()),
-        extras: Items::new(rt.alloc()),
-        policy: None,
-        next,
-    };
+) -> Result<Option<Damage>, NoMemory> {
+    let key = key(alloc, owner, secret)?;
+    let entry = entry(alloc, word)?;
+    let rows = rows_of(alloc, next_user, login, key, entry)?;
     Ok(Tables::checked(rows).err())
 }
 
@@ -92,18 +100,13 @@ fn sound_rows_and_their_damages(rt: HostRuntime) -> Result<(), Fail> {
         (2, 1, "mine", "reg-12", Some((Kind::Pending, 12))),
     ];
     for (next_user, owner, secret, word, want) in cases {
-        let got = damage_of(&rt, next_user, owner, secret, word)?;
+        let login = login(&rt)?;
+        let got = damage_of(rt.alloc(), next_user, login, owner, secret, word)
+            .ok()
+            .ok_or("memory")?;
         assert_eq!(rt; got, want.map(|(kind, id)| Damage { kind, id }));
     }
     Ok(())
-}
-
-fn list_of<T: Drop>(alloc: Global, item: T) -> Result<Items<T>, NoMemory>
-    ensures value { IfOk result (λ made. made ≡ item ∷ []) }
-{
-    let mut made = Items::new(alloc);
-    made.push(item)?;
-    Ok(made)
 }
 
 /// A first user.
@@ -138,15 +141,18 @@ fn a_change_is_applied(rt: HostRuntime) -> Result<(), Fail> {
     Ok(())
 }
 
+fn defaults(alloc: Global) -> Result<Settings, NoMemory> {
+    Settings::with_defaults(
+        alloc,
+        Text::from_str(alloc, "tail.example.org")?,
+        Text::from_str(alloc, "http://127.0.0.1:8080")?,
+        Text::from_str(alloc, "secret")?,
+    )
+}
+
 #[test]
 fn settings_have_defaults(rt: HostRuntime) -> Result<(), Fail> {
-    let made = Settings::with_defaults(
-        rt.alloc(),
-        text(&rt, "tail.example.org")?,
-        text(&rt, "http://127.0.0.1:8080")?,
-        text(&rt, "secret")?,
-    );
-    let settings = made.ok().ok_or("memory")?;
+    let settings = defaults(rt.alloc()).ok().ok_or("memory")?;
     assert!(rt; settings.fields().prefix_v4.len() == 10 && settings.fields().workers == 4);
     Ok(())
 }
