@@ -11,22 +11,27 @@ pub record Spare : Type 0 where
   pub pending : ℕ
   pub machines : ℕ
 
+-- the rows, and the spare places
 pub record Held : Type 0 where
   pub rows : Rows
   pub spare : Spare
 
+-- it puts a user
 abbrev pub is_user : Row → Bool
 is_user (row.User x) = true
 is_user _ = false
 
+-- it puts a pre-auth key
 abbrev pub is_key : Row → Bool
 is_key (row.Key x) = true
 is_key _ = false
 
+-- it puts a pending entry
 abbrev pub is_pending : Row → Bool
 is_pending (row.Pending x) = true
 is_pending _ = false
 
+-- it puts a machine
 abbrev pub is_machine : Row → Bool
 is_machine (row.Machine x) = true
 is_machine _ = false

@@ -23,16 +23,19 @@ put t (row.Machine x) = record t { machines = put_row (λ r. r.id) t.machines x 
 put t (row.Extras xs) = record t { extras = xs }
 put t (row.Policy text) = record t { policy = Some text }
 
+-- The row of this kind and id goes, if there is one.
 abbrev pub take_out : Rows → RowKey → Rows
 take_out t (key.User k) = record t { users = without (λ r. r.id) t.users k }
 take_out t (key.Key k) = record t { keys = without (λ r. r.id) t.keys k }
 take_out t (key.Pending k) = record t { pending = without (λ r. r.id) t.pending k }
 take_out t (key.Machine k) = record t { machines = without (λ r. r.id) t.machines k }
 
+-- the puts in order
 abbrev pub put_all : Rows → List Row → Rows
 put_all t [] = t
 put_all t (x ∷ xs) = put_all (put t x) xs
 
+-- the gone rows in order
 abbrev pub take_all_out : Rows → List RowKey → Rows
 take_all_out t [] = t
 take_all_out t (k ∷ ks) = take_all_out (take_out t k) ks

@@ -14,6 +14,7 @@ use Rattle.net_rows.specs.declared.change.Counters.{Counters}
 abbrev pub IsCounter : ℕ → Type 0
 IsCounter n = (1 ≤ n) × (n ≤ counter_limit)
 
+-- All counters are.
 pub record AreCounters (next : Counters) : Type 0 where
   pub user : IsCounter next.user
   pub key : IsCounter next.key
@@ -97,12 +98,14 @@ pub record FitsUser (t : Rows) (u : User) : Type 0 where
   pub room : (length t.users < user_limit) ⊎ HasRow (λ r. r.id) t.users u.id
   pub login : IsOwn (λ r. r.id) (λ r. r.login) t.users u
 
+-- The same of a key.
 pub record FitsKey (t : Rows) (k : AuthKey) : Type 0 where
   pub id : 1 ≤ k.id
   pub room : (length t.keys < key_limit) ⊎ HasRow (λ r. r.id) t.keys k.id
   pub text : IsOwn (λ r. r.id) (λ r. r.text) t.keys k
   pub keeps : KeyKeeps t.users k
 
+-- The same of a pending entry.
 pub record FitsPending (t : Rows) (p : Pending) : Type 0 where
   pub id : 1 ≤ p.id
   pub room : (length t.pending < pending_limit) ⊎ HasRow (λ r. r.id) t.pending p.id
@@ -110,6 +113,7 @@ pub record FitsPending (t : Rows) (p : Pending) : Type 0 where
   pub machine_key : IsOwn (λ r. r.id) (λ r. r.machine.0) t.pending p
   pub keeps : PendingKeeps p
 
+-- The same of a machine.
 pub record FitsMachine (t : Rows) (m : Machine) : Type 0 where
   pub id : 1 ≤ m.id
   pub room : (length t.machines < machine_limit) ⊎ HasRow (λ r. r.id) t.machines m.id
