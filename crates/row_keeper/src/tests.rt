@@ -26,11 +26,15 @@ fn policy_change(alloc: Global, tables: &Tables) -> Result<Change, NoMemory>
     })
 }
 
-/// Loads the tables, and keeps a policy.
-fn keep_policy<K: Keeper>(alloc: Global, keeper: &mut K) -> Option<()> {
-    let tables = keeper.load(alloc).ok()?;
-    let change = policy_change(alloc, &tables).ok()?;
-    keeper.commit(alloc, &change).ok()
+/// Loads the tables, keeps a policy, and says whether both was done.
+fn keep_policy<K: Keeper>(alloc: Global, keeper: &mut K) -> bool {
+    let Ok(tables) = keeper.load(alloc) else {
+        return false;
+    };
+    let Ok(change) = policy_change(alloc, &tables) else {
+        return false;
+    };
+    keeper.commit(alloc, &change).is_ok()
 }
 
 /// Whether what is kept has a policy, where it is loaded.
@@ -39,19 +43,20 @@ fn has_policy<K: Keeper>(alloc: Global, keeper: &mut K) -> Option<bool> {
     Some(tables.policy().is_some())
 }
 
+/// Whether a keeper of no rows, of which one call fails, keeps a policy, and what it then has.
+fn outcome(alloc: Global, fails: u32) -> Result<(bool, Option<bool>), Fail> {
+    let mut keeper = MemoryKeeper::new(Tables::empty(alloc), items(alloc, [fails])?);
+    let kept = keep_policy(alloc, &mut keeper);
+    Ok((kept, has_policy(alloc, &mut keeper)))
+}
+
 #[test]
 fn each_call_of_a_keeper_fails(rt: HostRuntime) -> Result<(), Fail> {
     let alloc = rt.alloc();
-    for (fails, kept, policy) in [
-        (1, false, Some(false)),
-        (2, false, Some(false)),
-        (3, true, None),
-        (4, true, Some(true)),
-    ] {
-        let mut keeper = MemoryKeeper::new(Tables::empty(alloc), items(alloc, [fails])?);
-        assert_eq!(rt; keep_policy(alloc, &mut keeper).is_some(), kept);
-        assert_eq!(rt; has_policy(alloc, &mut keeper), policy);
-    }
+    assert_eq!(rt; outcome(alloc, 1)?, (false, Some(false)));
+    assert_eq!(rt; outcome(alloc, 2)?, (false, Some(false)));
+    assert_eq!(rt; outcome(alloc, 3)?, (true, None));
+    assert_eq!(rt; outcome(alloc, 4)?, (true, Some(true)));
     Ok(())
 }
 
@@ -62,7 +67,7 @@ fn a_keeper_is_opened_and_closed(rt: HostRuntime) -> Result<(), Fail> {
     let mut opener = MemoryOpener::new(alloc, tables, items(alloc, [2])?, items(alloc, [9])?);
     let mut keeper = opener.open(alloc, "first")?;
     assert!(rt; opener.open(alloc, "second").is_err());
-    keep_policy(alloc, &mut keeper).ok_or("kept")?;
+    assert!(rt; keep_policy(alloc, &mut keeper));
     opener.close(keeper);
     assert!(rt; opener.tables().policy().is_some());
     assert_eq!(rt; opener.asked().len(), 2);
