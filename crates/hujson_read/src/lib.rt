@@ -1,11 +1,5 @@
 //! HuJSON, which is JSON with comments and trailing commas (<https://github.com/tailscale/hujson>),
 //! made JSON (RFC 8259) offset for offset.
-//!
-//! A text is a list of tokens: strings, comments, and every other byte by itself. A string runs from
-//! a `"` to the next `"` that no backslash escapes. `//` begins a comment that ends before the next
-//! line feed or with the text, `/*` one that ends with the next `*/`. In the standard text the bytes
-//! of comments are spaces but for line feeds and carriage returns, and so is a comma before a `]` or
-//! `}`. All else stays, so a place in the standard text is the same place in the text.
 #![tactic(auto)]
 
 ghost use Rattle.std.specs.Prelude.{◌≡◌, ℕ, ◌<◌, ◌^◌, List, length, slice_index, IfOk, IfErr, Option, None};
@@ -31,7 +25,15 @@ pub fn spelling_law()
     ensures fault { (ts : List Token) → AreTokens ts → fault_of (text_of ts) ≡ first_fault ts }
 {}
 
-/// The standard text of a HuJSON text, of the same length. The error is the fault with the least
+/// The standard text of a HuJSON text, of the same length.
+///
+/// A text is a list of tokens: strings, comments, and every other byte by itself. A string runs from
+/// a `"` to the next `"` that no backslash escapes. `//` begins a comment that ends before the next
+/// line feed or with the text, `/*` one that ends with the next `*/`. In the standard text the bytes
+/// of comments are spaces but for line feeds and carriage returns, and so is a comma before a `]` or
+/// `}`. All else stays, so a place in the standard text is the same place in the text.
+///
+/// The error is the fault with the least
 /// offset, or want of memory for the text's copy. Whether the standard text is JSON is left to the
 /// one who reads it, and so is what stands inside strings and comments: it needn't be UTF-8.
 #[tactic(auto, using(crate::proofs::Lengths::standard_length))]
