@@ -5,7 +5,7 @@ use Rattle.std.specs.Bool.{beq}
 use Rattle.std.specs.Cmp.{booleans_Decides}
 use Rattle.std.specs.Option.{option_map}
 use Rattle.std.proofs.lemmas.Bool.Decides.{nat_tests}
-use Rattle.tail_base.specs.Bits.{Address, Block, IsBlock, size_of}
+use Rattle.net_addr.specs.Bits.{Address, Block, IsBlock, size_of}
 use Rattle.net_rows.specs.Damage.{address_eq}
 use Rattle.net_rows.specs.Limits.{is_inside, tailnet_v4, tailnet_v6}
 use Rattle.net_rows.specs.Settings.{is_within, AreSettings}

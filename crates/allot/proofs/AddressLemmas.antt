@@ -1,7 +1,7 @@
 -- The search for a free address.
 use Rattle.std.proofs.Common.{◌≡◌, ◌+◌, ℕ, Bool, true, false, not, ◌&&◌, ◌==◌, List, Option, Some, None, sym, ap, ◌∙◌, refl, arith}
 use Rattle.std.specs.Option.{option_map}
-use Rattle.tail_base.specs.Bits.{Address, Block, size_of}
+use Rattle.net_addr.specs.Bits.{Address, Block, size_of}
 use Rattle.net_rows.specs.declared.machine.Machine.{Machine}
 use Rattle.allot.specs.Addresses.{is_free, address_at, least_from, free_address}
 

@@ -5,7 +5,7 @@ use Rattle.std.specs.Cmp.{booleans_Decides}
 use Rattle.std.proofs.Math.Nat.{mul-le-mul_left, mul_assoc}
 use Rattle.std.proofs.Math.Pow.{pow_pos}
 use Rattle.std.proofs.lemmas.Nat.{pow-add}
-use Rattle.tail_base.specs.Bits.{family_bits, family_size, Address, Block, IsBlock, size_of}
+use Rattle.net_addr.specs.Bits.{family_bits, family_size, Address, Block, IsBlock, size_of}
 use Rattle.net_rows.specs.Limits.{is_inside}
 use Rattle.net_rows.proofs.Bools.{le_is, lt_is}
 

@@ -2,7 +2,7 @@
 use Rattle.std.specs.Prelude.{◌+◌, ℕ, zero, suc, Bool, List, Option, Some, None, if◌then◌else◌, nat_le, ◌&&◌, ◌||◌, ◌==◌, not}
 use Rattle.std.specs.List.{list_any}
 use Rattle.std.specs.Option.{option_map}
-use Rattle.tail_base.specs.Bits.{Address, Block, size_of}
+use Rattle.net_addr.specs.Bits.{Address, Block, size_of}
 use Rattle.net_rows.specs.Damage.{address_eq}
 use Rattle.net_rows.specs.declared.machine.Machine.{Machine}
 use Rattle.net_rows.specs.declared.settings.SettingsFields.{SettingsFields}

@@ -1,10 +1,10 @@
 //! Addresses for new machines.
 ghost use Rattle.std.specs.Prelude.{◌≡◌, ◌+◌, ◌<◌, ◌≤◌, ◌^◌};
-ghost use Rattle.tail_base.specs.Bits.{family_bits, family_size, size_of};
+ghost use Rattle.net_addr.specs.Bits.{family_bits, family_size, size_of};
 ghost use Rattle.allot.specs.Addresses.{is_reserved, has_address, is_free, free_address, set_prefix};
 
 use net_rows::{Machine, Settings, Tables};
-use tail_base::{Addr, Prefix};
+use net_addr::{Addr, Prefix};
 
 /// 100.100.100.100, where clients answer MagicDNS.
 const SERVICE_V4: u128 = 0x6464_6464;

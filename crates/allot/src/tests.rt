@@ -3,7 +3,9 @@ use crate::{free_name, least_free};
 use net_rows::{Machine, Tables};
 use std::alloc::Global;
 use std::test::Fail;
-use tail_base::{Addr, DiscoKey, Items, Label, MachineKey, Moment, NodeKey, Prefix, Text};
+use moments::Moment;
+use net_addr::{Addr, Prefix};
+use tail_base::{DiscoKey, Items, Label, MachineKey, NodeKey, Text};
 
 fn machine(alloc: Global, name: Label, v4: Addr) -> Machine {
     Machine {

@@ -5,7 +5,7 @@ use Rattle.std.specs.List.{list_all}
 use Rattle.std.specs.Str.{bytes_eq}
 use Rattle.std.specs.Bool.{beq}
 use Rattle.std.proofs.lemmas.List.Elements.{Contains-append_left, Contains-append_right}
-use Rattle.tail_base.specs.Bits.{Address}
+use Rattle.net_addr.specs.Bits.{Address}
 use Rattle.net_rows.specs.Shelf.{IsAscending, AreBelow, Tells, HasRow}
 use Rattle.net_rows.specs.Damage.{stands, is_new, is_new_address, address_eq, has_user}
 use Rattle.net_rows.specs.declared.user.User.{User}

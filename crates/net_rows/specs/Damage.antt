@@ -6,7 +6,7 @@ use Rattle.std.specs.Option.{option_map, option_or, option_map_or}
 use Rattle.std.specs.Str.{bytes_eq}
 use Rattle.std.specs.Bool.{beq}
 use Rattle.std.specs.Fmt.{decimal}
-use Rattle.tail_base.specs.Bits.{Address}
+use Rattle.net_addr.specs.Bits.{Address}
 use Rattle.net_rows.specs.Limits.{counter_limit, user_limit, key_limit, pending_limit, machine_limit, extra_limit, endpoint_limit, route_limit, asked_tag_limit, tag_limit, host_limit, policy_limit, tailnet_v4, tailnet_v6, is_inside}
 use Rattle.net_rows.specs.Rows.{Rows}
 use Rattle.net_rows.specs.declared.user.User.{User}

@@ -1,7 +1,7 @@
 -- How much the tables hold, and where the tailnet's addresses lie.
 use Rattle.std.specs.Prelude.{◌+◌, ℕ, Bool, true, false, nat_le, nat_lt, ◌&&◌}
 use Rattle.std.specs.Bool.{beq}
-use Rattle.tail_base.specs.Bits.{Address, Block, size_of}
+use Rattle.net_addr.specs.Bits.{Address, Block, size_of}
 
 -- the greatest counter; ids are below it
 abbrev pub counter_limit : ℕ

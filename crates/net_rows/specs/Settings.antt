@@ -1,7 +1,7 @@
 -- The rules of settings, and their defaults.
 use Rattle.std.specs.Prelude.{◌≡◌, ◌≤◌, ℕ, Bool, true, List, [], ◌∷◌, ◌++◌, length, codes, if◌then◌else◌, nat_le, ◌&&◌, ◌==◌}
 use Rattle.std.specs.List.{list_all}
-use Rattle.tail_base.specs.Bits.{Block}
+use Rattle.net_addr.specs.Bits.{Block}
 use Rattle.tail_base.specs.Labels.{is_label}
 use Rattle.net_rows.specs.Limits.{tailnet_v4, tailnet_v6, is_inside}
 use Rattle.net_rows.specs.declared.settings.DomainRoute.{DomainRoute}

@@ -2,7 +2,8 @@
 ghost use Rattle.std.specs.Prelude.{◌≡◌};
 
 use std::alloc::Global;
-use tail_base::{Addr, Duplicate, NoMemory, Text};
+use net_addr::Addr;
+use tail_base::{Duplicate, NoMemory, Text};
 
 /// An extra DNS record, `A` or `AAAA` by the family of its address.
 #[derive(Drop)]

@@ -16,7 +16,7 @@ use crate::named::{names_key, names_pending};
 use crate::pending::Pending;
 use crate::rows::Rows;
 use crate::user::User;
-use tail_base::Addr;
+use net_addr::Addr;
 
 /// A row of one of the tables.
 pub trait TableRow: HasId + Sized {

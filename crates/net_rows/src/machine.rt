@@ -3,10 +3,9 @@ ghost use Rattle.std.specs.Prelude.{◌≡◌};
 
 use crate::id::HasId;
 use std::alloc::Global;
-use tail_base::{
-    Addr, DiscoKey, Duplicate, Endpoint, Items, Label, MachineKey, Moment, NoMemory, NodeKey,
-    Prefix, Tag, Text,
-};
+use moments::Moment;
+use net_addr::{Addr, Endpoint, Prefix};
+use tail_base::{DiscoKey, Duplicate, Items, Label, MachineKey, NoMemory, NodeKey, Tag, Text};
 
 /// A machine of the tailnet, also one whose life has ended: its row keeps its keys, name and
 /// addresses until it is removed.

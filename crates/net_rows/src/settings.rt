@@ -4,7 +4,8 @@ ghost use Rattle.net_rows.specs.Settings.{AreSettings, default_settings, is_doma
 
 use std::alloc::Global;
 use std::marker::Model;
-use tail_base::{Addr, Duplicate, Items, NoMemory, Prefix, Text};
+use net_addr::{Addr, Prefix};
+use tail_base::{Duplicate, Items, NoMemory, Text};
 
 /// The addresses of the resolvers of a domain (split DNS).
 #[derive(Drop)]

@@ -5,7 +5,8 @@ ghost use Rattle.net_rows.specs.Damage.{damage};
 use crate::{AuthKey, Change, Counters, Damage, Kind, Pending, Row, Rows, Settings, Tables, User};
 use std::alloc::Global;
 use std::test::Fail;
-use tail_base::{Items, Login, MachineKey, Moment, NoMemory, NodeKey, Text};
+use moments::Moment;
+use tail_base::{Items, Login, MachineKey, NoMemory, NodeKey, Text};
 
 fn text(rt: &HostRuntime, text: &str) -> Result<Text, Fail>
     ensures value { IfOk result (λ made. made ≡ text.now) }

@@ -1,5 +1,5 @@
 -- A policy is put.
-use Rattle.std.proofs.Common.{◌≡◌, ◌≤◌, ℕ, List, [], ◌∷◌, None, Some, length}
+use Rattle.std.proofs.Common.{◌≡◌, ◌≤◌, ℕ, List, [], ◌∷◌, None, length}
 use Rattle.net_rows.specs.Damage.{damage}
 use Rattle.net_rows.specs.Limits.{policy_limit}
 use Rattle.net_rows.specs.Rows.{after}

@@ -16,7 +16,7 @@ use Rattle.tail_base.proofs.AllBytes.{all_take, all_append, all_ascii, all_at, a
 use Rattle.tail_base.proofs.LabelLemmas.{byte_small, label_bytes}
 use Rattle.tail_base.proofs.HostLemmas.{cut_begins, last_byte}
 
-decimal_digits : (n : ℕ) → n < 2 ^ 64 → list_all is_ascii_digit (decimal n) ≡ true
+pub decimal_digits : (n : ℕ) → n < 2 ^ 64 → list_all is_ascii_digit (decimal n) ≡ true
 decimal_digits = decimal_by_steps (λ n ds. list_all is_ascii_digit ds ≡ true) one more
   where
     one : (n : ℕ) → n < 10 → list_all is_ascii_digit ((48 + n) ∷ []) ≡ true

@@ -1,17 +1,4 @@
-pub mod AddrTexts
-pub mod Bits
-pub mod Blocks
-pub mod Civil
-pub mod EndpointTexts
-pub mod GroupReads
-pub mod GroupTexts
 pub mod Keys
 pub mod Labels
 pub mod Logins
-pub mod MomentTexts
-pub mod Moments
-pub mod Numerals
-pub mod Parts
-pub mod PrefixTexts
-pub mod QuadTexts
 pub mod Tags

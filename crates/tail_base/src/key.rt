@@ -35,6 +35,7 @@ fn key_bytes(head: &[u8], text: &[u8]) -> Option<[u8; 32]>
 /// A head and the digits of a key, in lower case.
 fn written(alloc: Global, head: &str, key: &[u8; 32]) -> Result<Text, NoMemory>
     ensures value { IfOk result (λ text. text ≡ key_text head.now key.now) }
+    ensures read_again { IfOk result (λ text. key_of_text head.now text ≡ Some key.now) }
 {
     let mut text = Text::from_str(alloc, head)?;
     let digits = hex::encode(alloc, key)?;
@@ -55,6 +56,7 @@ impl MachineKey {
     /// `mkey:` and 64 digits in lower case.
     pub fn write(&self, alloc: Global) -> Result<Text, NoMemory>
         ensures value { IfOk result (λ text. text ≡ key_text (codes "mkey:") self.now.0) }
+        ensures read_again { IfOk result (λ text. key_of_text (codes "mkey:") text ≡ Some self.now.0) }
     {
         written(alloc, "mkey:", &self.0)
     }
@@ -79,6 +81,7 @@ impl NodeKey {
     /// `nodekey:` and 64 digits in lower case.
     pub fn write(&self, alloc: Global) -> Result<Text, NoMemory>
         ensures value { IfOk result (λ text. text ≡ key_text (codes "nodekey:") self.now.0) }
+        ensures read_again { IfOk result (λ text. key_of_text (codes "nodekey:") text ≡ Some self.now.0) }
     {
         written(alloc, "nodekey:", &self.0)
     }
@@ -103,6 +106,7 @@ impl DiscoKey {
     /// `discokey:` and 64 digits in lower case.
     pub fn write(&self, alloc: Global) -> Result<Text, NoMemory>
         ensures value { IfOk result (λ text. text ≡ key_text (codes "discokey:") self.now.0) }
+        ensures read_again { IfOk result (λ text. key_of_text (codes "discokey:") text ≡ Some self.now.0) }
     {
         written(alloc, "discokey:", &self.0)
     }

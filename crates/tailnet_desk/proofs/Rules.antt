@@ -1,6 +1,6 @@
 -- A decision is never refused for want of memory or for a fault of the keeper.
 use Rattle.std.proofs.Common.{◌≡◌, ℕ, Bool, true, false, not, ◌&&◌, List, Option, Some, None, Result, Ok, Err, if◌then◌else◌, sym, refl, ap, subst, arith}
-use Rattle.tail_base.specs.Bits.{Address}
+use Rattle.net_addr.specs.Bits.{Address}
 use Rattle.tail_base.specs.declared.key.MachineKey.{MachineKey}
 use Rattle.net_rows.specs.Room.{has_room}
 use Rattle.net_rows.specs.Rows.{machine_of, key_of}

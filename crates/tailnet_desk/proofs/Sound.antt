@@ -3,7 +3,7 @@ use Rattle.std.proofs.Common.{◌≡◌, ◌≢◌, ◌<◌, ◌≤◌, ◌+◌,
 use Rattle.std.specs.Prelude.{Contains}
 use Rattle.std.specs.List.{starts_with}
 use Rattle.std.specs.Str.{bytes_eq}
-use Rattle.tail_base.specs.Bits.{IsBlock}
+use Rattle.net_addr.specs.Bits.{IsBlock}
 use Rattle.tail_base.specs.declared.key.MachineKey.{MachineKey}
 use Rattle.tail_base.specs.declared.key.NodeKey.{NodeKey}
 use Rattle.net_rows.specs.Damage.{damage, names_key}

@@ -2,7 +2,7 @@
 use Rattle.std.specs.Prelude.{ℕ, ℤ, pos, ◌+ℤ◌, int_lt, Bool, true, false, List, [], ◌∷◌, map, Option, Some, None, not, ◌&&◌, ◌||◌}
 use Rattle.std.specs.Int.{int_min}
 use Rattle.std.specs.Option.{option_map}
-use Rattle.tail_base.specs.Moments.{later_of, last_moment}
+use Rattle.moments.specs.Moments.{later_of, last_moment}
 use Rattle.net_rows.specs.declared.rows.Rows.{Rows}
 use Rattle.net_rows.specs.Shelf.{put_row, row_at}
 use Rattle.net_rows.specs.declared.machine.Machine.{Machine}

@@ -24,7 +24,8 @@ use net_rows::{Change, Damage, Kind, Settings, Shelf, Tables};
 use row_keeper::{Keeper, LoadFault};
 use std::alloc::Global;
 use std::marker::Model;
-use tail_base::{Items, Moment, NoMemory};
+use moments::Moment;
+use tail_base::{Items, NoMemory};
 
 /// The Tailnet machine over a keeper. Contracts see it as its state and its keeper, which has the
 /// state's rows, where it tells them.

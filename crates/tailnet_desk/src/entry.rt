@@ -1,7 +1,7 @@
 //! Events, and what stands of them in a history.
 use crate::ask::Ask;
 use crate::reply::Reply;
-use tail_base::Moment;
+use moments::Moment;
 
 /// One call of the desk: what is asked, the moment, and fresh random words where they were drawn.
 #[derive(Drop)]

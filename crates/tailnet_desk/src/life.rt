@@ -5,7 +5,7 @@ ghost use Rattle.tailnet_desk.specs.State.{State, is_ahead, is_live, presence_of
 use crate::presence::{MachinePresence, Presence};
 use net_rows::{Machine, Settings, SettingsFields, Tables};
 use std::marker::Model;
-use tail_base::Moment;
+use moments::Moment;
 
 /// The state at an event's moment, as its decision sees it.
 #[derive(Drop)]

@@ -8,7 +8,8 @@ ghost use Rattle.tailnet_desk.specs.Opening.{approved_machine, damage_if, unserv
 use crate::presence::{MachinePresence, Presence};
 use net_rows::{Damage, Kind, Machine, Shelf, Tables};
 use std::alloc::Global;
-use tail_base::{Items, Moment, NoMemory};
+use moments::Moment;
+use tail_base::{Items, NoMemory};
 
 /// All machines of the tables, offline since this moment.
 pub(crate) fn all_offline_of(

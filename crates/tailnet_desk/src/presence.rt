@@ -3,7 +3,8 @@ ghost use Rattle.std.specs.Prelude.{◌≡◌};
 
 use net_rows::HasId;
 use std::alloc::Global;
-use tail_base::{Duplicate, Moment, NoMemory};
+use moments::Moment;
+use tail_base::{Duplicate, NoMemory};
 
 /// Whether a machine is online, or since when it isn't.
 #[derive(Clone, Copy, Debug, PartialEq, Eq, Drop)]

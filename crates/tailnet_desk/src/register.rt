@@ -14,9 +14,9 @@ use crate::tags::sorted_once;
 use allot::{free_name, least_address};
 use net_rows::{AuthKey, Change, Counters, Kind, Machine, Pending, Row, RowKey};
 use std::alloc::Global;
-use tail_base::{
-    Addr, DiscoKey, Duplicate, Items, Label, MachineKey, Moment, NoMemory, NodeKey, Prefix, Text,
-};
+use moments::Moment;
+use net_addr::{Addr, Prefix};
+use tail_base::{DiscoKey, Duplicate, Items, Label, MachineKey, NoMemory, NodeKey, Text};
 use wire_json::Register;
 
 fn repeats(at: &Snapshot<'_>, node: &NodeKey, row: &Machine) -> bool

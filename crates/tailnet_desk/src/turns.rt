@@ -8,7 +8,7 @@ use crate::desk::Desk;
 use crate::reply::Reply;
 use row_keeper::Keeper;
 use std::alloc::Global;
-use tail_base::Moment;
+use moments::Moment;
 
 /// What serves a caller's events in turn: a desk, or a seat at one.
 pub trait Turns {

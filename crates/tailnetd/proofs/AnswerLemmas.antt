@@ -1,7 +1,7 @@
 -- One request and its answer.
 use Rattle.std.proofs.Common.{◌≡◌, ◌≤◌, ◌+◌, ℕ, ℤ, Bool, true, false, ◌||◌, ◌==◌, Option, None, Some, List, [], ◌∷◌, ◌++◌, inl, inr, refl, ap, sym, ◌∙◌, arith, Result, Ok, Err, add-zero, subst, codes, OnOk, if◌then◌else◌}
 use Rattle.std.specs.Option.{option_map}
-use Rattle.tail_base.specs.Moments.{clamped}
+use Rattle.moments.specs.Moments.{clamped}
 use Rattle.io_edge.specs.Edge.{IsWhereTold, Rose}
 use Rattle.io_edge.specs.Stream as stream
 use Rattle.http_front.specs.AnswerBytes.{answer}

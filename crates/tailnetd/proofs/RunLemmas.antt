@@ -2,7 +2,7 @@
 use Rattle.std.proofs.Common.{◌≡◌, ◌≤◌, ◌+◌, ◌-◌, ◌^◌, min, ℕ, ℤ, Option, None, Some, List, [], ◌++◌, length, refl, ap, sym, ◌∙◌, arith, subst}
 use Rattle.std.specs.Prelude.{IfSome}
 use Rattle.std.specs.Option.{option_map}
-use Rattle.tail_base.specs.Moments.{clamped}
+use Rattle.moments.specs.Moments.{clamped}
 use Rattle.io_edge.specs.Edge.{Rose, RoseBy, IsWhereTold, StillTells}
 use Rattle.net_rows.specs.declared.rows.Rows.{Rows}
 use Rattle.net_rows.specs.declared.settings.SettingsFields.{SettingsFields}

@@ -3,7 +3,7 @@ use Rattle.std.proofs.Common.{◌≡◌, ◌≤◌, ◌+◌, ◌-◌, ◌^◌, m
 use Rattle.std.specs.Prelude.{MatchOption}
 use Rattle.io_edge.specs.Edge.{IsWhereTold}
 use Rattle.std.specs.Option.{option_map}
-use Rattle.tail_base.specs.Moments.{clamped}
+use Rattle.moments.specs.Moments.{clamped}
 use Rattle.tailnet_desk.specs.Chains.{Turned}
 use Rattle.tailnet_desk.specs.Step.{moment_of}
 use Rattle.tailnetd.specs.Outside.{Giving, Took, MomentsTold, WordsTold, drawn, failed_draws, from_number, words_of}

@@ -1,7 +1,7 @@
 -- A run of `pipe`.
 use Rattle.std.specs.Prelude.{◌≡◌, ◌+◌, ℕ, ℤ, Option, Some, List, [], ◌++◌, length, IfSome}
 use Rattle.std.specs.Option.{option_map}
-use Rattle.tail_base.specs.Moments.{clamped}
+use Rattle.moments.specs.Moments.{clamped}
 use Rattle.io_edge.specs.Edge.{Rose, RoseBy, IsWhereTold}
 use Rattle.net_rows.specs.declared.rows.Rows.{Rows}
 use Rattle.net_rows.specs.declared.settings.SettingsFields.{SettingsFields}

@@ -1,7 +1,7 @@
 -- A connection over a desk, after its seed.
 use Rattle.std.specs.Prelude.{◌≡◌, ◌≤◌, ◌+◌, ℕ, ℤ, Option, None, Some, List, [], ◌∷◌, ◌++◌, length}
 use Rattle.std.specs.Option.{option_map}
-use Rattle.tail_base.specs.Moments.{clamped}
+use Rattle.moments.specs.Moments.{clamped}
 use Rattle.io_edge.specs.Edge.{IsWhereTold}
 use Rattle.tailnet_desk.specs.Chains.{Turned, Chain, Point, Deals}
 use Rattle.tailnet_desk.specs.State.{State}

@@ -15,7 +15,8 @@ use desk_front::{Wanted, wanted};
 use http_front::{Request, no_memory_answer, plain_answer};
 use io_edge::{Clock, Entropy, Sink};
 use std::alloc::Global;
-use tail_base::{Moment, NoMemory};
+use moments::Moment;
+use tail_base::NoMemory;
 use tailnet_desk::{Ask, Turns, needs_words};
 
 /// Draws random words, where the ask needs them. A draw that fails gives none.

@@ -10,7 +10,8 @@ use crate::serving::serve;
 use io_edge::{Clock, Entropy, Sink, Source};
 use row_keeper::Keeper;
 use std::alloc::Global;
-use tail_base::{Moment, Text};
+use moments::Moment;
+use tail_base::Text;
 use tailnet_desk::{Ask, Desk};
 
 /// Hands the seed to the desk. A refused seed is passed over.

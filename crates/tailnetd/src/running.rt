@@ -10,7 +10,8 @@ use io_edge::{Clock, EdgeFault, Entropy, Sink, Source};
 use net_rows::Settings;
 use row_keeper::Opener;
 use std::alloc::Global;
-use tail_base::{Moment, Text};
+use moments::Moment;
+use tail_base::Text;
 use tailnet_desk::{Desk, OpenFault};
 
 /// How a run ends whose desk didn't open.

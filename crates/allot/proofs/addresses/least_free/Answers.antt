@@ -1,6 +1,6 @@
 use Rattle.std.proofs.Common.{◌≡◌, ◌+◌, ◌<◌, ◌≤◌, ◌∙◌, ap, arith}
 use Rattle.std.proofs.Math.Pow.{pow_pos}
-use Rattle.tail_base.specs.Bits.{Address, size_of}
+use Rattle.net_addr.specs.Bits.{Address, size_of}
 use Rattle.allot.proofs.AddressLemmas.{free_at, free_bits, is_address_at, free_at-is, free_address-found, free_address-none, last_not_free}
 use Rattle.allot.proofs.SearchLemmas.{LeadsOn-found, LeadsOn-next, LeadsOn-end}
 use Rattle.allot.proofs.addresses.least_free.Goals as goal

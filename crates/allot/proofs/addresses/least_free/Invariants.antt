@@ -1,5 +1,5 @@
 use Rattle.std.proofs.Common.{◌+◌}
-use Rattle.tail_base.specs.Bits.{size_of}
+use Rattle.net_addr.specs.Bits.{size_of}
 use Rattle.allot.proofs.AddressLemmas.{free_at, free_bits}
 use Rattle.allot.proofs.SearchLemmas.{LeadsOn}
 use Rattle.allot.proofs.addresses.least_free.Given as goal

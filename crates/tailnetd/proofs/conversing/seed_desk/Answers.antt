@@ -5,7 +5,7 @@ use mir.Val.{SFits}
 use Rattle.std.specs.Option.{option_map}
 use Rattle.std.proofs.lemmas.Int.{to_z-of_z}
 use Rattle.io_edge.specs.Edge.{IsWhereTold}
-use Rattle.tail_base.specs.Moments.{clamped}
+use Rattle.moments.specs.Moments.{clamped}
 use Rattle.tailnetd.proofs.AnswerLemmas.{clamped_told}
 use Rattle.tailnetd.proofs.conversing.seed_desk.Goals as goal
 

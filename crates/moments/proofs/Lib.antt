@@ -1,0 +1,4 @@
+pub mod CivilLemmas
+pub mod DayLemmas
+pub mod MomentLemmas
+pub mod StampLemmas

@@ -1,0 +1,5 @@
+pub mod Civil
+pub mod MomentReads
+pub mod MomentTexts
+pub mod Moments
+pub mod SpellsMoment

@@ -1,0 +1,16 @@
+pub mod AddrLemmas
+pub mod BlockLemmas
+pub mod DecimalLemmas
+pub mod EndpointLemmas
+pub mod FreeLemmas
+pub mod GapLemmas
+pub mod GroupLemmas
+pub mod HexLemmas
+pub mod NumeralLemmas
+pub mod PartLemmas
+pub mod PrefixLemmas
+pub mod QuadLemmas
+pub mod ReadLemmas
+pub mod SplitLemmas
+pub mod TidyLemmas
+pub mod V6Lemmas

@@ -1,0 +1,13 @@
+pub mod AddrTexts
+pub mod Bits
+pub mod Blocks
+pub mod EndpointTexts
+pub mod GroupReads
+pub mod GroupTexts
+pub mod Numerals
+pub mod Parts
+pub mod PrefixTexts
+pub mod QuadTexts
+pub mod SpellsAddr
+pub mod SpellsPrefix
+pub mod V6Texts

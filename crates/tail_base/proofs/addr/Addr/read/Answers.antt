@@ -1,7 +1,0 @@
-use Rattle.std.proofs.Common.{sym, ◌∙◌}
-use Rattle.tail_base.proofs.PartLemmas.{quad_below}
-use Rattle.tail_base.proofs.addr.Addr.read.Goals as goal
-
-pub new-requires-else-has_colon : goal.new-requires-else-has_colon
-new-requires-else-has_colon c =
-    record { in_family = quad_below c.args.text.now c.in_ok-bits-2.bits (sym c.quad_of_text.ensures.value ∙ c.in_ok-bits-2.was) }

@@ -1,7 +1,0 @@
-use Rattle.std.proofs.Common.{◌≡◌, ◌+◌, drop}
-use Rattle.std.specs.Option.{option_map}
-use Rattle.tail_base.specs.GroupReads.{gap}
-use Rattle.tail_base.proofs.group_reader.gap.Given as goal
-
-abbrev pub invariant-loop-i : goal.invariant-loop-i
-invariant-loop-i l = option_map (λ k. k + l.i) (gap (drop l.i l.text)) ≡ gap l.text
