@@ -22,6 +22,7 @@ use Rattle.net_rows.specs.declared.change.Kind.TheVariants as kind
 abbrev pub is_counter : ℕ → Bool
 is_counter n = nat_le 1 n && nat_le n counter_limit
 
+-- all counters may
 abbrev pub are_counters : Counters → Bool
 are_counters next = is_counter next.user && is_counter next.key && is_counter next.pending && is_counter next.machine
 
@@ -34,6 +35,7 @@ stands id next limit before x =
 abbrev pub is_new : {T : Type 0} → (T → List ℕ) → List T → T → Bool
 is_new text before x = list_all (λ y. not (bytes_eq (text y) (text x))) before
 
+-- they are one address
 abbrev pub address_eq : Address → Address → Bool
 address_eq a b = beq a.v6 b.v6 && a.bits == b.bits
 
@@ -41,6 +43,7 @@ address_eq a b = beq a.v6 b.v6 && a.bits == b.bits
 abbrev pub is_new_address : {T : Type 0} → (T → Address) → List T → T → Bool
 is_new_address address before x = list_all (λ y. not (address_eq (address y) (address x))) before
 
+-- a user has this id
 abbrev pub has_user : List User → ℕ → Bool
 has_user users id = list_any (λ u. u.id == id) users
 
@@ -52,9 +55,11 @@ names_id head id text = starts_with nat_eq text (head ++ decimal id ++ codes "-"
 abbrev pub names_key : ℕ → List ℕ → Bool
 names_key id text = not (starts_with nat_eq text (codes "tnkey-")) || names_id (codes "tnkey-") id text
 
+-- A user has a place and a login of its own.
 abbrev pub user_fits : Rows → List User → User → Bool
 user_fits t before u = stands (λ r. r.id) t.next.user user_limit before u && is_new (λ r. r.login) before u
 
+-- A key has a place, a text of its own and a user, and its text and tags keep their rules.
 abbrev pub key_fits : Rows → List AuthKey → AuthKey → Bool
 key_fits t before k =
     stands (λ r. r.id) t.next.key key_limit before k && is_new (λ r. r.text) before k
@@ -65,6 +70,7 @@ abbrev pub is_short_pending : Pending → Bool
 is_short_pending p =
     nat_le (length p.host) host_limit && nat_le (length p.routes) route_limit && nat_le (length p.tags) asked_tag_limit
 
+-- A pending entry has a place, a text and a machine key of its own, and its text and lists keep their rules.
 abbrev pub pending_fits : Rows → List Pending → Pending → Bool
 pending_fits t before p =
     stands (λ r. r.id) t.next.pending pending_limit before p && is_new (λ r. r.text) before p
@@ -82,6 +88,7 @@ is_new_machine before m =
     is_new (λ r. r.machine.0) before m && is_new (λ r. r.node.0) before m && is_new (λ r. r.name) before m
     && is_new_address (λ r. r.v4) before m && is_new_address (λ r. r.v6) before m
 
+-- A machine has a place, keys, a name and addresses of its own, a user, addresses of the tailnet, and short lists.
 abbrev pub machine_fits : Rows → List Machine → Machine → Bool
 machine_fits t before m =
     stands (λ r. r.id) t.next.machine machine_limit before m && is_new_machine before m && has_user t.users m.user
@@ -101,21 +108,27 @@ damage_at k found = option_map (λ n. record { kind = k; id = n }) found
 abbrev pub damage_unless : Kind → Bool → Option Damage
 damage_unless k passes = if passes then None else Some (record { kind = k; id = 0 })
 
+-- the extra records are within their limit
 abbrev pub are_short_extras : Rows → Bool
 are_short_extras t = nat_le (length t.extras) extra_limit
 
+-- the policy text is within its limit
 abbrev pub is_short_policy : Rows → Bool
 is_short_policy t = option_map_or (λ text. nat_le (length text) policy_limit) t.policy true
 
+-- the first user that doesn't fit
 abbrev pub user_damage : Rows → Option Damage
 user_damage t = damage_at kind.User (first_misfit (λ r. r.id) (user_fits t) [] t.users)
 
+-- the first key that doesn't fit
 abbrev pub key_damage : Rows → Option Damage
 key_damage t = damage_at kind.Key (first_misfit (λ r. r.id) (key_fits t) [] t.keys)
 
+-- the first pending entry that doesn't fit
 abbrev pub pending_damage : Rows → Option Damage
 pending_damage t = damage_at kind.Pending (first_misfit (λ r. r.id) (pending_fits t) [] t.pending)
 
+-- the first machine that doesn't fit
 abbrev pub machine_damage : Rows → Option Damage
 machine_damage t = damage_at kind.Machine (first_misfit (λ r. r.id) (machine_fits t) [] t.machines)
 

@@ -7,26 +7,31 @@ use Rattle.net_addr.specs.Bits.{Address, Block, size_of}
 abbrev pub counter_limit : ℕ
 counter_limit = 2147483647
 
--- rows of each kind
+-- users
 abbrev pub user_limit : ℕ
 user_limit = 256
 
+-- pre-auth keys
 abbrev pub key_limit : ℕ
 key_limit = 1024
 
+-- pending entries
 abbrev pub pending_limit : ℕ
 pending_limit = 256
 
+-- machines
 abbrev pub machine_limit : ℕ
 machine_limit = 512
 
+-- extra DNS records
 abbrev pub extra_limit : ℕ
 extra_limit = 256
 
--- elements of one row's lists, and bytes of its texts
+-- endpoints of a machine
 abbrev pub endpoint_limit : ℕ
 endpoint_limit = 32
 
+-- routes of a machine or a pending entry
 abbrev pub route_limit : ℕ
 route_limit = 32
 
@@ -38,9 +43,11 @@ asked_tag_limit = 16
 abbrev pub tag_limit : ℕ
 tag_limit = 32
 
+-- bytes of a host name as a machine gives it
 abbrev pub host_limit : ℕ
 host_limit = 255
 
+-- bytes of a policy text
 abbrev pub policy_limit : ℕ
 policy_limit = 262144
 

@@ -33,6 +33,7 @@ is_domain_route route = is_domain route.domain && nat_le (length route.resolvers
 abbrev pub IsFrom : ℕ → ℕ → ℕ → Type 0
 IsFrom least greatest n = (least ≤ n) × (n ≤ greatest)
 
+-- The DNS settings keep their rules.
 pub record AreDnsSettings (dns : DnsSettings) : Type 0 where
   pub resolvers : length dns.resolvers ≤ 16
   pub routes : length dns.routes ≤ 64
