@@ -51,6 +51,7 @@ impl MemoryEntropy {
         requires some { 0 < length answers }
         ensures told { (k : ℕ) → ⟦<MemoryEntropy as Entropy>⟧.word result k ≡ Some (slice_index_or answers (min k (length answers - 1)) []) }
         ensures faults { ⟦<MemoryEntropy as Entropy>⟧.faults result ≡ 0 }
+        ensures planned { result.faults.fails ≡ fails }
     {
         MemoryEntropy {
             answers,

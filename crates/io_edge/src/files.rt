@@ -60,6 +60,7 @@ impl MemoryFiles {
     pub fn new(files: Items<NamedBytes>, fails: Items<u32>) -> MemoryFiles
         ensures holds { (name : List ℕ) → ⟦<MemoryFiles as Files>⟧.holds result name ≡ Some (bytes_of name files) }
         ensures faults { ⟦<MemoryFiles as Files>⟧.faults result ≡ 0 }
+        ensures planned { result.faults.fails ≡ fails }
     {
         MemoryFiles {
             files,

@@ -35,6 +35,7 @@ impl MemorySink {
     pub fn new(alloc: Global, fails: Items<u32>) -> MemorySink
         ensures holds { ⟦<MemorySink as Sink>⟧.holds result ≡ Some [] }
         ensures faults { ⟦<MemorySink as Sink>⟧.write_faults result ≡ 0 }
+        ensures planned { result.faults.fails ≡ fails }
     {
         MemorySink {
             bytes: Vec::new(alloc),

@@ -37,6 +37,7 @@ impl MemorySource {
     pub fn new(bytes: Bytes, fails: Items<u32>) -> MemorySource
         ensures left { ⟦<MemorySource as Source>⟧.left result ≡ Some bytes }
         ensures faults { ⟦<MemorySource as Source>⟧.read_faults result ≡ 0 }
+        ensures planned { result.faults.fails ≡ fails }
     {
         MemorySource {
             bytes,

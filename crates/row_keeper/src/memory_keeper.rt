@@ -33,6 +33,7 @@ impl MemoryKeeper {
     pub fn new(tables: Tables, fails: Items<u32>) -> MemoryKeeper
         ensures told { ⟦<MemoryKeeper as Keeper>⟧.told result ≡ Some tables.rows }
         ensures faults { ⟦<MemoryKeeper as Keeper>⟧.faults result ≡ 0 }
+        ensures planned { result.faults.fails ≡ fails }
     {
         MemoryKeeper {
             tables,

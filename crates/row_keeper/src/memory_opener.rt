@@ -31,6 +31,8 @@ impl MemoryOpener {
         ensures told { ⟦<MemoryOpener as Opener>⟧.told result ≡ Some tables.rows }
         ensures asked { ⟦<MemoryOpener as Opener>⟧.asked result ≡ Some [] }
         ensures faults { ⟦<MemoryOpener as Opener>⟧.faults result ≡ 0 }
+        ensures planned { result.faults.fails ≡ fails }
+        ensures keeper_planned { result.keeper_fails ≡ keeper_fails }
     {
         MemoryOpener {
             tables,
@@ -59,6 +61,7 @@ impl MemoryOpener {
 fn keeper_of(alloc: Global, tables: &Tables, fails: &Items<u32>) -> Result<MemoryKeeper, NoMemory>
     ensures told { IfOk result (λ keeper. ⟦<MemoryKeeper as Keeper>⟧.told keeper ≡ Some tables.now.rows) }
     ensures faults { IfOk result (λ keeper. ⟦<MemoryKeeper as Keeper>⟧.faults keeper ≡ 0) }
+    ensures planned { IfOk result (λ keeper. keeper.faults.fails ≡ fails.now) }
 {
     Ok(MemoryKeeper::new(tables.copy(alloc)?, fails.copy(alloc)?))
 }

@@ -5,3 +5,4 @@ pub mod ServeLemmas
 pub mod TalkLemmas
 pub mod RunLemmas
 pub mod PipeLemmas
+pub mod CompleteLemmas

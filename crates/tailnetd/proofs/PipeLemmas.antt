@@ -17,16 +17,3 @@ ran_piped ended.FileFault settings file before now seed old new are r = absurd r
 ran_piped ended.KeeperFault settings file before now seed old new are r = r
 ran_piped (ended.Damaged kind id) settings file before now seed old new are r = r
 ran_piped ended.NoMemory settings file before now seed old new are r = r
-
-pub outcome_of : (e : Ended) (file : Option (Option (List ℕ))) (before now : ℕ) (seed : Option (List ℕ)) (old new : World) → Piped e file before now seed old new → Outcome (status_of e) file before now seed old new
-outcome_of (ended.Closed closed.End) file before now seed old new p = p
-outcome_of (ended.Closed closed.Early) file before now seed old new p = p
-outcome_of (ended.Closed closed.ReadFault) file before now seed old new p = inl p
-outcome_of (ended.Closed closed.WriteFault) file before now seed old new p = p
-outcome_of (ended.Closed closed.NoMemory) file before now seed old new p = inr p
-outcome_of (ended.Settings rule key) file before now seed old new p = p
-outcome_of ended.TooLarge file before now seed old new p = p
-outcome_of ended.FileFault file before now seed old new p = inr p
-outcome_of ended.KeeperFault file before now seed old new p = p
-outcome_of (ended.Damaged kind id) file before now seed old new p = (p.0, (record { kind = kind; id = id }, p.1))
-outcome_of ended.NoMemory file before now seed old new p = inl p

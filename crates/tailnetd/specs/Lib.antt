@@ -1,5 +1,6 @@
 pub mod Outside
 pub mod Pieces
+pub mod Lines
 pub mod Exchanges
 pub mod Asked
 pub mod Serve
@@ -7,3 +8,4 @@ pub mod Talk
 pub mod Run
 pub mod Pipe
 pub mod Top
+pub mod Complete

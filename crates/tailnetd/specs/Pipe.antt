@@ -6,6 +6,7 @@ use Rattle.net_rows.specs.declared.settings.SettingsFields.{SettingsFields}
 use Rattle.tail_words.specs.SettingsText.{settings_of}
 use Rattle.tail_words.specs.declared.fault.SettingsFault.TheVariants.{Refused}
 use Rattle.tailnet_desk.specs.Opening.{unserved}
+use Rattle.tailnetd.specs.Lines.{Noted, is_made, line_of}
 use Rattle.tailnetd.specs.Run.{Conversation, Ran, Untouched, World}
 use Rattle.tailnetd.specs.declared.closed.Closed.{Closed}
 use Rattle.tailnetd.specs.declared.closed.Closed.TheVariants as closed
@@ -22,16 +23,19 @@ file_limit = 1048576
 abbrev pub AreSettingsOf : Option (Option (List ℕ)) → SettingsFields → Type 0
 AreSettingsOf file settings = IfSome file (λ held. IsSomeAnd held (λ text. settings_of text ≡ Ok settings))
 
--- where the file is told, it is too large or breaks a rule
-abbrev pub IsFaulty : Option (Option (List ℕ)) → Type 0
-IsFaulty file = IfSome file (λ held. IsSomeAnd held (λ text.
-    (file_limit < length text) ⊎ ((rule : ℕ) × (key : List ℕ) × (settings_of text ≡ Err (Refused rule key)))))
+-- where the file is told, it is larger than may be
+abbrev pub IsTooLarge : Option (Option (List ℕ)) → Type 0
+IsTooLarge file = IfSome file (λ held. IsSomeAnd held (λ text. file_limit < length text))
+
+-- where the file is told, this is the first rule that its settings break, at this key
+abbrev pub IsFaulty : ℕ → List ℕ → Option (Option (List ℕ)) → Type 0
+IsFaulty rule key file = IfSome file (λ held. IsSomeAnd held (λ text. settings_of text ≡ Err (Refused rule key)))
 
 -- what reading the settings file gave
 abbrev pub IsSettingsFile : Result SettingsFields Ended → Option (Option (List ℕ)) → ℕ → ℕ → Type 0
 IsSettingsFile (Ok settings) file before now = AreSettingsOf file settings
-IsSettingsFile (Err (ended.Settings rule key)) file before now = IsFaulty file
-IsSettingsFile (Err ended.TooLarge) file before now = IsFaulty file
+IsSettingsFile (Err (ended.Settings rule key)) file before now = IsFaulty rule key file
+IsSettingsFile (Err ended.TooLarge) file before now = IsTooLarge file
 IsSettingsFile (Err ended.FileFault) file before now = Rose before now
 IsSettingsFile (Err ended.NoMemory) file before now = Unit {0}
 IsSettingsFile (Err e) file before now = ⊥
@@ -45,25 +49,12 @@ pub record Served (closing : Closed) (file : Option (Option (List ℕ))) (seed :
 -- what `pipe` comes to, by how it ended
 abbrev pub Piped : Ended → Option (Option (List ℕ)) → ℕ → ℕ → Option (List ℕ) → World → World → Type 0
 Piped (ended.Closed closing) file before now seed old new = Served closing file seed old new
-Piped (ended.Settings rule key) file before now seed old new = Untouched old new × IsFaulty file
-Piped ended.TooLarge file before now seed old new = Untouched old new × IsFaulty file
+Piped (ended.Settings rule key) file before now seed old new = Untouched old new × IsFaulty rule key file
+Piped ended.TooLarge file before now seed old new = Untouched old new × IsTooLarge file
 Piped ended.FileFault file before now seed old new = Untouched old new × Rose before now
 Piped ended.KeeperFault file before now seed old new = Untouched old new × Rose old.keeper_faults new.keeper_faults
 Piped (ended.Damaged kind id) file before now seed old new = Untouched old new × IfSome old.rows (λ rows. unserved rows ≡ Some (record { kind = kind; id = id }))
 Piped ended.NoMemory file before now seed old new = Untouched old new
-
--- What a status of `pipe` says, with the settings file and the files' count before and after.
-abbrev pub Outcome : Status → Option (Option (List ℕ)) → ℕ → ℕ → Option (List ℕ) → World → World → Type 0
-Outcome status.Ok file before now seed old new = Served closed.End file seed old new
-Outcome status.Early file before now seed old new = Served closed.Early file seed old new
-Outcome status.ReadFault file before now seed old new = Served closed.ReadFault file seed old new ⊎ (Untouched old new × Rose before now)
-Outcome status.WriteFault file before now seed old new = Served closed.WriteFault file seed old new
-Outcome status.Settings file before now seed old new = Untouched old new × IsFaulty file
-Outcome status.KeeperFault file before now seed old new = Untouched old new × Rose old.keeper_faults new.keeper_faults
-Outcome status.Damaged file before now seed old new =
-    Untouched old new × ((damage : Damage) × IfSome old.rows (λ rows. unserved rows ≡ Some damage))
-Outcome status.NoMemory file before now seed old new = Untouched old new ⊎ Served closed.NoMemory file seed old new
-Outcome status.Usage file before now seed old new = ⊥
 
 -- the status of how it ended
 abbrev pub status_of : Ended → Status
@@ -78,3 +69,12 @@ status_of ended.FileFault = status.ReadFault
 status_of ended.KeeperFault = status.KeeperFault
 status_of (ended.Damaged kind id) = status.Damaged
 status_of ended.NoMemory = status.NoMemory
+
+-- What a status of `pipe` says: how it ended, what that comes to, with the settings file and the files' count
+-- before and after, and the line that errors got.
+pub record Outcome (status : Status) (file : Option (Option (List ℕ))) (before now : ℕ) (seed : Option (List ℕ)) (old new : World)
+    (errors errors_after : Option (List ℕ)) (error_faults error_faults_after : ℕ) : Type 0 where
+  pub ended : Ended
+  pub status_is : status ≡ status_of ended
+  pub piped : Piped ended file before now seed old new
+  pub noted : Noted (line_of ended) (is_made ended) errors errors_after error_faults error_faults_after

@@ -5,6 +5,7 @@ mod answering;
 mod closed;
 mod conversing;
 mod ended;
+mod law;
 mod noting;
 mod piping;
 mod running;

@@ -1,4 +1,8 @@
 //! The line that a run leaves on errors.
+ghost use Rattle.std.specs.Prelude.{◌≡◌, ◌++◌, IfOk, Some, None, IfSome, true, false, codes};
+ghost use Rattle.std.specs.Fmt.{decimal};
+ghost use Rattle.tailnetd.specs.Lines.{Noted, closed_line, is_made, kind_name, line_of, usage_line};
+
 use crate::closed::Closed;
 use crate::ended::Ended;
 use crate::writing::write_all;
@@ -8,7 +12,9 @@ use std::alloc::Global;
 use tail_base::{NoMemory, Text};
 
 /// The kind of a row, as a line names it.
-fn kind_name(kind: Kind) -> &'static str {
+fn kind_name(kind: Kind) -> &'static str
+    ensures value { result.now ≡ kind_name kind }
+{
     match kind {
         Kind::Meta => "meta",
         Kind::User => "user",
@@ -20,27 +26,10 @@ fn kind_name(kind: Kind) -> &'static str {
     }
 }
 
-fn settings_line(alloc: Global, rule: u8, key: &str) -> Result<Text, NoMemory> {
-    let mut digits = itoa::Buffer::new();
-    let mut line = Text::from_str(alloc, "tailnetd: settings S")?;
-    line.push(digits.format(rule))?;
-    line.push(" ")?;
-    line.push(key)?;
-    line.push("\n")?;
-    Ok(line)
-}
-
-fn damaged_line(alloc: Global, kind: Kind, id: u32) -> Result<Text, NoMemory> {
-    let mut digits = itoa::Buffer::new();
-    let mut line = Text::from_str(alloc, "tailnetd: damaged ")?;
-    line.push(kind_name(kind))?;
-    line.push(" ")?;
-    line.push(digits.format(id))?;
-    line.push("\n")?;
-    Ok(line)
-}
-
-fn closed_line(closed: Closed) -> &'static str {
+/// The line of a connection that was served.
+fn closed_line(closed: Closed) -> &'static str
+    ensures value { result.now ≡ closed_line closed }
+{
     match closed {
         Closed::End => "",
         Closed::Early => "tailnetd: closed early\n",
@@ -50,27 +39,62 @@ fn closed_line(closed: Closed) -> &'static str {
     }
 }
 
-fn line_of(alloc: Global, ended: &Ended) -> Result<Text, NoMemory> {
-    match ended {
-        Ended::Closed(closed) => Text::from_str(alloc, closed_line(*closed)),
-        Ended::Settings { rule, key } => settings_line(alloc, *rule, key.as_str()),
-        Ended::TooLarge => Text::from_str(alloc, "tailnetd: file too large\n"),
-        Ended::FileFault => Text::from_str(alloc, "tailnetd: read fault\n"),
-        Ended::KeeperFault => Text::from_str(alloc, "tailnetd: keeper fault\n"),
-        Ended::Damaged { kind, id } => damaged_line(alloc, *kind, *id),
-        Ended::NoMemory => Text::from_str(alloc, "tailnetd: no memory\n"),
+/// The line of a rule that settings break, at a key.
+fn settings_line(alloc: Global, rule: u8, key: &str) -> Result<Text, NoMemory>
+    ensures value { IfOk result (λ line. line ≡ codes "tailnetd: settings S" ++ decimal rule ++ codes " " ++ key.now ++ codes "\n") }
+{
+    Ok(Text::from_string(
+        format!(in alloc; "tailnetd: settings S{rule} {key}\n")?,
+    ))
+}
+
+/// The line of a row that breaks a rule.
+fn damaged_line(alloc: Global, kind: Kind, id: u32) -> Result<Text, NoMemory>
+    ensures value { IfOk result (λ line. line ≡ codes "tailnetd: damaged " ++ kind_name kind ++ codes " " ++ decimal id ++ codes "\n") }
+{
+    let kind = kind_name(kind);
+    Ok(Text::from_string(
+        format!(in alloc; "tailnetd: damaged {kind} {id}\n")?,
+    ))
+}
+
+/// Writes the line.
+fn note_line<E: Sink>(errors: &mut E, line: &str)
+    ensures noted { Noted line.now false (E.holds errors.old) (E.holds errors.new) (E.write_faults errors.old) (E.write_faults errors.new) }
+{
+    let _ = write_all(errors, line.as_bytes());
+}
+
+/// Writes the line, where there was memory for it.
+fn note_made<E: Sink>(errors: &mut E, line: Result<Text, NoMemory>)
+    ensures noted { (text : _) → IfOk line (λ made. made ≡ text) → Noted text true (E.holds errors.old) (E.holds errors.new) (E.write_faults errors.old) (E.write_faults errors.new) }
+{
+    if let Ok(line) = line {
+        note_line(errors, line.as_str());
     }
 }
 
 /// Writes the line of how a run ended. A line that can't be made or written is left out, and the
 /// status stays.
-pub(crate) fn note<E: Sink>(alloc: Global, errors: &mut E, ended: &Ended) {
-    if let Ok(line) = line_of(alloc, ended) {
-        let _ = write_all(errors, line.as_slice());
+pub(crate) fn note<E: Sink>(alloc: Global, errors: &mut E, ended: &Ended)
+    ensures noted { Noted (line_of ended.now) (is_made ended.now) (E.holds errors.old) (E.holds errors.new) (E.write_faults errors.old) (E.write_faults errors.new) }
+{
+    match ended {
+        Ended::Closed(closed) => note_line(errors, closed_line(*closed)),
+        Ended::Settings { rule, key } => {
+            note_made(errors, settings_line(alloc, *rule, key.as_str()))
+        }
+        Ended::TooLarge => note_line(errors, "tailnetd: file too large\n"),
+        Ended::FileFault => note_line(errors, "tailnetd: read fault\n"),
+        Ended::KeeperFault => note_line(errors, "tailnetd: keeper fault\n"),
+        Ended::Damaged { kind, id } => note_made(errors, damaged_line(alloc, *kind, *id)),
+        Ended::NoMemory => note_line(errors, "tailnetd: no memory\n"),
     }
 }
 
 /// Writes the line of words that are no command.
-pub(crate) fn note_usage<E: Sink>(errors: &mut E) {
-    let _ = write_all(errors, b"tailnetd: usage\n");
+pub(crate) fn note_usage<E: Sink>(errors: &mut E)
+    ensures noted { Noted usage_line false (E.holds errors.old) (E.holds errors.new) (E.write_faults errors.old) (E.write_faults errors.new) }
+{
+    note_line(errors, "tailnetd: usage\n");
 }

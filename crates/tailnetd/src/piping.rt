@@ -131,7 +131,8 @@ pub fn pipe_command<I: Source, O: Sink, E: Sink, F: Files, P: Opener, C: Clock, 
     ensures outcome { let at = giving O.holds O.write_faults C.answer N.word N.faults in
         Outcome result (F.holds files.old settings.now) (F.faults files.old) (F.faults files.new) (option_map (λ t. t.now) seed.entry)
         (world P.told P.faults opener.old (told I.left I.read_faults input.old (at output.old clock.old entropy.old)))
-        (world P.told P.faults opener.new (told I.left I.read_faults input.new (at output.new clock.new entropy.new))) }
+        (world P.told P.faults opener.new (told I.left I.read_faults input.new (at output.new clock.new entropy.new)))
+        (E.holds errors.old) (E.holds errors.new) (E.write_faults errors.old) (E.write_faults errors.new) }
 {
     let ended = pipe_seeded(
         alloc, settings, seed, input, output, files, opener, clock, entropy,
