@@ -1,5 +1,5 @@
 //! Moments.
-ghost use Rattle.std.specs.Prelude.{◌≡◌, ℕ, ℤ, ◌<◌, pos, ◌+ℤ◌, ◌-ℤ◌, ◌*ℤ◌, int_lt, if◌then◌else◌, IfOk, drop};
+ghost use Rattle.std.specs.Prelude.{◌≡◌, ◌↔◌, ℕ, ℤ, ◌<◌, pos, ◌+ℤ◌, ◌-ℤ◌, ◌*ℤ◌, int_lt, if◌then◌else◌, IfOk, drop};
 ghost use Rattle.std.specs.Int.{int_min};
 ghost use Rattle.moments.specs.Moments.{IsMoment, clamped, later_of, first_moment, last_moment};
 ghost use Rattle.jiff_core.specs.Calendar.{IsEpochDay, IsWithin};
@@ -90,7 +90,7 @@ impl Moment {
     /// text has another form, the date isn't one, or the value leaves the years 1 to 9999.
     pub fn read(text: &[u8]) -> Option<Moment>
         ensures value { result ≡ moment_of_text text.now }
-        ensures spelled { (n : ℤ) → SpellsMoment text.now n → result ≡ Some n }
+        ensures meaning { (n : ℤ) → SpellsMoment text.now n ↔ (result ≡ Some n) }
     {
         moment_of_text(text)
     }
