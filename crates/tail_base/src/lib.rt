@@ -7,6 +7,7 @@ mod bytes;
 mod items;
 mod key;
 mod label;
+pub mod laws;
 mod login;
 mod memory;
 mod naming;
