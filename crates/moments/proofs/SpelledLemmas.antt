@@ -66,6 +66,26 @@ two_shown text place n h =
 
 -- ---- the parts
 
+-- the calendar has the date
+pub record IsDay (year month number : ℕ) (day : ℤ) : Type 0 where
+  pub month_in : (1 ≤ month) × (month ≤ 12)
+  pub number_in : (1 ≤ number) × (number ≤ days_in_month (pos year) month)
+  pub is : day ≡ days_from_civil (pos year) month number
+
+day_shown : (year month number : ℕ) (day : ℤ) → day_number year month number ≡ Some day → IsDay year month number day
+day_shown year month number day h =
+    let last = days_in_month (pos year) month in
+    let found = pick_some (leb 1 month && leb month 12 && leb 1 number && leb number last) (Some (days_from_civil (pos year) month number)) day h in
+    let day_tests = and_parts (leb 1 month && leb month 12 && leb 1 number) (leb number last) found.0 in
+    let month_tests = and_parts (leb 1 month && leb month 12) (leb 1 number) day_tests.0 in
+    let tests = and_parts (leb 1 month) (leb month 12) month_tests.0 in
+    record {
+      month_in = (leb-true 1 month tests.0, leb-true month 12 tests.1);
+      number_in = (leb-true 1 number month_tests.1, leb-true number last day_tests.1);
+      is = sym (some_same (days_from_civil (pos year) month number) day found.1);
+    }
+
+-- the text begins with a date
 pub record ShowsDate (text : List ℕ) (day : ℤ) : Type 0 where
   pub year : ℕ
   pub month : ℕ
@@ -90,23 +110,19 @@ date_shown text day h =
     let y = two_shown text 2 years.0 years.1 in
     let front : year / 100 ≡ century.0 = omega (arith, c.small, y.small) in
     let back : year % 100 ≡ years.0 = omega (arith, c.small, y.small) in
-    let last = days_in_month (pos year) month.0 in
-    let found = pick_some (leb 1 month.0 && leb month.0 12 && leb 1 number.0 && leb number.0 last) (Some (days_from_civil (pos year) month.0 number.0)) day number.2 in
-    let day_tests = and_parts (leb 1 month.0 && leb month.0 12 && leb 1 number.0) (leb number.0 last) found.0 in
-    let month_tests = and_parts (leb 1 month.0 && leb month.0 12) (leb 1 number.0) day_tests.0 in
-    let tests = and_parts (leb 1 month.0) (leb month.0 12) month_tests.0 in
+    let calendar = day_shown year month.0 number.0 day number.2 in
     record {
       year = year;
       month = month.0;
       number = number.0;
       year_in = omega (arith, c.small, y.small);
-      month_in = (leb-true 1 month.0 tests.0, leb-true month.0 12 tests.1);
-      number_in = (leb-true 1 number.0 month_tests.1, leb-true number.0 last day_tests.1);
+      month_in = calendar.month_in;
+      number_in = calendar.number_in;
       century = c.is ∙ ap (λ n. two_before n (drop 2 text)) (sym front);
       years = y.is ∙ ap (λ n. two_before n (drop 4 text)) (sym back);
       months = (two_shown text 5 month.0 month.1).is;
       days = (two_shown text 8 number.0 number.1).is;
-      is = sym (some_same (days_from_civil (pos year) month.0 number.0) day found.1);
+      is = calendar.is;
     }
 
 seconds_shown : (hour minute second seconds : ℕ) → seconds_of hour minute second ≡ Some seconds
@@ -117,6 +133,7 @@ seconds_shown hour minute second seconds h =
     let early = and_parts (leb hour 23) (leb minute 59) late.0 in
     (leb-true hour 23 early.0, leb-true minute 59 early.1, leb-true second 59 late.1, sym (some_same (hour * 3600 + minute * 60 + second) seconds found.1))
 
+-- behind the date stands a time of day
 pub record ShowsTime (text : List ℕ) (seconds : ℕ) : Type 0 where
   pub hour : ℕ
   pub minute : ℕ
@@ -328,7 +345,7 @@ moment_spelled text n h =
     let time = and_then_some (time_of text) (λ t. option_and_then (λ f. option_and_then (λ o. in_years (day.0 *ℤ pos 86400 +ℤ pos t -ℤ o)) (offset_of (drop f (drop 19 text)))) (fraction_length (drop 19 text))) n day.2 in
     let fraction = and_then_some (fraction_length (drop 19 text)) (λ f. option_and_then (λ o. in_years (day.0 *ℤ pos 86400 +ℤ pos time.0 -ℤ o)) (offset_of (drop f (drop 19 text)))) n time.2 in
     let offset = and_then_some (offset_of (drop fraction.0 (drop 19 text))) (λ o. in_years (day.0 *ℤ pos 86400 +ℤ pos time.0 -ℤ o)) n fraction.2 in
-    let inside = years_shown _ n offset.2 in
+    let inside = years_shown (day.0 *ℤ pos 86400 +ℤ pos time.0 -ℤ offset.0) n offset.2 in
     stamp_shown text day.0 time.0 fraction.0 offset.0 n (marks_shown text whole.0) (date_shown text day.0 day.1) (time_shown text time.0 time.1)
     (fraction_shown (drop 19 text) fraction.0 fraction.1) (offset_shown (drop fraction.0 (drop 19 text)) offset.0 offset.1) inside.0 inside.1
 

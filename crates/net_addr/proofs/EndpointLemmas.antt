@@ -103,6 +103,7 @@ endpoint_read text e h = ap endpoint_of_text h.is ∙ read_family e.addr.v6 h.ho
 
 -- ---- what is read is spelled
 
+-- a colon and a port in decimal
 pub record ShowsPort (text : List ℕ) (port : ℕ) : Type 0 where
   pub small : port < 65536
   pub is : text ≡ 58 ∷ decimal port
@@ -137,20 +138,22 @@ plain_spelled text e h =
       is = sym (take-append-drop at.0 text) ∙ ap (λ xs. take at.0 text ++ xs) shown.is;
     })
 
+bracketed_parts : (text host ending : List ℕ) (bits port : ℕ) (e : Endpoint) → text ≡ host ++ 93 ∷ ending → SpellsV6 host bits → ShowsPort ending port → made true bits port ≡ e → SpellsEndpoint (91 ∷ text) e
+bracketed_parts text host ending bits port e split spelled shown is =
+    rw (← is) (record {
+      host = host;
+      addr = spelled;
+      port = shown.small;
+      is = ap (λ xs. 91 ∷ xs) (split ∙ ap (λ xs. host ++ 93 ∷ xs) shown.is) ∙ sym (closed host (58 ∷ decimal port));
+    })
+
 bracketed_spelled : (text : List ℕ) (e : Endpoint) → bracketed text ≡ Some e → SpellsEndpoint (91 ∷ text) e
 bracketed_spelled text e h =
     let at = and_then_some (position (λ b. eqb b 93) text) (bracketed_at text) e h in
     let bits = and_then_some (v6_of_text (take at.0 text)) (λ b. option_map (made true b) (port_of (drop (at.0 + 1) text))) e at.2 in
     let port = map_some (port_of (drop (at.0 + 1) text)) (made true bits.0) e bits.2 in
     let shown = port_shown (drop (at.0 + 1) text) port.0 port.1 in
-    let host = take at.0 text in
-    let split = mark_shown 93 text at.0 at.1 ∙ ap (λ xs. host ++ 93 ∷ xs) shown.is in
-    rw (← port.2) (record {
-      host = host;
-      addr = v6_spelled host bits.0 bits.1;
-      port = shown.small;
-      is = ap (λ xs. 91 ∷ xs) split ∙ sym (closed host (58 ∷ decimal port.0));
-    })
+    bracketed_parts text (take at.0 text) (drop (at.0 + 1) text) bits.0 port.0 e (mark_shown 93 text at.0 at.1) (v6_spelled (take at.0 text) bits.0 bits.1) shown port.2
 
 pub endpoint_spelled : (text : List ℕ) (e : Endpoint) → endpoint_of_text text ≡ Some e → SpellsEndpoint text e
 endpoint_spelled [] e h = absurd (cc (h))
