@@ -8,11 +8,10 @@ ghost use Rattle.moments.specs.MomentTexts.{moment_text};
 ghost use Rattle.moments.specs.SpellsMoment.{SpellsMoment};
 
 use crate::civil::instant_text;
-use tail_base::{Duplicate, NoMemory};
 use crate::stamp::{day_of, fraction_length, has_marks, offset_of, time_of};
-use tail_base::Text;
 use std::alloc::Global;
 use std::marker::Model;
+use tail_base::{Duplicate, NoMemory, Text};
 
 /// A time in seconds since 1970-01-01T00:00:00Z, in the years 1 to 9999.
 #[derive(Clone, Copy, Debug, PartialEq, Eq, PartialOrd, Ord, Drop)]
