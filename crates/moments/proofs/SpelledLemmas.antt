@@ -1,17 +1,17 @@
 -- The texts that are read as a moment spell it.
-use Rattle.std.proofs.Common.{◌≡◌, ◌<◌, ◌≤◌, ◌+◌, ◌-◌, ◌*◌, ◌/◌, ◌%◌, ℕ, ℤ, zero, suc, pos, neg_ℤ, ◌+ℤ◌, ◌-ℤ◌, ◌*ℤ◌, ◌≤ℤ◌, int_lt, Bool, true, false, not, ◌&&◌, List, [], ◌∷◌, ◌++◌, length, take, drop, get_or, eqb, leb, cond, Option, Some, None, arith, refl, sym, ap, ◌∙◌, inl, inr}
+use Rattle.std.proofs.Common.{◌≡◌, ◌<◌, ◌≤◌, ◌+◌, ◌-◌, ◌*◌, ◌/◌, ◌%◌, ℕ, ℤ, zero, suc, pos, neg_ℤ, ◌+ℤ◌, ◌-ℤ◌, ◌*ℤ◌, int_lt, Bool, true, false, not, ◌&&◌, List, [], ◌∷◌, length, take, drop, get_or, eqb, leb, cond, Option, Some, None, arith, refl, sym, ap, ◌∙◌, inl, inr}
 use Rattle.std.specs.Prelude.{◌↔◌}
 use Rattle.std.specs.Char.{is_ascii_digit}
-use Rattle.std.specs.List.{list_all, prefix_len}
+use Rattle.std.specs.List.{list_all}
 use Rattle.std.specs.Option.{option_and_then}
-use Rattle.std.proofs.lemmas.Bool.{and_parts, and_from, cases_Bool, leb-true, eqb-true, ne_eqb, false_from_ne_true, not-true, ltb-true}
+use Rattle.std.proofs.lemmas.Bool.{and_parts, and_from, cases_Bool, leb-true, eqb-true, ne_eqb, not-true}
 use Rattle.std.proofs.lemmas.Bool.Decides.{nat_tests}
 use Rattle.std.proofs.lemmas.List.{take-append-drop, drop_all, drop_more}
 use Rattle.jiff_core.specs.Calendar.{days_in_month, days_from_civil}
 use Rattle.jiff_core.proofs.SignedLemmas.{signed_arith}
 use Rattle.moments.specs.Moments.{IsMoment, first_moment, last_moment}
 use Rattle.moments.specs.MomentReads.{day_number, day_of, digit_at, digit_count, fraction_length, has_marks, in_years, moment_of_text, numeric_offset, offset_of, seconds_of, signed, signed_offset, stamp, time_of, two_at}
-use Rattle.moments.specs.SpellsMoment.{IsStamp, IsZone, SpellsMoment, Stamp, Zone, print_fraction, print_stamp, print_zone, stamp_seconds, two_before, zone_seconds}
+use Rattle.moments.specs.SpellsMoment.{IsZone, SpellsMoment, Stamp, Zone, print_fraction, print_zone, two_before, zone_seconds}
 use Rattle.moments.specs.SpellsMoment.Zone.{utc, ahead, behind}
 use Rattle.moments.proofs.StampLemmas.{stamp_read}
 
@@ -315,9 +315,14 @@ stamp_shown : (text : List ℕ) (day : ℤ) (time long : ℕ) (offset n : ℤ) �
     → ShowsFraction (drop 19 text) long → ShowsZone (drop long (drop 19 text)) offset → day *ℤ pos 86400 +ℤ pos time -ℤ offset ≡ n → IsMoment n → SpellsMoment text n
 stamp_shown text day time long offset n marks date clock fraction zone number inside =
     let stamp : Stamp = record {
-      year = date.year; month = date.month; day = date.number;
-      hour = clock.hour; minute = clock.minute; second = clock.second;
-      fraction = fraction.digits; zone = zone.zone;
+      year = date.year;
+      month = date.month;
+      day = date.number;
+      hour = clock.hour;
+      minute = clock.minute;
+      second = clock.second;
+      fraction = fraction.digits;
+      zone = zone.zone;
     } in
     let ending = fraction.is ∙ ap (print_fraction fraction.digits) zone.is in
     let seconds = clock.seconds_at ∙ ap (two_before clock.second) ending in
@@ -329,9 +334,14 @@ stamp_shown text day time long offset n marks date clock fraction zone number in
     record {
       stamp = stamp;
       valid = record {
-        year = date.year_in; month = date.month_in; day = date.number_in;
-        hour = clock.hour_in; minute = clock.minute_in; second = clock.second_in;
-        fraction = fraction.all; zone = zone.valid;
+        year = date.year_in;
+        month = date.month_in;
+        day = date.number_in;
+        hour = clock.hour_in;
+        minute = clock.minute_in;
+        second = clock.second_in;
+        fraction = fraction.all;
+        zone = zone.valid;
       };
       is = date.century ∙ ap (two_before (date.year / 100)) years;
       number = sym number ∙ rw (date.is, clock.is, zone.number) refl;

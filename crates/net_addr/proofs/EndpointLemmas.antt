@@ -14,8 +14,7 @@ use Rattle.net_addr.specs.declared.endpoint.Endpoint.{Endpoint}
 use Rattle.net_addr.specs.Bits.{family_size}
 use Rattle.net_addr.specs.EndpointTexts.{bracketed, bracketed_at, endpoint_of_text, endpoint_text, host_part, made, plain, plain_at, port_of}
 use Rattle.net_addr.specs.GroupReads.{v6_of_text}
-use Rattle.net_addr.specs.GroupTexts.{groups_of, groups_text}
-use Rattle.net_addr.specs.QuadTexts.{quad_of_text, quad_text}
+use Rattle.net_addr.specs.QuadTexts.{quad_of_text}
 use Rattle.net_addr.specs.AddrTexts.{addr_text}
 use Rattle.net_addr.specs.Numerals.{number_up_to}
 use Rattle.net_addr.specs.SpellsAddr.{SpellsAddr}
@@ -23,7 +22,6 @@ use Rattle.net_addr.specs.SpellsEndpoint.{SpellsEndpoint, before_port}
 use Rattle.net_addr.specs.V6Texts.{SpellsV6}
 use Rattle.net_addr.proofs.DecimalLemmas.{number_of_decimal, number_text}
 use Rattle.net_addr.proofs.FreeLemmas.{IsForeign, quad_other, v6_other}
-use Rattle.net_addr.proofs.HexLemmas.{v6_written}
 use Rattle.net_addr.proofs.NumeralLemmas.{number_fits, pick_some}
 use Rattle.net_addr.proofs.PartLemmas.{and_then_some, map_some, quad_below, some_place}
 use Rattle.net_addr.proofs.PrefixLemmas.{addr_written, position_is}

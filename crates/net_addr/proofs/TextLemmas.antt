@@ -1,5 +1,5 @@
 -- Values with one text are equal, since what is written is read again.
-use Rattle.std.proofs.Common.{◌≡◌, ◌<◌, ◌^◌, Option, Some, Result, Ok, refl, sym, ◌∙◌}
+use Rattle.std.proofs.Common.{◌≡◌, ◌<◌, ◌^◌, Some, Result, Ok, refl, sym, ◌∙◌}
 use Rattle.net_addr.specs.declared.endpoint.Endpoint.{Endpoint}
 use Rattle.net_addr.specs.declared.prefix_fault.PrefixFault.{PrefixFault}
 use Rattle.net_addr.specs.AddrTexts.{addr_text}

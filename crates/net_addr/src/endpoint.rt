@@ -6,12 +6,11 @@ ghost use Rattle.net_addr.specs.SpellsEndpoint.{SpellsEndpoint};
 
 use crate::addr::Addr;
 use crate::group_reader::v6_of_text;
-use tail_base::{Duplicate, NoMemory};
 use crate::numerals::number_up_to;
 use crate::parts::place_of;
 use crate::quad::quad_of_text;
-use tail_base::Text;
 use std::alloc::Global;
+use tail_base::{Duplicate, NoMemory, Text};
 
 /// Where a machine may be reached by UDP: an address and a port.
 #[derive(Clone, Copy, Debug, PartialEq, Eq, PartialOrd, Ord, Drop)]

@@ -70,7 +70,8 @@ impl Label {
     /// The label that a text is, if it is one.
     pub fn read(alloc: Global, text: &[u8]) -> Result<Option<Label>, NoMemory>
         ensures value { IfOk result (λ label. label ≡ label_of text.now) }
-        ensures meaning { IfOk result (λ found. (label : List ℕ) → SpellsLabel text.now label ↔ (found ≡ Some label)) }
+        ensures meaning { IfOk result (λ found. (label : List ℕ)
+            → SpellsLabel text.now label ↔ (found ≡ Some label)) }
     {
         label_of(alloc, text)
     }

@@ -99,7 +99,8 @@ impl Login {
     /// The login that a text spells, if it spells one. Capitals are read as small letters.
     pub fn read(alloc: Global, text: &[u8]) -> Result<Option<Login>, NoMemory>
         ensures value { IfOk result (λ login. login ≡ login_of text.now) }
-        ensures meaning { IfOk result (λ found. (login : List ℕ) → SpellsLogin text.now login ↔ (found ≡ Some login)) }
+        ensures meaning { IfOk result (λ found. (login : List ℕ)
+            → SpellsLogin text.now login ↔ (found ≡ Some login)) }
     {
         login_of(alloc, text)
     }

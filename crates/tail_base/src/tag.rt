@@ -77,7 +77,8 @@ impl Tag {
     /// The tag that a text is, if it is one.
     pub fn read(alloc: Global, text: &[u8]) -> Result<Option<Tag>, NoMemory>
         ensures value { IfOk result (λ tag. tag ≡ tag_of text.now) }
-        ensures meaning { IfOk result (λ found. (tag : List ℕ) → SpellsTag text.now tag ↔ (found ≡ Some tag)) }
+        ensures meaning { IfOk result (λ found. (tag : List ℕ)
+            → SpellsTag text.now tag ↔ (found ≡ Some tag)) }
     {
         tag_of(alloc, text)
     }
