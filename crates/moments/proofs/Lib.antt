@@ -1,4 +1,5 @@
 pub mod CivilLemmas
 pub mod DayLemmas
 pub mod MomentLemmas
+pub mod SpelledLemmas
 pub mod StampLemmas

@@ -1,5 +1,5 @@
 -- What is written of a moment is read again.
-use Rattle.std.proofs.Common.{◌≡◌, ◌<◌, ◌≤◌, ◌+◌, ◌*◌, ◌/◌, ◌%◌, ℕ, ℤ, pos, negsuc, unsigned_abs, ◌-ℤ◌, ◌≤ℤ◌, List, [], ◌∷◌, ◌++◌, Some, arith, rules, refl, ap, ◌∙◌, inl, inr}
+use Rattle.std.proofs.Common.{◌≡◌, ◌<◌, ◌≤◌, ◌+◌, ◌*◌, ◌/◌, ◌%◌, ℕ, ℤ, pos, negsuc, unsigned_abs, ◌-ℤ◌, ◌≤ℤ◌, List, [], ◌∷◌, ◌++◌, Some, arith, rules, refl, sym, ap, ◌∙◌, inl, inr}
 use Rattle.std.specs.Prelude.{codes}
 use Rattle.std.specs.Fmt.{decimal}
 use Rattle.std.proofs.lemmas.Bool.{cases_lt}
@@ -107,3 +107,10 @@ moment_written n h =
 
 pub moment_again : (n : ℤ) → IsMoment n → (text : List ℕ) → text ≡ moment_text n → moment_of_text text ≡ Some n
 moment_again n h text is = ap moment_of_text is ∙ stamp_read (moment_text n) n (moment_written n h)
+
+some_same : (a b : ℤ) → Some a ≡ Some b → a ≡ b
+some_same a b h = cc
+
+-- moments with one text are equal
+pub moment_text-injective : (a b : ℤ) → IsMoment a → IsMoment b → moment_text a ≡ moment_text b → a ≡ b
+moment_text-injective a b left right same = some_same a b (sym (moment_again a left (moment_text a) refl) ∙ moment_again b right (moment_text a) same)

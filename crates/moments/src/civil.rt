@@ -3,10 +3,9 @@ ghost use Rattle.std.specs.Prelude.{◌≡◌, ◌<◌, ◌≤◌, ◌++◌, pos
 ghost use Rattle.moments.specs.Civil.{date_after};
 ghost use Rattle.moments.specs.MomentTexts.{date_text, instant_text, time_text, two};
 
-use tail_base::NoMemory;
-use tail_base::Text;
 use jiff_core::civil::Date;
 use std::alloc::Global;
+use tail_base::{NoMemory, Text};
 
 /// The day number of 0001-01-01, counted from the calendar's first day, -9999-01-01.
 const YEAR_ONE: u32 = 3_652_425;

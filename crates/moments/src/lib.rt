@@ -2,9 +2,11 @@
 #![tactic(auto)]
 
 mod civil;
+mod laws;
 mod moment;
 mod stamp;
 #[cfg(test)]
 mod tests;
 
+pub use laws::moment_texts_differ;
 pub use moment::Moment;

@@ -1,5 +1,5 @@
 //! Moments.
-ghost use Rattle.std.specs.Prelude.{◌≡◌, ℕ, ℤ, ◌<◌, pos, ◌+ℤ◌, ◌-ℤ◌, ◌*ℤ◌, int_lt, if◌then◌else◌, IfOk, drop};
+ghost use Rattle.std.specs.Prelude.{◌≡◌, ◌↔◌, ℕ, ℤ, ◌<◌, pos, ◌+ℤ◌, ◌-ℤ◌, ◌*ℤ◌, int_lt, if◌then◌else◌, IfOk, drop};
 ghost use Rattle.std.specs.Int.{int_min};
 ghost use Rattle.moments.specs.Moments.{IsMoment, clamped, later_of, first_moment, last_moment};
 ghost use Rattle.jiff_core.specs.Calendar.{IsEpochDay, IsWithin};
@@ -8,11 +8,10 @@ ghost use Rattle.moments.specs.MomentTexts.{moment_text};
 ghost use Rattle.moments.specs.SpellsMoment.{SpellsMoment};
 
 use crate::civil::instant_text;
-use tail_base::{Duplicate, NoMemory};
 use crate::stamp::{day_of, fraction_length, has_marks, offset_of, time_of};
-use tail_base::Text;
 use std::alloc::Global;
 use std::marker::Model;
+use tail_base::{Duplicate, NoMemory, Text};
 
 /// A time in seconds since 1970-01-01T00:00:00Z, in the years 1 to 9999.
 #[derive(Clone, Copy, Debug, PartialEq, Eq, PartialOrd, Ord, Drop)]
@@ -90,7 +89,7 @@ impl Moment {
     /// text has another form, the date isn't one, or the value leaves the years 1 to 9999.
     pub fn read(text: &[u8]) -> Option<Moment>
         ensures value { result ≡ moment_of_text text.now }
-        ensures spelled { (n : ℤ) → SpellsMoment text.now n → result ≡ Some n }
+        ensures meaning { (n : ℤ) → SpellsMoment text.now n ↔ (result ≡ Some n) }
     {
         moment_of_text(text)
     }

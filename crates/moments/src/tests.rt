@@ -1,6 +1,7 @@
 //! Texts from RFC 3339.
 use crate::Moment;
 use std::test::Fail;
+use tail_base::Duplicate;
 
 #[test]
 fn moments(rt: HostRuntime) -> Result<(), Fail> {
@@ -27,10 +28,24 @@ fn moments(rt: HostRuntime) -> Result<(), Fail> {
         "2001-09-09T24:00:00Z",
         "2001-09-09T03:46:40",
         "2001-09-09T03:46:40.Z",
+        "2001-09-09T03:46:40+24:00",
+        "2001-09-09T03:46:40z",
+        "2001-09-09 03:46:40Z",
+        "2001-00-09T03:46:40Z",
+        "9999-12-31T23:59:59-00:01",
+        "",
     ] {
         assert!(rt; Moment::read(text.as_bytes()).is_none(), "{text}");
     }
-    let written = Moment::clamp(1_000_000_000).write(alloc)?;
-    assert_eq!(rt; written.as_str(), "2001-09-09T01:46:40Z");
+    for (seconds, text) in [
+        (1_000_000_000, "2001-09-09T01:46:40Z"),
+        (951_782_400, "2000-02-29T00:00:00Z"),
+        (-1, "1969-12-31T23:59:59Z"),
+        (i64::MIN, "0001-01-01T00:00:00Z"),
+        (i64::MAX, "9999-12-31T23:59:59Z"),
+    ] {
+        let written = Moment::clamp(seconds).copy(alloc)?.write(alloc)?;
+        assert_eq!(rt; written.as_str(), text);
+    }
     Ok(())
 }

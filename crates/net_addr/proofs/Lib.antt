@@ -12,5 +12,6 @@ pub mod PrefixLemmas
 pub mod QuadLemmas
 pub mod ReadLemmas
 pub mod SplitLemmas
+pub mod TextLemmas
 pub mod TidyLemmas
 pub mod V6Lemmas

@@ -9,5 +9,6 @@ pub mod Parts
 pub mod PrefixTexts
 pub mod QuadTexts
 pub mod SpellsAddr
+pub mod SpellsEndpoint
 pub mod SpellsPrefix
 pub mod V6Texts

@@ -7,11 +7,10 @@ ghost use Rattle.net_addr.specs.SpellsAddr.{SpellsAddr};
 
 use crate::group_reader::v6_of_text;
 use crate::groups::v6_text;
-use tail_base::{Duplicate, NoMemory};
 use crate::quad::{quad_of_text, quad_text};
-use tail_base::Text;
 use std::alloc::Global;
 use std::marker::Model;
+use tail_base::{Duplicate, NoMemory, Text};
 
 /// An IPv4 or IPv6 address: its family, and its number there. Addresses go by family, IPv4 first,
 /// and then by number.

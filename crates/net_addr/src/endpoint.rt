@@ -1,16 +1,16 @@
 //! Endpoints.
-ghost use Rattle.std.specs.Prelude.{◌≡◌, ◌<◌, ◌≤◌, ◌^◌, length, IfOk};
+ghost use Rattle.std.specs.Prelude.{◌≡◌, ◌↔◌, ◌<◌, ◌≤◌, ◌^◌, length, IfOk};
 ghost use Rattle.net_addr.specs.Bits.{family_size};
 ghost use Rattle.net_addr.specs.EndpointTexts.{bracketed, bracketed_at, endpoint_of_text, endpoint_text, plain, plain_at, port_of};
+ghost use Rattle.net_addr.specs.SpellsEndpoint.{SpellsEndpoint};
 
 use crate::addr::Addr;
 use crate::group_reader::v6_of_text;
-use tail_base::{Duplicate, NoMemory};
 use crate::numerals::number_up_to;
 use crate::parts::place_of;
 use crate::quad::quad_of_text;
-use tail_base::Text;
 use std::alloc::Global;
+use tail_base::{Duplicate, NoMemory, Text};
 
 /// Where a machine may be reached by UDP: an address and a port.
 #[derive(Clone, Copy, Debug, PartialEq, Eq, PartialOrd, Ord, Drop)]
@@ -73,6 +73,16 @@ fn bracketed(text: &[u8]) -> Option<Endpoint>
     bracketed_at(text, at)
 }
 
+/// The endpoint that a text spells: an IPv6 address behind a bracket, else an IPv4 address.
+fn endpoint_of_text(text: &[u8]) -> Option<Endpoint>
+    ensures value { result ≡ endpoint_of_text text.now }
+{
+    match text {
+        [b'[', rest @ ..] => bracketed(rest),
+        _ => plain(text),
+    }
+}
+
 /// The text of an endpoint.
 fn endpoint_text(alloc: Global, endpoint: &Endpoint) -> Result<Text, NoMemory>
     ensures value { IfOk result (λ text. text ≡ endpoint_text endpoint.now) }
@@ -99,11 +109,9 @@ impl Endpoint {
     /// The endpoint that a text spells, as `1.2.3.4:5` or `[fd00::1]:5`.
     pub fn read(text: &[u8]) -> Option<Endpoint>
         ensures value { result ≡ endpoint_of_text text.now }
+        ensures meaning { (e : Endpoint) → SpellsEndpoint text.now e ↔ (result ≡ Some e) }
     {
-        match text {
-            [b'[', rest @ ..] => bracketed(rest),
-            _ => plain(text),
-        }
+        endpoint_of_text(text)
     }
 
     /// The address and the port with a colon between them, an IPv6 address in brackets.

@@ -2,9 +2,8 @@
 ghost use Rattle.std.specs.Prelude.{◌≡◌, ◌<◌, ◌^◌, IfOk, length, nat_lt, position};
 ghost use Rattle.net_addr.specs.GroupTexts.{group_at, groups_of, groups_text, joined, longest_run, start_of_run, zeros};
 
-use tail_base::NoMemory;
-use tail_base::Text;
 use std::alloc::Global;
+use tail_base::{NoMemory, Text};
 
 /// The group of 16 bits of a number, counted from the lowest.
 fn group_at(bits: u128, place: u32) -> u16

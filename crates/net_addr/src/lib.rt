@@ -5,6 +5,7 @@ mod addr;
 mod endpoint;
 mod group_reader;
 mod groups;
+mod laws;
 mod numerals;
 mod parts;
 mod prefix;
@@ -15,5 +16,6 @@ mod tests;
 
 pub use addr::Addr;
 pub use endpoint::Endpoint;
+pub use laws::{addr_texts_differ, endpoint_texts_differ, prefix_texts_differ};
 pub use prefix::Prefix;
 pub use prefix_fault::PrefixFault;

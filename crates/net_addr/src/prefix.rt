@@ -6,13 +6,12 @@ ghost use Rattle.net_addr.specs.Blocks.{IsWithin, Overlaps, holds, is_within, la
 ghost use Rattle.net_addr.specs.PrefixTexts.{aligned, prefix_of_text, prefix_text};
 
 use crate::addr::Addr;
-use tail_base::{Duplicate, NoMemory};
 use crate::numerals::number_up_to;
 use crate::parts::place_of;
 use crate::prefix_fault::PrefixFault;
-use tail_base::Text;
 use std::alloc::Global;
 use std::marker::Model;
+use tail_base::{Duplicate, NoMemory, Text};
 
 /// An address prefix: the addresses that share the first `len` bits of the base. The base has no
 /// bit set past them. Prefixes go by family, IPv4 first, then by base, then by length.

@@ -2,10 +2,9 @@
 ghost use Rattle.std.specs.Prelude.{◌≡◌, ◌<◌, ◌^◌, IfOk};
 ghost use Rattle.net_addr.specs.QuadTexts.{byte_at, quad_number, quad_of_text, quad_text};
 
-use tail_base::NoMemory;
 use crate::parts::{Notation, parts_of};
-use tail_base::Text;
 use std::alloc::Global;
+use tail_base::{NoMemory, Text};
 
 /// The byte of a number, counted from the lowest.
 fn byte_at(bits: u128, place: u32) -> u8

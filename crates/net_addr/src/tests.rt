@@ -29,6 +29,8 @@ fn addresses(rt: HostRuntime) -> Result<(), Fail> {
         "1.2.3",
         "1.2.3.256",
         "12345::",
+        "1:2:3:4::5:6:7:8",
+        "fe80::1%eth0",
         "1:2:3:4:5:6:7",
         ":::",
         "",
@@ -84,6 +86,9 @@ fn endpoints(rt: HostRuntime) -> Result<(), Fail> {
         "[1.2.3.4]:5",
         "1.2.3.4:65536",
         "[fd00::1]5",
+        "[fd00::1:5",
+        "1.2.3.4:05",
+        "1.2.3.4:",
     ] {
         assert!(rt; Endpoint::read(text.as_bytes()).is_none(), "{text}");
     }

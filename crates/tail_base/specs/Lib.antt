@@ -1,4 +1,8 @@
 pub mod Keys
 pub mod Labels
 pub mod Logins
+pub mod SpellsLabel
+pub mod SpellsLogin
+pub mod SpellsTag
+pub mod Steps
 pub mod Tags

@@ -17,12 +17,12 @@ abbrev pub is_user : List ℕ → Bool
 is_user bytes = nat_le 1 (length bytes) && nat_le (length bytes) 63 && list_all is_user_byte bytes
 
 -- up to 63 bytes of a domain
-abbrev pub is_domain : List ℕ → Bool
-is_domain bytes = nat_le (length bytes) 63 && list_all is_domain_byte bytes
+abbrev pub is_login_domain : List ℕ → Bool
+is_login_domain bytes = nat_le (length bytes) 63 && list_all is_domain_byte bytes
 
 -- a user's name, `@`, a domain or nothing, all in lower case
 abbrev pub is_login : List ℕ → Bool
-is_login bytes = list_any (λ b. b == 64) bytes && is_user (before_first (λ b. b == 64) bytes) && is_domain (after_first (λ b. b == 64) bytes)
+is_login bytes = list_any (λ b. b == 64) bytes && is_user (before_first (λ b. b == 64) bytes) && is_login_domain (after_first (λ b. b == 64) bytes)
 
 -- the login that a text spells, in either case
 abbrev pub login_of : List ℕ → Option (List ℕ)

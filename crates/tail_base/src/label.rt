@@ -1,7 +1,8 @@
 //! DNS labels.
-ghost use Rattle.std.specs.Prelude.{◌≡◌, true, IfOk};
+ghost use Rattle.std.specs.Prelude.{◌≡◌, ◌↔◌, ℕ, List, true, IfOk};
 ghost use Rattle.std.specs.List.{list_all};
 ghost use Rattle.tail_base.specs.Labels.{has_good_ends, has_label_length, is_label, is_label_byte, label_of, label_of_host, numbered_label};
+ghost use Rattle.tail_base.specs.SpellsLabel.{SpellsLabel};
 
 use crate::ascii::is_alnum;
 use crate::memory::{Duplicate, NoMemory};
@@ -52,18 +53,27 @@ fn is_label(text: &[u8]) -> bool
     has_label_length(text) && has_label_bytes(text) && has_good_ends(text)
 }
 
+/// The label that a text is, if it is one.
+#[tactic(auto, using(crate::proofs::LabelLemmas::label_ascii))]
+fn label_of(alloc: Global, text: &[u8]) -> Result<Option<Label>, NoMemory>
+    ensures value { IfOk result (λ label. label ≡ label_of text.now) }
+{
+    if !is_label(text) {
+        return Ok(None);
+    }
+    Ok(Some(Label {
+        text: Text::from_ascii(alloc, text)?,
+    }))
+}
+
 impl Label {
     /// The label that a text is, if it is one.
-    #[tactic(auto, using(crate::proofs::LabelLemmas::label_ascii))]
     pub fn read(alloc: Global, text: &[u8]) -> Result<Option<Label>, NoMemory>
         ensures value { IfOk result (λ label. label ≡ label_of text.now) }
+        ensures meaning { IfOk result (λ found. (label : List ℕ)
+            → SpellsLabel text.now label ↔ (found ≡ Some label)) }
     {
-        if !is_label(text) {
-            return Ok(None);
-        }
-        Ok(Some(Label {
-            text: Text::from_ascii(alloc, text)?,
-        }))
+        label_of(alloc, text)
     }
 
     /// The label that a host name gives, which needn't be a label itself: in lower case, with one

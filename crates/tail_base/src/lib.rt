@@ -7,6 +7,7 @@ mod bytes;
 mod items;
 mod key;
 mod label;
+mod laws;
 mod login;
 mod memory;
 mod naming;
@@ -19,6 +20,9 @@ pub use bytes::Bytes;
 pub use items::Items;
 pub use key::{DiscoKey, MachineKey, NodeKey};
 pub use label::Label;
+pub use laws::{
+    key_texts_differ, labels_are_read_again, logins_are_read_again, tags_are_read_again,
+};
 pub use login::Login;
 pub use memory::{Duplicate, NoMemory};
 pub use tag::Tag;

@@ -1,8 +1,9 @@
 //! Logins.
-ghost use Rattle.std.specs.Prelude.{◌≡◌, ◌==◌, true, map, position, IfOk};
+ghost use Rattle.std.specs.Prelude.{◌≡◌, ◌↔◌, ℕ, List, ◌==◌, true, map, position, IfOk};
 ghost use Rattle.std.specs.Char.{to_ascii_lowercase};
 ghost use Rattle.std.specs.List.{list_all};
-ghost use Rattle.tail_base.specs.Logins.{is_domain, is_domain_byte, is_login, is_user, is_user_byte, login_of};
+ghost use Rattle.tail_base.specs.Logins.{is_login_domain, is_domain_byte, is_login, is_user, is_user_byte, login_of};
+ghost use Rattle.tail_base.specs.SpellsLogin.{SpellsLogin};
 
 use crate::ascii::is_alnum;
 use crate::memory::{Duplicate, NoMemory};
@@ -58,8 +59,8 @@ fn is_user(text: &[u8]) -> bool
     1 <= text.len() && text.len() <= 63 && has_user_bytes(text)
 }
 
-fn is_domain(text: &[u8]) -> bool
-    ensures value { result ≡ is_domain text.now }
+fn is_login_domain(text: &[u8]) -> bool
+    ensures value { result ≡ is_login_domain text.now }
 {
     text.len() <= 63 && has_domain_bytes(text)
 }
@@ -75,24 +76,33 @@ fn is_login(text: &[u8]) -> bool
     ensures value { result ≡ is_login text.now }
 {
     match place_of_at(text) {
-        Some(at) => is_user(&text[..at]) && is_domain(&text[at + 1..]),
+        Some(at) => is_user(&text[..at]) && is_login_domain(&text[at + 1..]),
         None => false,
     }
 }
 
+/// The login that a text spells, if it spells one.
+#[tactic(auto, using(crate::proofs::LoginLemmas::login_ascii))]
+fn login_of(alloc: Global, text: &[u8]) -> Result<Option<Login>, NoMemory>
+    ensures value { IfOk result (λ login. login ≡ login_of text.now) }
+{
+    let small: Vec<u8> = text.iter().map(|b| b.to_ascii_lowercase()).collect(alloc)?;
+    if !is_login(small.as_slice()) {
+        return Ok(None);
+    }
+    Ok(Some(Login {
+        text: Text::from_ascii(alloc, small.as_slice())?,
+    }))
+}
+
 impl Login {
     /// The login that a text spells, if it spells one. Capitals are read as small letters.
-    #[tactic(auto, using(crate::proofs::LoginLemmas::login_ascii))]
     pub fn read(alloc: Global, text: &[u8]) -> Result<Option<Login>, NoMemory>
         ensures value { IfOk result (λ login. login ≡ login_of text.now) }
+        ensures meaning { IfOk result (λ found. (login : List ℕ)
+            → SpellsLogin text.now login ↔ (found ≡ Some login)) }
     {
-        let small: Vec<u8> = text.iter().map(|b| b.to_ascii_lowercase()).collect(alloc)?;
-        if !is_login(small.as_slice()) {
-            return Ok(None);
-        }
-        Ok(Some(Login {
-            text: Text::from_ascii(alloc, small.as_slice())?,
-        }))
+        login_of(alloc, text)
     }
 
     pub fn as_str(&self) -> &str

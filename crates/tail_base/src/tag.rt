@@ -1,7 +1,8 @@
 //! Tags.
-ghost use Rattle.std.specs.Prelude.{◌≡◌, true, IfOk};
+ghost use Rattle.std.specs.Prelude.{◌≡◌, ◌↔◌, ℕ, List, true, IfOk};
 ghost use Rattle.std.specs.List.{list_all};
 ghost use Rattle.tail_base.specs.Tags.{is_letter, is_tag, is_tag_byte, is_tag_name, tag_of};
+ghost use Rattle.tail_base.specs.SpellsTag.{SpellsTag};
 
 use crate::memory::{Duplicate, NoMemory};
 use crate::text::Text;
@@ -59,18 +60,27 @@ fn is_tag(text: &[u8]) -> bool
     text.starts_with(b"tag:") && is_tag_name(&text[4..])
 }
 
+/// The tag that a text is, if it is one.
+#[tactic(auto, using(crate::proofs::TagLemmas::tag_ascii))]
+fn tag_of(alloc: Global, text: &[u8]) -> Result<Option<Tag>, NoMemory>
+    ensures value { IfOk result (λ tag. tag ≡ tag_of text.now) }
+{
+    if !is_tag(text) {
+        return Ok(None);
+    }
+    Ok(Some(Tag {
+        text: Text::from_ascii(alloc, text)?,
+    }))
+}
+
 impl Tag {
     /// The tag that a text is, if it is one.
-    #[tactic(auto, using(crate::proofs::TagLemmas::tag_ascii))]
     pub fn read(alloc: Global, text: &[u8]) -> Result<Option<Tag>, NoMemory>
         ensures value { IfOk result (λ tag. tag ≡ tag_of text.now) }
+        ensures meaning { IfOk result (λ found. (tag : List ℕ)
+            → SpellsTag text.now tag ↔ (found ≡ Some tag)) }
     {
-        if !is_tag(text) {
-            return Ok(None);
-        }
-        Ok(Some(Tag {
-            text: Text::from_ascii(alloc, text)?,
-        }))
+        tag_of(alloc, text)
     }
 
     pub fn as_str(&self) -> &str

@@ -1,6 +1,5 @@
-use Rattle.std.proofs.Common.{◌∙◌}
-use Rattle.moments.proofs.StampLemmas.{stamp_read}
+use Rattle.moments.proofs.SpelledLemmas.{moment_means}
 use Rattle.moments.proofs.moment.Moment.read.Goals as goal
 
-pub returns-clause-spelled : goal.returns-clause-spelled
-returns-clause-spelled c n h = c.moment_of_text.ensures.value ∙ stamp_read c.args.text.now n h
+pub returns-clause-meaning : goal.returns-clause-meaning
+returns-clause-meaning c = moment_means c.args.text.now c.moment_of_text.result c.moment_of_text.ensures.value

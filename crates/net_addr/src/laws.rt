@@ -1,0 +1,27 @@
+//! What the texts of addresses, prefixes and endpoints come to. None of these functions does
+//! anything: each states a law.
+ghost use Rattle.std.specs.Prelude.{◌≡◌, ◌<◌, ◌^◌};
+ghost use Rattle.net_addr.specs.AddrTexts.{addr_text};
+ghost use Rattle.net_addr.specs.Bits.{Address, Block, IsBlock, family_size};
+ghost use Rattle.net_addr.specs.declared.endpoint.Endpoint.{Endpoint};
+ghost use Rattle.net_addr.specs.EndpointTexts.{endpoint_text};
+ghost use Rattle.net_addr.specs.PrefixTexts.{prefix_text};
+
+/// No two addresses share a text.
+pub fn addr_texts_differ()
+    ensures differ { (a b : Address) → a.bits < family_size a.v6 → b.bits < family_size b.v6
+        → addr_text a ≡ addr_text b → a ≡ b }
+{}
+
+/// No two prefixes share a text.
+pub fn prefix_texts_differ()
+    ensures differ { (p q : Block) → IsBlock p → IsBlock q → prefix_text p ≡ prefix_text q → p ≡ q }
+{}
+
+/// No two endpoints share a text.
+pub fn endpoint_texts_differ()
+    ensures differ { (a b : Endpoint)
+        → a.addr.bits < family_size a.addr.v6 → b.addr.bits < family_size b.addr.v6
+        → a.port < 2 ^ 16 → b.port < 2 ^ 16
+        → endpoint_text a ≡ endpoint_text b → a ≡ b }
+{}
