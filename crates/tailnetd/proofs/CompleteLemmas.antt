@@ -36,9 +36,9 @@ not_early false e = cc
 pub answered_late : (close : Bool) (w : Wanted) (x : Exchange) → IsAccepted w → IsAnswered close w x.turns x.bytes x.ended → x.ended ≡ Some closed.Early → ⊥
 answered_late close (wants.Ask ask) x ok a e = not_early close (sym a.5 ∙ e)
 answered_late close (wants.Answer status body) x ok a e = elim (truth (status == 400)) [
-    | inl t ↦ ok (grind (arith, nat_tests, t))
-    | inr f ↦ not_early close (sym (rw f at a.2) ∙ e)
-  ]
+  | inl t ↦ ok (grind (arith, nat_tests, t))
+  | inr f ↦ not_early close (sym (rw f at a.2) ∙ e)
+]
 
 -- one exchange of an accepted request doesn't end its connection early
 pub late_one : (last : Bool) (x : Exchange) → IsAccepted (wanted_of x.request) → IsExchange last x → x.ended ≡ Some closed.Early → ⊥
@@ -53,9 +53,9 @@ or_early (Some c) b e = inl e
 pub late : (limit : ℕ) (xs : List Exchange) (more : List Request) → AllByRecursion (λ r. IsAccepted (wanted_of r)) (requests_of xs ++ more) → AreExchanges limit xs → end_of xs ≡ Some closed.Early → ⊥
 late limit [] more ok each e = cc
 late limit (x ∷ xs) more ok each e = elim (or_early x.ended (end_of xs) e) [
-    | inl h ↦ late_one (limit == 1) x ok.0 each.1 h
-    | inr h ↦ late (limit - 1) xs more ok.1 each.3 h
-  ]
+  | inl h ↦ late_one (limit == 1) x ok.0 each.1 h
+  | inr h ↦ late (limit - 1) xs more ok.1 each.3 h
+]
 
 -- what is left of an input that is told
 pub rest_of : (old new : Option (List ℕ)) (read input : List ℕ) → old ≡ and_then_left read new → old ≡ Some input → (left : List ℕ) × (new ≡ Some left) × (input ≡ read ++ left)

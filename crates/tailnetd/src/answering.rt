@@ -14,8 +14,8 @@ use crate::writing::{send, send_reply};
 use desk_front::{Wanted, wanted};
 use http_front::{Request, no_memory_answer, plain_answer};
 use io_edge::{Clock, Entropy, Sink};
-use std::alloc::Global;
 use moments::Moment;
+use std::alloc::Global;
 use tail_base::NoMemory;
 use tailnet_desk::{Ask, Turns, needs_words};
 

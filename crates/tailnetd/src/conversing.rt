@@ -8,9 +8,9 @@ ghost use Rattle.tailnetd.specs.Talk.{IsSeedTurn, Talked, point_of};
 use crate::closed::Closed;
 use crate::serving::serve;
 use io_edge::{Clock, Entropy, Sink, Source};
+use moments::Moment;
 use row_keeper::Keeper;
 use std::alloc::Global;
-use moments::Moment;
 use tail_base::Text;
 use tailnet_desk::{Ask, Desk};
 

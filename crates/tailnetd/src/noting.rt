@@ -43,9 +43,7 @@ fn closed_line(closed: Closed) -> &'static str
 fn settings_line(alloc: Global, rule: u8, key: &str) -> Result<Text, NoMemory>
     ensures value { IfOk result (λ line. line ≡ codes "tailnetd: settings S" ++ decimal rule ++ codes " " ++ key.now ++ codes "\n") }
 {
-    Ok(Text::from_string(
-        format!(in alloc; "tailnetd: settings S{rule} {key}\n")?,
-    ))
+    Ok(Text::from_string(format!(in alloc; "tailnetd: settings S{rule} {key}\n")?))
 }
 
 /// The line of a row that breaks a rule.
@@ -53,9 +51,7 @@ fn damaged_line(alloc: Global, kind: Kind, id: u32) -> Result<Text, NoMemory>
     ensures value { IfOk result (λ line. line ≡ codes "tailnetd: damaged " ++ kind_name kind ++ codes " " ++ decimal id ++ codes "\n") }
 {
     let kind = kind_name(kind);
-    Ok(Text::from_string(
-        format!(in alloc; "tailnetd: damaged {kind} {id}\n")?,
-    ))
+    Ok(Text::from_string(format!(in alloc; "tailnetd: damaged {kind} {id}\n")?))
 }
 
 /// Writes the line.

@@ -7,10 +7,10 @@ ghost use Rattle.tailnetd.specs.Serve.{told};
 use crate::conversing::talk;
 use crate::ended::Ended;
 use io_edge::{Clock, EdgeFault, Entropy, Sink, Source};
+use moments::Moment;
 use net_rows::Settings;
 use row_keeper::Opener;
 use std::alloc::Global;
-use moments::Moment;
 use tail_base::Text;
 use tailnet_desk::{Desk, OpenFault};
 

@@ -1,4 +1,7 @@
 //! Requests through `pipe`, byte for byte, over memory objects.
+mod edges;
+mod faults;
+
 use crate::piping::pipe_command;
 use crate::status::Status;
 use io_edge::{MemoryClock, MemoryEntropy, MemoryFiles, MemorySink, MemorySource, NamedBytes};
@@ -8,25 +11,55 @@ use std::alloc::Global;
 use std::test::Fail;
 use tail_base::{Bytes, Items, NoMemory, Text};
 
-const SETTINGS: &[u8] =
+pub(crate) const SETTINGS: &[u8] =
     b"base_domain = \"tail.example\"\nserver_url = \"http://tail.example\"\ntoken = \"secret\"\n";
+
+/// The first planned failure of each object, counted from 1; 0 is none.
+#[derive(Clone, Copy, Drop)]
+pub(crate) struct Plan {
+    pub read: u32,
+    pub write: u32,
+    pub error: u32,
+    pub file: u32,
+    pub open: u32,
+    pub keep: u32,
+}
+
+/// Nothing fails.
+pub(crate) const CALM: Plan = Plan {
+    read: 0,
+    write: 0,
+    error: 0,
+    file: 0,
+    open: 0,
+    keep: 0,
+};
 
 /// What a run left.
 #[derive(Drop)]
-struct Ran {
-    status: Status,
-    output: MemorySink,
-    errors: MemorySink,
-    machines: usize,
+pub(crate) struct Ran {
+    pub status: Status,
+    pub output: MemorySink,
+    pub errors: MemorySink,
+    pub machines: usize,
 }
 
-fn files_of(alloc: Global) -> Result<MemoryFiles, NoMemory> {
+/// The list of that call, or of none.
+fn failing(alloc: Global, call: u32) -> Result<Items<u32>, NoMemory> {
+    let mut calls = Items::new(alloc);
+    if call > 0 {
+        calls.push(call)?;
+    }
+    Ok(calls)
+}
+
+fn files_of(alloc: Global, text: &[u8], call: u32) -> Result<MemoryFiles, NoMemory> {
     let mut files = Items::new(alloc);
     files.push(NamedBytes {
         name: Text::from_str(alloc, "tailnet.toml")?,
-        bytes: Bytes::from_slice(alloc, SETTINGS)?,
+        bytes: Bytes::from_slice(alloc, text)?,
     })?;
-    Ok(MemoryFiles::new(files, Items::new(alloc)))
+    Ok(MemoryFiles::new(files, failing(alloc, call)?))
 }
 
 fn clock_of(alloc: Global) -> Result<MemoryClock, NoMemory> {
@@ -41,21 +74,26 @@ fn entropy_of(alloc: Global) -> Result<MemoryEntropy, NoMemory> {
     Ok(MemoryEntropy::new(answers, Items::new(alloc)))
 }
 
-fn opener_of(alloc: Global) -> MemoryOpener {
-    MemoryOpener::new(
+fn opener_of(alloc: Global, plan: &Plan) -> Result<MemoryOpener, NoMemory> {
+    Ok(MemoryOpener::new(
         alloc,
         Tables::empty(alloc),
-        Items::new(alloc),
-        Items::new(alloc),
-    )
+        failing(alloc, plan.open)?,
+        failing(alloc, plan.keep)?,
+    ))
 }
 
-/// Runs `pipe tailnet.toml --seed k1` over the bytes.
-fn piped(alloc: Global, input: &[u8]) -> Result<Ran, NoMemory> {
-    let mut input = MemorySource::new(Bytes::from_slice(alloc, input)?, Items::new(alloc));
-    let mut output = MemorySink::new(alloc, Items::new(alloc));
-    let mut errors = MemorySink::new(alloc, Items::new(alloc));
-    let mut opener = opener_of(alloc);
+/// Runs `pipe tailnet.toml --seed k1` over the bytes, with this text in the file.
+pub(crate) fn piped(
+    alloc: Global,
+    settings: &[u8],
+    input: &[u8],
+    plan: &Plan,
+) -> Result<Ran, NoMemory> {
+    let mut input = MemorySource::new(Bytes::from_slice(alloc, input)?, failing(alloc, plan.read)?);
+    let mut output = MemorySink::new(alloc, failing(alloc, plan.write)?);
+    let mut errors = MemorySink::new(alloc, failing(alloc, plan.error)?);
+    let mut opener = opener_of(alloc, plan)?;
     let status = pipe_command(
         alloc,
         "tailnet.toml",
@@ -63,7 +101,7 @@ fn piped(alloc: Global, input: &[u8]) -> Result<Ran, NoMemory> {
         &mut input,
         &mut output,
         &mut errors,
-        &mut files_of(alloc)?,
+        &mut files_of(alloc, settings, plan.file)?,
         &mut opener,
         &mut clock_of(alloc)?,
         &mut entropy_of(alloc)?,
@@ -77,10 +115,10 @@ fn piped(alloc: Global, input: &[u8]) -> Result<Ran, NoMemory> {
     })
 }
 
-const REGISTERED: &[u8] =
+pub(crate) const REGISTERED: &[u8] =
     b"HTTP/1.1 200 OK\r\nContent-Type: application/json\r\nContent-Length: 147\r\n\r\n{\"AuthURL\":\"\",\"Error\":\"\",\"Login\":{\"ID\":1,\"LoginName\":\"seed@\"},\"MachineAuthorized\":true,\"NodeKeyExpired\":false,\"User\":{\"DisplayName\":\"seed\",\"ID\":1}}";
 
-const FIRST: &[u8] =
+pub(crate) const FIRST: &[u8] =
     b"POST /machine/register HTTP/1.1\r\nHost: tail\r\nTs-Machine-Key: mkey:1111111111111111111111111111111111111111111111111111111111111111\r\nContent-Length: 110\r\n\r\n{\"Auth\":{\"AuthKey\":\"k1\"},\"NodeKey\":\"nodekey:aaaaaaaaaaaaaaaaaaaaaaaaaaaaaaaaaaaaaaaaaaaaaaaaaaaaaaaaaaaaaaaa\"}";
 
 const UNKNOWN_KEY: &[u8] =
@@ -89,10 +127,10 @@ const UNKNOWN_KEY: &[u8] =
 const KEY_UNKNOWN: &[u8] =
     b"HTTP/1.1 401 Unauthorized\r\nContent-Type: application/json\r\nContent-Length: 22\r\n\r\n{\"error\":\"KeyUnknown\"}";
 
-const REGISTERED_TWICE: &[u8] =
+pub(crate) const REGISTERED_TWICE: &[u8] =
     b"HTTP/1.1 200 OK\r\nContent-Type: application/json\r\nContent-Length: 147\r\n\r\n{\"AuthURL\":\"\",\"Error\":\"\",\"Login\":{\"ID\":1,\"LoginName\":\"seed@\"},\"MachineAuthorized\":true,\"NodeKeyExpired\":false,\"User\":{\"DisplayName\":\"seed\",\"ID\":1}}HTTP/1.1 200 OK\r\nContent-Type: application/json\r\nContent-Length: 147\r\n\r\n{\"AuthURL\":\"\",\"Error\":\"\",\"Login\":{\"ID\":1,\"LoginName\":\"seed@\"},\"MachineAuthorized\":true,\"NodeKeyExpired\":false,\"User\":{\"DisplayName\":\"seed\",\"ID\":1}}";
 
-const TWICE: &[u8] =
+pub(crate) const TWICE: &[u8] =
     b"POST /machine/register HTTP/1.1\r\nHost: tail\r\nTs-Machine-Key: mkey:1111111111111111111111111111111111111111111111111111111111111111\r\nContent-Length: 110\r\n\r\n{\"Auth\":{\"AuthKey\":\"k1\"},\"NodeKey\":\"nodekey:aaaaaaaaaaaaaaaaaaaaaaaaaaaaaaaaaaaaaaaaaaaaaaaaaaaaaaaaaaaaaaaa\"}POST /machine/register HTTP/1.1\r\nHost: tail\r\nTs-Machine-Key: mkey:1111111111111111111111111111111111111111111111111111111111111111\r\nContent-Length: 110\r\n\r\n{\"Auth\":{\"AuthKey\":\"k1\"},\"NodeKey\":\"nodekey:aaaaaaaaaaaaaaaaaaaaaaaaaaaaaaaaaaaaaaaaaaaaaaaaaaaaaaaaaaaaaaaa\"}";
 
 const THEN_TAKEN: &[u8] =
@@ -180,7 +218,7 @@ fn rows_of_pipe(rt: HostRuntime) -> Result<(), Fail> {
         },
     ];
     for row in rows.iter() {
-        match piped(rt.alloc(), row.input) {
+        match piped(rt.alloc(), SETTINGS, row.input, &CALM) {
             Ok(ran) => assert!(rt; meets(&ran, row)),
             Err(NoMemory) => assert!(rt; false),
         }
