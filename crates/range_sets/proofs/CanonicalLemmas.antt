@@ -1,15 +1,15 @@
 -- The canonical list has the greatest prefixes of a set, all of them, in order.
-use Rattle.std.proofs.Common.{◌≡◌, ℕ, zero, suc, ◌+◌, ◌-◌, ◌*◌, ◌%◌, ◌^◌, ◌<◌, ◌≤◌, Bool, true, false, cond, ◌||◌, ◌↔◌, ◌⊎◌, List, [], ◌∷◌, ◌++◌, arith, refl, ap, sym, ◌∙◌, subst, inl, inr}
+use Rattle.std.proofs.Common.{◌≡◌, ℕ, zero, suc, ◌+◌, ◌-◌, ◌*◌, ◌%◌, ◌^◌, ◌<◌, ◌≤◌, Bool, true, false, cond, List, [], ◌∷◌, ◌++◌, arith, refl, ap, sym, ◌∙◌, subst, inl, inr}
 use Rattle.std.specs.List.{AllByRecursion, Contains}
-use Rattle.std.proofs.lemmas.Bool.{and_from, both_ways, cases_Bool, cases_eq, cases_lt, false≢true, le-leb, or_cases, or_left, or_right}
-use Rattle.std.proofs.lemmas.List.Elements.{All-contains, All-from_recursion, Contains-append_cases, Contains-append_left, Contains-append_right}
+use Rattle.std.proofs.lemmas.Bool.{and_from, both_ways, cases_eq, cases_lt, false≢true, le-leb, or_cases, or_left, or_right}
+use Rattle.std.proofs.lemmas.List.Elements.{All-contains, All-from_recursion, Contains-append_left, Contains-append_right}
 use Rattle.std.proofs.lemmas.List.Folds.{list_any-append}
 use Rattle.std.proofs.Math.Nat.{two-pow-succ}
 use Rattle.std.proofs.lemmas.Nat.{mod-mul-add, pow_pos}
 use Rattle.net_addr.specs.Bits.{Address, Block, IsBlock, family_bits, family_size, size_of}
 use Rattle.net_addr.specs.Blocks.{holds, last_of}
 use Rattle.net_addr.proofs.BlockLemmas.{family_is, holds_parts, prefix_fits}
-use Rattle.range_sets.specs.Canonical.{IsCanonical, IsGreatest, all_in, block_at, canonical, comes_before, greatest_in, parent}
+use Rattle.range_sets.specs.Canonical.{IsCanonical, IsGreatest, all_in, block_at, canonical, greatest_in, parent}
 use Rattle.range_sets.specs.Sets.{some_holds}
 use Rattle.range_sets.proofs.GreatestLemmas.{all_at, all_false, all_from, greatest_same, some_false}
 use Rattle.range_sets.proofs.MultipleLemmas.{IsMultiple, floor_above, floor_is, mod_of_multiple, multiple_add, multiple_from_mod, multiple_lower, multiple_next}
@@ -28,7 +28,7 @@ pub record Listed (v6 : Bool) (h : ℕ → Bool) (n base : ℕ) (p : Block) : Ty
   pub inside : all_in h bits at ≡ true
   pub greatest : bits < n → all_in h (suc bits) (at - at % 2 ^ suc bits) ≡ false
 
-power_multiple : (m n : ℕ) → m ≤ n → IsMultiple (2 ^ m) (2 ^ n)
+pub power_multiple : (m n : ℕ) → m ≤ n → IsMultiple (2 ^ m) (2 ^ n)
 power_multiple m n le = multiple_lower m n (2 ^ n) le (record { times = 1; is = omega arith })
 
 -- ---- what is listed
@@ -198,16 +198,16 @@ found v6 h (suc n) base p m l =
 abbrev pub in_family : (Address → Bool) → Bool → ℕ → Bool
 in_family held v6 x = held (record { v6 = v6; bits = x })
 
-holds_from : (p : Block) (x : ℕ) → p.base.bits ≤ x → x < p.base.bits + size_of p → holds p (record { v6 = p.base.v6; bits = x }) ≡ true
+pub holds_from : (p : Block) (x : ℕ) → p.base.bits ≤ x → x < p.base.bits + size_of p → holds p (record { v6 = p.base.v6; bits = x }) ≡ true
 holds_from p x low high = and_from _ _ (and_from _ _ (same_bool p.base.v6) (le-leb _ _ low)) (le-leb x (last_of p) (omega arith))
 
 double : (n : ℕ) → 2 * 2 ^ n ≡ 2 ^ suc n
 double n = let two : 2 ^ suc n ≡ 2 ^ n + 2 ^ n = two-pow-succ n in omega arith
 
-parent_size : (p : Block) → 0 < p.len → p.len ≤ family_bits p.base.v6 → size_of (parent p) ≡ 2 ^ suc (family_bits p.base.v6 - p.len)
+pub parent_size : (p : Block) → 0 < p.len → p.len ≤ family_bits p.base.v6 → size_of (parent p) ≡ 2 ^ suc (family_bits p.base.v6 - p.len)
 parent_size p pos le = let one : family_bits p.base.v6 - (p.len - 1) ≡ suc (family_bits p.base.v6 - p.len) = omega arith in ap (λ k. 2 ^ k) one
 
-parent_base : (p : Block) → (parent p).base.bits ≡ p.base.bits - p.base.bits % 2 ^ suc (family_bits p.base.v6 - p.len)
+pub parent_base : (p : Block) → (parent p).base.bits ≡ p.base.bits - p.base.bits % 2 ^ suc (family_bits p.base.v6 - p.len)
 parent_base p = ap (λ k. p.base.bits - p.base.bits % k) (double (family_bits p.base.v6 - p.len))
 
 greatest_is : (held : Address → Bool) (p : Block) → IsBlock p → all_in (in_family held p.base.v6) (family_bits p.base.v6 - p.len) p.base.bits ≡ true →

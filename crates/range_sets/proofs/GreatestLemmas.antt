@@ -1,9 +1,8 @@
 -- Numbers that all pass, and the greatest prefixes of numbers that do.
-use Rattle.std.proofs.Common.{◌≡◌, ℕ, zero, suc, ◌+◌, ◌-◌, ◌^◌, ◌<◌, ◌≤◌, Bool, true, false, cond, ◌&&◌, List, [], ◌∷◌, ◌++◌, arith, refl, ap, sym, ◌∙◌, inl, inr}
+use Rattle.std.proofs.Common.{◌≡◌, ℕ, zero, suc, ◌+◌, ◌-◌, ◌^◌, ◌<◌, ◌≤◌, Bool, true, false, [], ◌∷◌, ◌++◌, arith, refl, inl, inr}
 use Rattle.std.proofs.lemmas.Bool.{and_cases, and_from, and_parts, cases_lt, false_from_ne_true, both_ways}
 use Rattle.std.proofs.Math.Nat.{two-pow-succ}
 use Rattle.std.proofs.lemmas.Nat.{pow_pos}
-use Rattle.net_addr.specs.Bits.{Block}
 use Rattle.range_sets.specs.Canonical.{all_in, block_at, greatest_in}
 
 -- the test passes for each of the numbers from base to before high

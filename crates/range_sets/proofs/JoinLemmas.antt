@@ -1,9 +1,9 @@
 -- Two lists of spans, one span more.
-use Rattle.std.proofs.Common.{◌≡◌, ℕ, ◌+◌, ◌<◌, ◌≤◌, Bool, true, false, cond, leb, max, ◌||◌, List, [], ◌∷◌, ◌++◌, length, arith, refl, ap, sym, ◌∙◌, subst, inl, inr, ◌⊎◌}
+use Rattle.std.proofs.Common.{◌≡◌, ℕ, ◌+◌, ◌<◌, ◌≤◌, Bool, true, false, ◌||◌, List, [], ◌∷◌, ◌++◌, length, arith, refl, ap, sym, ◌∙◌, subst, inl, inr}
 use Rattle.std.proofs.lemmas.Bool.{cases_Bool}
 use Rattle.std.proofs.lemmas.Bool.Decides.{nat_tests}
 use Rattle.range_sets.specs.declared.span.Span.{Span}
-use Rattle.range_sets.specs.Joins.{BeginsFrom, TakesEarliest, TakesFront, grown, joined, put_away, touches}
+use Rattle.range_sets.specs.Joins.{BeginsFrom, TakesEarliest, grown, joined, put_away, touches}
 use Rattle.range_sets.specs.Spans.{AreApart, AreBelow, AreRising, in_span, spans_hold}
 use Rattle.range_sets.proofs.SpanLemmas.{AreApart-push, or_assoc, or_false, spans_hold-push}
 

@@ -4,6 +4,7 @@ pub mod GreatestLemmas
 pub mod JoinLemmas
 pub mod MultipleLemmas
 pub mod OrderLemmas
+pub mod ParentLemmas
 pub mod PrefixSpanLemmas
 pub mod SetLemmas
 pub mod SpanLemmas

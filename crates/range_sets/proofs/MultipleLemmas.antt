@@ -1,7 +1,7 @@
 -- Multiples of powers of two.
-use Rattle.std.proofs.Common.{◌≡◌, ℕ, zero, suc, ◌+◌, ◌-◌, ◌*◌, ◌/◌, ◌%◌, ◌^◌, ◌<◌, ◌≤◌, arith, refl, ap, sym, ◌∙◌, inl, inr}
+use Rattle.std.proofs.Common.{◌≡◌, ℕ, suc, ◌+◌, ◌-◌, ◌*◌, ◌/◌, ◌%◌, ◌^◌, ◌<◌, ◌≤◌, arith, ap, sym, ◌∙◌, inl, inr}
 use Rattle.std.proofs.lemmas.Bool.{cases_lt}
-use Rattle.std.proofs.lemmas.Nat.{le-div, mod-mul-add, mul-le, pow-add, pow_pos}
+use Rattle.std.proofs.lemmas.Nat.{le-div, mod-mul-add, mul-le, pow-add}
 
 -- x is a whole number of times d
 pub record IsMultiple (d x : ℕ) : Type 0 where

@@ -1,11 +1,11 @@
 -- Lists of prefixes in order.
-use Rattle.std.proofs.Common.{◌≡◌, ℕ, ◌+◌, ◌<◌, Bool, true, false, cond, List, [], ◌∷◌, ◌++◌, IsTrue, arith, refl, ap, sym, ◌∙◌}
+use Rattle.std.proofs.Common.{◌≡◌, ℕ, ◌<◌, Bool, true, false, List, [], ◌∷◌, ◌++◌, IsTrue, arith, refl}
 use Rattle.std.specs.Bool.{beq}
 use Rattle.std.specs.List.{AllByRecursion, AllPairs}
 use Rattle.std.proofs.lemmas.Bool.{lt-ltb}
 use Rattle.std.proofs.lemmas.List.Elements.{All-from_recursion}
 use Rattle.std.proofs.lemmas.List.Kept.{AllPairs-cons}
-use Rattle.net_addr.specs.Bits.{Address, Block}
+use Rattle.net_addr.specs.Bits.{Block}
 use Rattle.range_sets.specs.Canonical.{block_at, comes_before}
 
 pub all_map : (P Q : Block → Type 0) → ((p : Block) → P p → Q p) → (ps : List Block) → AllByRecursion P ps → AllByRecursion Q ps

@@ -1,7 +1,6 @@
 -- Sets of addresses.
-use Rattle.std.proofs.Common.{◌≡◌, ℕ, ◌+◌, ◌<◌, ◌≤◌, ◌^◌, Bool, true, false, List, [], ◌∷◌, length, arith, refl, sym}
+use Rattle.std.proofs.Common.{◌≡◌, ℕ, ◌+◌, ◌<◌, ◌^◌, Bool, true, false, List, [], ◌∷◌, length, arith, refl}
 use Rattle.std.proofs.lemmas.Bool.{both_ways}
-use Rattle.net_addr.specs.Bits.{Address, family_size}
 use Rattle.range_sets.specs.declared.span.Span.{Span}
 use Rattle.range_sets.specs.Sets.{AreRanges, IsEmpty, Ranges, has}
 use Rattle.range_sets.specs.Spans.{AreApart, spans_hold}

@@ -1,12 +1,11 @@
 -- The greatest prefixes of spans.
-use Rattle.std.proofs.Common.{◌≡◌, ℕ, zero, suc, ◌+◌, ◌-◌, ◌%◌, ◌^◌, ◌<◌, ◌≤◌, Bool, true, false, cond, leb, ltb, ◌||◌, List, [], ◌∷◌, ◌++◌, length, arith, refl, subst, ap, sym, ◌∙◌, inl, inr}
+use Rattle.std.proofs.Common.{◌≡◌, ℕ, zero, suc, ◌+◌, ◌-◌, ◌%◌, ◌^◌, ◌<◌, ◌≤◌, Bool, true, false, leb, ltb, List, [], ◌∷◌, ◌++◌, length, arith, refl, subst, ap, sym, ◌∙◌, inl, inr}
 use Rattle.std.proofs.lemmas.Bool.{and_from, and_parts, both_ways, cases_Bool, cases_lt, le-leb, leb-true, ltb-false, ltb-true}
 use Rattle.std.proofs.Math.Nat.{two-pow-succ}
 use Rattle.std.proofs.lemmas.Nat.{pow_pos}
-use Rattle.net_addr.specs.Bits.{Block}
 use Rattle.range_sets.specs.declared.span.Span.{Span}
 use Rattle.range_sets.specs.Canonical.{block_at, greatest_in}
-use Rattle.range_sets.specs.Spans.{AreApart, in_span, spans_hold}
+use Rattle.range_sets.specs.Spans.{AreApart, spans_hold}
 use Rattle.range_sets.specs.Walks.{EndsFrom, covers, ending_from}
 use Rattle.range_sets.proofs.GreatestLemmas.{greatest_none, greatest_same, greatest_split, greatest_whole}
 use Rattle.range_sets.proofs.MultipleLemmas.{mod_of_multiple, multiple_add, multiple_from_mod, multiple_lower}

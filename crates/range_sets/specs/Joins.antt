@@ -1,5 +1,5 @@
 -- Spans that are joined where they touch.
-use Rattle.std.specs.Prelude.{◌≡◌, ℕ, ◌+◌, ◌<◌, ◌≤◌, ◌⊎◌, Bool, List, [], ◌∷◌, ◌++◌, nat_le, nat_lt, max, if◌then◌else◌}
+use Rattle.std.specs.Prelude.{◌≡◌, ℕ, ◌+◌, ◌≤◌, ◌⊎◌, Bool, List, [], ◌∷◌, ◌++◌, nat_le, max, if◌then◌else◌}
 use Rattle.range_sets.specs.declared.span.Span.{Span}
 
 -- no number lies between the first span and the second, which begins no earlier

@@ -1,4 +1,3 @@
-use Rattle.std.proofs.Common.{◌≡◌, []}
 use Rattle.range_sets.proofs.JoinLemmas.{kept_step, last_apart}
 use Rattle.range_sets.proofs.joins.united.Goals as goal
 

@@ -1,4 +1,4 @@
-use Rattle.std.proofs.Common.{rules, arith}
+use Rattle.std.proofs.Common.{rules}
 use Rattle.range_sets.proofs.PrefixSpanLemmas.{last_fits}
 use Rattle.range_sets.proofs.prefix_spans.span_of.Goals as goal
 

@@ -1,4 +1,4 @@
-use Rattle.std.proofs.Common.{◌≡◌, ◌↔◌, [], IsTrue, length, rules, subst, arith}
+use Rattle.std.proofs.Common.{◌≡◌, ◌↔◌, IsTrue, length, subst, arith}
 use Rattle.std.proofs.lemmas.Grind.{common_steps}
 use Rattle.range_sets.specs.Sets.{IsEmpty, Ranges}
 use Rattle.range_sets.proofs.SetLemmas.{empty_from_lengths, v4_none, v6_none}
