@@ -1,0 +1,11 @@
+pub mod CanonicalLemmas
+pub mod GapLemmas
+pub mod GreatestLemmas
+pub mod JoinLemmas
+pub mod MultipleLemmas
+pub mod OrderLemmas
+pub mod ParentLemmas
+pub mod PrefixSpanLemmas
+pub mod SetLemmas
+pub mod SpanLemmas
+pub mod WalkLemmas

@@ -1,0 +1,6 @@
+pub mod Canonical
+pub mod Gaps
+pub mod Joins
+pub mod Sets
+pub mod Spans
+pub mod Walks

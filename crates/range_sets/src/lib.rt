@@ -1,0 +1,16 @@
+//! Sets of addresses, and the prefixes that they come to.
+#![tactic(auto)]
+
+mod gaps;
+mod joins;
+mod laws;
+mod numbers;
+mod prefix_spans;
+mod range_set;
+mod span;
+#[cfg(test)]
+mod tests;
+mod walk;
+
+pub use laws::canonical_law;
+pub use range_set::RangeSet;
