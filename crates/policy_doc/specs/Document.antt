@@ -1,5 +1,5 @@
 -- The policy that a text states, or its first fault in the order of reading.
-use Rattle.std.specs.Prelude.{ℕ, ◌++◌, List, [], ◌∷◌, length, nat_le, codes, Option, Some, None, Result, Ok, if◌then◌else◌}
+use Rattle.std.specs.Prelude.{◌≡◌, ℕ, ◌++◌, List, [], ◌∷◌, length, nat_le, codes, Option, Some, None, Result, Ok, Err, if◌then◌else◌}
 use Rattle.std.specs.Fmt.{decimal}
 use Rattle.std.specs.Str.{is_utf8}
 use Rattle.serde_json.specs.Data.{Data, Members}
@@ -8,8 +8,12 @@ use Rattle.serde_json.specs.Read.{read}
 use Rattle.hujson_read.specs.declared.fault.HujsonFault.{HujsonFault}
 use Rattle.hujson_read.specs.Standard.{fault_of, offset_of, standard_of}
 use Rattle.policy_rows.specs.declared.code.PolicyCode.TheVariants as code
+use Rattle.policy_rows.specs.declared.fault.PolicyFault.{PolicyFault}
+use Rattle.policy_rows.specs.declared.fault.PolicyFault.TheVariants as fault
 use Rattle.policy_rows.specs.declared.names.Names.{Names}
 use Rattle.policy_rows.specs.declared.policy.Policy.{Policy}
+use Rattle.policy_rows.specs.declared.rule.Rule.{Rule}
+use Rattle.policy_rows.specs.declared.test.Test.{Test}
 use Rattle.policy_rows.specs.Faults.{Fault, ◌>>=◌, check, due, refuse, under}
 use Rattle.policy_rows.specs.Names.{no_names}
 use Rattle.policy_doc.specs.declared.approvers.Approvers.{Approvers}
@@ -62,38 +66,68 @@ top_keys =
 abbrev pub unsupported_keys : List (List ℕ)
 unsupported_keys = codes "grants" ∷ codes "ipsets" ∷ codes "postures" ∷ codes "defaultSrcPosture" ∷ []
 
+-- each key of the top object is known
+abbrev pub top_keys_of : Members → Result (Unit {0}) Fault
+top_keys_of ms = keys_of [] top_keys unsupported_keys [] ms
+
+-- the rules; none where there are no `acls`
+abbrev pub rules_of : Names → Option Data → Result (Option (List Rule)) Fault
+rules_of names d = optional (list_of rule_limit (rule_at names) (codes "acls")) d
+
+-- the tests
+abbrev pub tests_of : Names → Option Data → Result (List Test) Fault
+tests_of names d = or_empty (list_of entry_limit (test_at names) (codes "tests")) d
+
+-- the policy of these parts
+abbrev pub policy_from : Names → Option (List Rule) → Approvers → List Test → Policy
+policy_from names rules approvers tests = record {
+  groups = names.groups;
+  hosts = names.hosts;
+  tags = names.tags;
+  rules = rules;
+  route_approvers = approvers.routes;
+  exit_approvers = approvers.exit;
+  tests = tests;
+}
+
 -- the policy of a JSON value
 unfoldable pub policy_of : Data → Result Policy Fault
 policy_of d = do
   ms ← due code.NotObject (codes "top") (as_object d)
-  _ ← keys_of [] top_keys unsupported_keys [] ms
+  _ ← top_keys_of ms
   names ← names_of ms
-  rules ← optional (list_of rule_limit (rule_at names) (codes "acls")) (section (codes "acls") ms)
+  rules ← rules_of names (section (codes "acls") ms)
   approvers ← approvers_or_none names (section (codes "autoApprovers") ms)
-  tests ← or_empty (list_of entry_limit (test_at names) (codes "tests")) (section (codes "tests") ms)
-  Ok (record {
-    groups = names.groups;
-    hosts = names.hosts;
-    tags = names.tags;
-    rules = rules;
-    route_approvers = approvers.routes;
-    exit_approvers = approvers.exit;
-    tests = tests;
-  })
+  tests ← tests_of names (section (codes "tests") ms)
+  Ok (policy_from names rules approvers tests)
 
--- a text without a fault of HuJSON, or that fault's place
-abbrev pub sound_text : Option HujsonFault → Result (Unit {0}) Fault
-sound_text None = Ok tt
-sound_text (Some fault) = refuse code.Syntax (codes "offset " ++ decimal (offset_of fault))
+-- what a call returned, seen by view, is what reading gives, but want of memory, which is free
+abbrev pub GivesBy : {A B : Type 0} → (A → B) → Result A PolicyFault → Result B Fault → Type 0
+GivesBy view (Ok x) read = read ≡ Ok (view x)
+GivesBy view (Err fault.NoMemory) read = Unit {0}
+GivesBy view (Err (fault.Refused code place)) read = read ≡ refuse code place
+
+-- a fault of syntax at that offset
+abbrev pub syntax_at : {A : Type 0} → ℕ → Result A Fault
+syntax_at at = refuse code.Syntax (codes "offset " ++ decimal at)
+
+-- the standard text of a text, or the place of its first fault
+abbrev pub standard_or : List ℕ → Option HujsonFault → Result (List ℕ) Fault
+standard_or standard None = Ok standard
+standard_or standard (Some first) = syntax_at (offset_of first)
+
+-- the JSON text that a HuJSON text stands for
+abbrev pub standard_at : List ℕ → Result (List ℕ) Fault
+standard_at text = standard_or (standard_of text) (fault_of text)
 
 -- the value of a JSON text in UTF-8 (RFC 8259)
-abbrev pub json_value : List ℕ → Option Data
-json_value text = if is_utf8 text then read text else None
+abbrev pub json_at : List ℕ → Result Data Fault
+json_at text = due code.Syntax (codes "json") (if is_utf8 text then read text else None)
 
 -- the policy that a text states, or its first fault
 unfoldable pub policy_of_text : List ℕ → Result Policy Fault
 policy_of_text text = do
   _ ← check (nat_le (length text) text_limit) code.TooMany (codes "text")
-  _ ← sound_text (fault_of text)
-  d ← due code.Syntax (codes "json") (json_value (standard_of text))
+  standard ← standard_at text
+  d ← json_at standard
   policy_of d

@@ -1,5 +1,5 @@
 -- Keys that are compared without regard to ASCII case.
-use Rattle.std.specs.Prelude.{ℕ, ◌&&◌, Bool, not, List, ◌∷◌, codes, Option, Some, None, Result, Ok, if◌then◌else◌}
+use Rattle.std.specs.Prelude.{ℕ, ◌&&◌, Bool, not, List, [], ◌∷◌, ◌++◌, codes, Option, Some, None, Result, Ok, if◌then◌else◌}
 use Rattle.std.specs.List.{list_any}
 use Rattle.std.specs.Str.{str_eq_ignore_ascii_case}
 use Rattle.serde_json.specs.Data.{Data, Members, no_members, member}
@@ -23,7 +23,7 @@ keys_of place known unsupported seen no_members = Ok tt
 keys_of place known unsupported seen (member key d ms) = do
   _ ← check (not (is_named key unsupported)) code.Unsupported (under place key)
   _ ← check (is_named key known && not (is_named (newer key) seen)) code.UnknownKey (under place key)
-  keys_of place known unsupported (newer key ∷ seen) ms
+  keys_of place known unsupported (seen ++ newer key ∷ []) ms
 
 -- the value of a key
 abbrev pub section : List ℕ → Members → Option Data

@@ -1,6 +1,6 @@
 -- The entries of `acls` and `tests`.
 use Rattle.std.specs.Prelude.{ℕ, Bool, List, [], ◌∷◌, codes, Option, Some, None, option_and_then, Result, Ok}
-use Rattle.std.specs.Option.{option_or}
+use Rattle.std.specs.Option.{option_map, option_or}
 use Rattle.std.specs.Str.{bytes_eq}
 use Rattle.serde_json.specs.Data.{Data}
 use Rattle.serde_json.specs.Find.{as_number, as_str, as_u64}
@@ -32,7 +32,7 @@ proto_of d = option_or (option_and_then proto_of_text (as_str d)) (in_range 1 25
 -- the protocol that is given, if one is
 unfoldable pub proto_at : List ℕ → Option Data → Result (Option ℕ) Fault
 proto_at place None = Ok None
-proto_at place (Some d) = due code.BadProto place (proto_of d) >>= λ proto. Ok (Some proto)
+proto_at place (Some d) = due code.BadProto place (option_map Some (proto_of d))
 
 -- a source of a rule
 unfoldable pub source_text : Names → List ℕ → Data → Result Selector Fault
@@ -46,6 +46,11 @@ dest_text only_all names place d = do
   text ← text_at place d
   dest_at only_all names place text
 
+-- a list that has to be there
+abbrev pub list_due : {A : Type 0} → (List ℕ → Data → Result A Fault) → List ℕ → Option Data → Result (List A) Fault
+list_due read place None = refuse code.WrongShape place
+list_due read place (Some d) = list_of list_limit read place d
+
 -- an entry of `acls`
 unfoldable pub rule_at : Names → List ℕ → Data → Result Rule Fault
 rule_at names place d = do
@@ -53,10 +58,8 @@ rule_at names place d = do
   _ ← keys_of place (codes "action" ∷ codes "proto" ∷ codes "src" ∷ codes "users" ∷ codes "dst" ∷ codes "ports" ∷ []) (codes "srcPosture" ∷ []) [] ms
   _ ← action_at (under place (codes "action")) (section (codes "action") ms)
   proto ← proto_at (under place (codes "proto")) (section (codes "proto") ms)
-  src ← due code.WrongShape (under place (codes "src")) (section (codes "src") ms)
-  sources ← list_of list_limit (source_text names) (under place (codes "src")) src
-  dst ← due code.WrongShape (under place (codes "dst")) (section (codes "dst") ms)
-  dests ← list_of list_limit (dest_text (needs_star proto) names) (under place (codes "dst")) dst
+  sources ← list_due (source_text names) (under place (codes "src")) (section (codes "src") ms)
+  dests ← list_due (dest_text (needs_star proto) names) (under place (codes "dst")) (section (codes "dst") ms)
   Ok (record { protos = proto; sources = sources; dests = dests })
 
 -- the subject of a test
