@@ -50,12 +50,7 @@ impl ReadElement for DestText {
     ghost reads = { dest_text false };
 
     #[tactic(auto, unfolding(crate::specs::Rules::dest_text))]
-    fn read(
-        alloc: Global,
-        names: &Names,
-        place: &str,
-        value: &Value,
-    ) -> Result<Dest, PolicyFault> {
+    fn read(alloc: Global, names: &Names, place: &str, value: &Value) -> Result<Dest, PolicyFault> {
         let Some(text) = value.as_str() else {
             return refused(alloc, PolicyCode::WrongShape, place);
         };
@@ -72,12 +67,7 @@ impl ReadElement for StarDestText {
     ghost reads = { dest_text true };
 
     #[tactic(auto, unfolding(crate::specs::Rules::dest_text))]
-    fn read(
-        alloc: Global,
-        names: &Names,
-        place: &str,
-        value: &Value,
-    ) -> Result<Dest, PolicyFault> {
+    fn read(alloc: Global, names: &Names, place: &str, value: &Value) -> Result<Dest, PolicyFault> {
         let Some(text) = value.as_str() else {
             return refused(alloc, PolicyCode::WrongShape, place);
         };
@@ -139,12 +129,7 @@ impl ReadElement for RuleObject {
     ghost reads = { rule_at };
 
     #[tactic(auto, unfolding(crate::specs::Rules::rule_at))]
-    fn read(
-        alloc: Global,
-        names: &Names,
-        place: &str,
-        value: &Value,
-    ) -> Result<Rule, PolicyFault> {
+    fn read(alloc: Global, names: &Names, place: &str, value: &Value) -> Result<Rule, PolicyFault> {
         let Some(members) = value.as_object() else {
             return refused(alloc, PolicyCode::WrongShape, place);
         };
@@ -155,8 +140,12 @@ impl ReadElement for RuleObject {
         let within = under(alloc, place, "proto")?;
         let protos = read_proto(alloc, within.as_str(), section("proto", members))?;
         let within = under(alloc, place, "src")?;
-        let sources =
-            list_due::<SourceText>(alloc, names, within.as_str(), section("src", members))?;
+        let sources = list_due::<SourceText>(
+            alloc,
+            names,
+            within.as_str(),
+            section("src", members),
+        )?;
         let within = under(alloc, place, "dst")?;
         let dests = dests_due(
             alloc,

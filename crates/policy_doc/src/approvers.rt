@@ -33,7 +33,13 @@ fn read_approvers(
     let Some(members) = value.as_object() else {
         return refused(alloc, PolicyCode::WrongShape, place);
     };
-    check_keys(alloc, place, &["exitNode", "routes"], &["services"], members)?;
+    check_keys(
+        alloc,
+        place,
+        &["exitNode", "routes"],
+        &["services"],
+        members,
+    )?;
     let within = under(alloc, place, "exitNode")?;
     let exit = list_or_empty::<ApproverText>(
         alloc,

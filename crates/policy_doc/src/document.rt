@@ -50,9 +50,7 @@ fn read_rules(
     ensures value { Gives result (rules_of names.now (option_map view (option_copied value.entry))) }
 {
     match value {
-        Some(value) => Ok(Some(list_of::<RuleObject>(
-            alloc, RULE_LIMIT, names, "acls", value,
-        )?)),
+        Some(value) => Ok(Some(list_of::<RuleObject>(alloc, RULE_LIMIT, names, "acls", value)?)),
         None => Ok(None),
     }
 }

@@ -14,6 +14,8 @@ mod proto;
 mod routes;
 mod tags;
 mod testing;
+#[cfg(test)]
+mod tests;
 mod walk;
 
 pub use document::read_policy;

@@ -42,7 +42,9 @@ fn is_same_route(a: &Prefix, b: &Prefix) -> bool
 fn has_route(before: &[Approver], route: &Prefix) -> bool
     ensures value { result ≡ has_route before.now route.now }
 {
-    before.iter().any(|other| is_same_route(&other.route, route))
+    before
+        .iter()
+        .any(|other| is_same_route(&other.route, route))
 }
 
 impl ReadMember for Approver {

@@ -18,12 +18,7 @@ fn is_unsupported_owner(text: &[u8]) -> bool
     text.starts_with(b"tag:") || text.starts_with(b"autogroup:")
 }
 
-fn group_owner(
-    alloc: Global,
-    names: &Names,
-    place: &str,
-    text: &[u8],
-) -> Result<Owner, PolicyFault>
+fn group_owner(alloc: Global, names: &Names, place: &str, text: &[u8]) -> Result<Owner, PolicyFault>
     ensures value { Gives result (group_owner names.now place.now text.now) }
 {
     match names.group(text) {

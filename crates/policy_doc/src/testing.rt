@@ -10,8 +10,8 @@ use crate::limits::LIST_LIMIT;
 use crate::proto::read_proto;
 use crate::walk::{ReadElement, list_or_empty};
 use policy_rows::{
-    Dest, Names, PolicyCode, PolicyFault, Selector, Test, number_of, read_test_dest,
-    read_test_end, refused, under,
+    Dest, Names, PolicyCode, PolicyFault, Selector, Test, number_of, read_test_dest, read_test_end,
+    refused, under,
 };
 use serde_json::Value;
 use std::alloc::Global;
@@ -25,12 +25,7 @@ impl ReadElement for TestDestText {
     ghost reads = { test_dest_text };
 
     #[tactic(auto, unfolding(crate::specs::Rules::test_dest_text))]
-    fn read(
-        alloc: Global,
-        names: &Names,
-        place: &str,
-        value: &Value,
-    ) -> Result<Dest, PolicyFault> {
+    fn read(alloc: Global, names: &Names, place: &str, value: &Value) -> Result<Dest, PolicyFault> {
         let Some(text) = value.as_str() else {
             return refused(alloc, PolicyCode::WrongShape, place);
         };
@@ -65,12 +60,7 @@ impl ReadElement for TestObject {
     ghost reads = { test_at };
 
     #[tactic(auto, unfolding(crate::specs::Rules::test_at))]
-    fn read(
-        alloc: Global,
-        names: &Names,
-        place: &str,
-        value: &Value,
-    ) -> Result<Test, PolicyFault> {
+    fn read(alloc: Global, names: &Names, place: &str, value: &Value) -> Result<Test, PolicyFault> {
         let Some(members) = value.as_object() else {
             return refused(alloc, PolicyCode::WrongShape, place);
         };

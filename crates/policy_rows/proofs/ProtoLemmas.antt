@@ -1,5 +1,5 @@
 -- The text of a protocol's number is read as that protocol.
-use Rattle.std.proofs.Common.{◌≡◌, ◌<◌, ◌≤◌, ◌^◌, ℕ, zero, suc, Bool, true, false, ◌&&◌, ◌||◌, ◌==◌, List, Option, Some, None, arith, leb, refl, ap, sym, ◌∙◌, inl, inr}
+use Rattle.std.proofs.Common.{◌≡◌, ◌<◌, ◌≤◌, ℕ, zero, suc, Bool, true, false, ◌&&◌, ◌||◌, ◌==◌, List, Option, Some, None, arith, leb, refl, ap, sym, ◌∙◌, inl, inr}
 use Rattle.std.specs.Fmt.{decimal, digits}
 use Rattle.std.proofs.lemmas.Bool.{and_parts, and_from, le-leb, cond-true, eqb-true, or_cases, cases_lt}
 use Rattle.std.specs.Option.{option_map}

@@ -25,12 +25,7 @@ fn read_group(
     }
 }
 
-fn read_tag(
-    alloc: Global,
-    names: &Names,
-    place: &str,
-    text: &[u8],
-) -> Result<Selector, PolicyFault>
+fn read_tag(alloc: Global, names: &Names, place: &str, text: &[u8]) -> Result<Selector, PolicyFault>
     ensures value { Gives result (tag_at names.now place.now text.now) }
 {
     match names.tag(text) {
