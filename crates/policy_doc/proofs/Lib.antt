@@ -1,0 +1,4 @@
+pub mod Counts
+pub mod Front
+pub mod OwnerLemmas
+pub mod Seen

@@ -1,0 +1,133 @@
+-- The policy that a text states, or its first fault in the order of reading.
+use Rattle.std.specs.Prelude.{◌≡◌, ℕ, ◌++◌, List, [], ◌∷◌, length, nat_le, codes, Option, Some, None, Result, Ok, Err, if◌then◌else◌}
+use Rattle.std.specs.Fmt.{decimal}
+use Rattle.std.specs.Str.{is_utf8}
+use Rattle.serde_json.specs.Data.{Data, Members}
+use Rattle.serde_json.specs.Find.{as_object}
+use Rattle.serde_json.specs.Read.{read}
+use Rattle.hujson_read.specs.declared.fault.HujsonFault.{HujsonFault}
+use Rattle.hujson_read.specs.Standard.{fault_of, offset_of, standard_of}
+use Rattle.policy_rows.specs.declared.code.PolicyCode.TheVariants as code
+use Rattle.policy_rows.specs.declared.fault.PolicyFault.{PolicyFault}
+use Rattle.policy_rows.specs.declared.fault.PolicyFault.TheVariants as fault
+use Rattle.policy_rows.specs.declared.names.Names.{Names}
+use Rattle.policy_rows.specs.declared.policy.Policy.{Policy}
+use Rattle.policy_rows.specs.declared.rule.Rule.{Rule}
+use Rattle.policy_rows.specs.declared.test.Test.{Test}
+use Rattle.policy_rows.specs.Faults.{Fault, ◌>>=◌, check, due, refuse, under}
+use Rattle.policy_rows.specs.Names.{no_names}
+use Rattle.policy_doc.specs.declared.approvers.Approvers.{Approvers}
+use Rattle.policy_doc.specs.Entries.{approver_text, group_entry, host_entry, list_limit, route_entry, tag_entry}
+use Rattle.policy_doc.specs.Keys.{keys_of, section}
+use Rattle.policy_doc.specs.Rules.{rule_at, test_at}
+use Rattle.policy_doc.specs.Walks.{list_of, members_of, object_at, optional, or_empty}
+
+-- how many rules, and how many hosts, there may be
+abbrev pub rule_limit : ℕ
+rule_limit = 512
+
+-- how many groups, tags, routes and tests there may be
+abbrev pub entry_limit : ℕ
+entry_limit = 256
+
+-- how many bytes a policy may have: 256 KiB
+abbrev pub text_limit : ℕ
+text_limit = 262144
+
+-- who approves routes
+abbrev pub approvers_at : Names → List ℕ → Data → Result Approvers Fault
+approvers_at names place d = do
+  ms ← object_at place d
+  _ ← keys_of place (codes "exitNode" ∷ codes "routes" ∷ []) (codes "services" ∷ []) [] ms
+  exit ← or_empty (list_of list_limit (approver_text names) (under place (codes "exitNode"))) (section (codes "exitNode") ms)
+  routes ← or_empty (members_of entry_limit (route_entry names) (under place (codes "routes"))) (section (codes "routes") ms)
+  Ok (record { exit = exit; routes = routes })
+
+-- no routes are approved
+abbrev pub approvers_or_none : Names → Option Data → Result Approvers Fault
+approvers_or_none names None = Ok (record { exit = []; routes = [] })
+approvers_or_none names (Some d) = approvers_at names (codes "autoApprovers") d
+
+-- the groups, then the hosts, then the tags
+unfoldable pub names_of : Members → Result Names Fault
+names_of ms = do
+  groups ← or_empty (members_of entry_limit (group_entry no_names) (codes "groups")) (section (codes "groups") ms)
+  hosts ← or_empty (members_of rule_limit (host_entry no_names) (codes "hosts")) (section (codes "hosts") ms)
+  tags ← or_empty (members_of entry_limit (tag_entry (record { groups = groups; hosts = hosts; tags = [] })) (codes "tagOwners")) (section (codes "tagOwners") ms)
+  Ok (record { groups = groups; hosts = hosts; tags = tags })
+
+-- the keys of the top object that are known; the last seven are left unread
+abbrev pub top_keys : List (List ℕ)
+top_keys =
+    codes "groups" ∷ codes "hosts" ∷ codes "tagOwners" ∷ codes "acls" ∷ codes "autoApprovers" ∷ codes "tests"
+    ∷ codes "ssh" ∷ codes "sshTests" ∷ codes "nodeAttrs" ∷ codes "derpMap" ∷ codes "randomizeClientPort" ∷ codes "OneCGNATRoute" ∷ codes "disableIPv4" ∷ []
+
+-- the keys of the top object that aren't supported
+abbrev pub unsupported_keys : List (List ℕ)
+unsupported_keys = codes "grants" ∷ codes "ipsets" ∷ codes "postures" ∷ codes "defaultSrcPosture" ∷ []
+
+-- each key of the top object is known
+abbrev pub top_keys_of : Members → Result (Unit {0}) Fault
+top_keys_of ms = keys_of [] top_keys unsupported_keys [] ms
+
+-- the rules; none where there are no `acls`
+abbrev pub rules_of : Names → Option Data → Result (Option (List Rule)) Fault
+rules_of names d = optional (list_of rule_limit (rule_at names) (codes "acls")) d
+
+-- the tests
+abbrev pub tests_of : Names → Option Data → Result (List Test) Fault
+tests_of names d = or_empty (list_of entry_limit (test_at names) (codes "tests")) d
+
+-- the policy of these parts
+abbrev pub policy_from : Names → Option (List Rule) → Approvers → List Test → Policy
+policy_from names rules approvers tests = record {
+  groups = names.groups;
+  hosts = names.hosts;
+  tags = names.tags;
+  rules = rules;
+  route_approvers = approvers.routes;
+  exit_approvers = approvers.exit;
+  tests = tests;
+}
+
+-- the policy of a JSON value
+unfoldable pub policy_of : Data → Result Policy Fault
+policy_of d = do
+  ms ← due code.NotObject (codes "top") (as_object d)
+  _ ← top_keys_of ms
+  names ← names_of ms
+  rules ← rules_of names (section (codes "acls") ms)
+  approvers ← approvers_or_none names (section (codes "autoApprovers") ms)
+  tests ← tests_of names (section (codes "tests") ms)
+  Ok (policy_from names rules approvers tests)
+
+-- what a call returned, seen by view, is what reading gives, but want of memory, which is free
+abbrev pub GivesBy : {A B : Type 0} → (A → B) → Result A PolicyFault → Result B Fault → Type 0
+GivesBy view (Ok x) read = read ≡ Ok (view x)
+GivesBy view (Err fault.NoMemory) read = Unit {0}
+GivesBy view (Err (fault.Refused code place)) read = read ≡ refuse code place
+
+-- a fault of syntax at that offset
+abbrev pub syntax_at : {A : Type 0} → ℕ → Result A Fault
+syntax_at at = refuse code.Syntax (codes "offset " ++ decimal at)
+
+-- the standard text of a text, or the place of its first fault
+abbrev pub standard_or : List ℕ → Option HujsonFault → Result (List ℕ) Fault
+standard_or standard None = Ok standard
+standard_or standard (Some first) = syntax_at (offset_of first)
+
+-- the JSON text that a HuJSON text stands for
+abbrev pub standard_at : List ℕ → Result (List ℕ) Fault
+standard_at text = standard_or (standard_of text) (fault_of text)
+
+-- the value of a JSON text in UTF-8 (RFC 8259)
+abbrev pub json_at : List ℕ → Result Data Fault
+json_at text = due code.Syntax (codes "json") (if is_utf8 text then read text else None)
+
+-- the policy that a text states, or its first fault
+unfoldable pub policy_of_text : List ℕ → Result Policy Fault
+policy_of_text text = do
+  _ ← check (nat_le (length text) text_limit) code.TooMany (codes "text")
+  standard ← standard_at text
+  d ← json_at standard
+  policy_of d

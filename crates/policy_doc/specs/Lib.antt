@@ -1,0 +1,5 @@
+pub mod Document
+pub mod Entries
+pub mod Keys
+pub mod Rules
+pub mod Walks
