@@ -1,6 +1,6 @@
 -- No number that is written is a float.
 use Rattle.std.proofs.Common.{◌≡◌, ℕ, List, [], ◌∷◌, Bool, true, false, ◌||◌, refl, ap, ◌∙◌, Option, Some, None, ℤ}
-use Rattle.std.specs.Prelude.{map, option_map, fold}
+use Rattle.std.specs.Prelude.{map, option_map, fold, codes}
 use Rattle.std.specs.Ordering.{nat_cmp, match_ordering}
 use Rattle.std.specs.declared.cmp.Ordering.TheVariants.{Less, Equal, Greater}
 use Rattle.std.specs.Cmp.Lexicographic.{slice_cmp}
@@ -25,7 +25,7 @@ use Rattle.wire_text.specs.Parts.{array_data, some_array, some_member, number_da
 use Rattle.wire_text.specs.Nodes.{node_data, patch_data, profile_data}
 use Rattle.wire_text.specs.Filters.{dest_data, ports_data, rule_data, sources_data, span_data}
 use Rattle.wire_text.specs.Dns.{dns_data, extra_data, resolver_data, routes_data, with_route}
-use Rattle.wire_text.specs.Responses.{response_data}
+use Rattle.wire_text.specs.Responses.{peer_members, response_data}
 
 neither : (a b : Bool) → a ≡ false → b ≡ false → (a || b) ≡ false
 neither a b x y = ap (λ v. v || b) x ∙ y
@@ -145,11 +145,24 @@ patch_plain p =
     some_plain _ _ _ (option_plain number_data p.derp (λ _. refl)) (
     some_plain _ _ _ (option_plain disco_key_data p.disco disco_plain) (
     some_plain _ _ _ (option_plain (array_data endpoint_data) p.endpoints (λ es. items_plain endpoint_data es endpoint_plain)) (
-    some_plain _ _ _ (option_plain boolean p.online (λ _. refl)) refl)))
+    put_plain (codes "NodeID") (number_data p.id) online refl (some_plain (codes "Online") (option_map boolean p.online) no_members (option_plain boolean p.online (λ _. refl)) refl))))
+  where
+    online : Members
+    online = some_member (codes "Online") (option_map boolean p.online) no_members
 
 profile_plain : (p : Profile) → has_float (profile_data p) ≡ false
 unfolding profile_data
 profile_plain p = refl
+
+peers_plain : (r : Response) → members_have_float (peer_members r) ≡ false
+unfolding peer_members
+peers_plain r =
+    some_plain _ _ _ (list_plain node_data r.peers node_plain) (
+    some_plain _ _ _ (list_plain node_data r.changed node_plain) (
+    some_plain _ _ _ (list_plain patch_data r.patches patch_plain) (
+    some_plain _ _ _ (list_plain number_data r.removed (λ _. refl)) (
+    some_plain _ _ _ (option_plain number_data r.seq (λ _. refl)) (
+    some_plain _ _ _ (list_plain profile_data r.profiles profile_plain) refl)))))
 
 pub response_plain : (r : Response) → has_float (response_data r) ≡ false
 unfolding response_data
@@ -158,10 +171,4 @@ response_plain r =
     some_plain _ _ _ (option_plain string r.domain (λ _. refl)) (
     some_plain _ _ _ (option_plain string r.handle (λ _. refl)) (
     some_plain _ _ _ (option_plain node_data r.node node_plain) (
-    some_plain _ _ _ (option_plain (array_data rule_data) r.filter (λ rs. items_plain rule_data rs rule_plain)) (
-    some_plain _ _ _ (list_plain node_data r.peers node_plain) (
-    some_plain _ _ _ (list_plain node_data r.changed node_plain) (
-    some_plain _ _ _ (list_plain patch_data r.patches patch_plain) (
-    some_plain _ _ _ (list_plain number_data r.removed (λ _. refl)) (
-    some_plain _ _ _ (option_plain number_data r.seq (λ _. refl)) (
-    some_plain _ _ _ (list_plain profile_data r.profiles profile_plain) refl))))))))))
+    some_plain _ _ _ (option_plain (array_data rule_data) r.filter (λ rs. items_plain rule_data rs rule_plain)) (peers_plain r)))))

@@ -2,12 +2,13 @@
 ghost use Rattle.std.specs.Prelude.{◌≡◌, ◌++◌, codes, IfOk};
 ghost use Rattle.std.specs.Fmt.{decimal};
 ghost use Rattle.serde_json.specs.Data.{string};
-ghost use Rattle.serde_json.specs.View.{view};
-ghost use Rattle.wire_text.specs.Nodes.{host_data, node_data};
+ghost use Rattle.serde_json.specs.View.{view, members_view};
+ghost use Rattle.wire_text.specs.Nodes.{host_data, keyed_members, named_members, node_data};
 
 use crate::json_form::JsonForm;
-use crate::parts::{text_value, time_value};
-use serde_json::{Value, json};
+use crate::members::put_form;
+use crate::parts::text_value;
+use serde_json::{Map, Value, json};
 use std::alloc::{AllocError, Global};
 use tail_base::NoMemory;
 use wire_json::NodeRow;
@@ -26,29 +27,46 @@ fn stable_id(alloc: Global, id: u32) -> Result<Value, NoMemory>
     text_value(alloc, text.as_str())
 }
 
+// Members are put from the last on, so that each comes before all that are there.
+
+fn named_members(alloc: Global, node: &NodeRow) -> Result<Map<String, Value>, NoMemory>
+    ensures value { IfOk result (λ m. members_view m.entries ≡ named_members node.now) }
+{
+    let mut members = Map::new(alloc);
+    put_form(&mut members, alloc, "User", &node.user)?;
+    put_form(&mut members, alloc, "Tags", &node.tags)?;
+    serde_json::put(&mut members, alloc, "StableID", stable_id(alloc, node.id)?)?;
+    put_form(&mut members, alloc, "Online", &node.online)?;
+    put_form(&mut members, alloc, "Name", &node.name)?;
+    put_form(&mut members, alloc, "MachineAuthorized", &true)?;
+    Ok(members)
+}
+
+fn keyed_members(alloc: Global, node: &NodeRow) -> Result<Map<String, Value>, NoMemory>
+    ensures value { IfOk result (λ m. members_view m.entries ≡ keyed_members node.now) }
+{
+    let mut members = named_members(alloc, node)?;
+    put_form(&mut members, alloc, "Machine", &node.machine)?;
+    put_form(&mut members, alloc, "KeyExpiry", &node.expiry)?;
+    put_form(&mut members, alloc, "Key", &node.key)?;
+    put_form(&mut members, alloc, "ID", &node.id)?;
+    let host = host_value(alloc, node.host.as_str())?;
+    serde_json::put(&mut members, alloc, "Hostinfo", host)?;
+    Ok(members)
+}
+
 impl JsonForm for NodeRow {
     ghost json = { node_data };
 
     #[tactic(auto, unfolding(crate::specs::Nodes::node_data))]
     fn to_json(&self, alloc: Global) -> Result<Value, NoMemory> {
-        Ok(json!(in alloc; {
-            "Addresses": self.addresses.to_json(alloc)?,
-            "AllowedIPs": self.allowed.to_json(alloc)?,
-            "Created": self.created.to_json(alloc)?,
-            "DiscoKey": self.disco.to_json(alloc)?,
-            "Endpoints": self.endpoints.to_json(alloc)?,
-            "HomeDERP": self.derp,
-            "Hostinfo": host_value(alloc, self.host.as_str())?,
-            "ID": self.id,
-            "Key": self.key.to_json(alloc)?,
-            "KeyExpiry": time_value(alloc, self.expiry)?,
-            "Machine": self.machine.to_json(alloc)?,
-            "MachineAuthorized": true,
-            "Name": self.name.as_str(),
-            "Online": self.online,
-            "StableID": stable_id(alloc, self.id)?,
-            "Tags": self.tags.to_json(alloc)?,
-            "User": self.user,
-        })?)
+        let mut members = keyed_members(alloc, self)?;
+        put_form(&mut members, alloc, "HomeDERP", &self.derp)?;
+        put_form(&mut members, alloc, "Endpoints", &self.endpoints)?;
+        put_form(&mut members, alloc, "DiscoKey", &self.disco)?;
+        put_form(&mut members, alloc, "Created", &self.created)?;
+        put_form(&mut members, alloc, "AllowedIPs", &self.allowed)?;
+        put_form(&mut members, alloc, "Addresses", &self.addresses)?;
+        Ok(Value::Object(members))
     }
 }

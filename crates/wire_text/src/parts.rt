@@ -127,11 +127,13 @@ impl JsonForm for Moment {
 }
 
 /// A time that may be unset.
-pub(crate) fn time_value(alloc: Global, time: Option<Moment>) -> Result<Value, NoMemory>
-    ensures value { IfOk result (λ v. view v ≡ time_data time) }
-{
-    match time {
-        Some(moment) => moment.to_json(alloc),
-        None => text_value(alloc, "0001-01-01T00:00:00Z"),
+impl JsonForm for Option<Moment> {
+    ghost json = { time_data };
+
+    fn to_json(&self, alloc: Global) -> Result<Value, NoMemory> {
+        match self {
+            Some(moment) => moment.to_json(alloc),
+            None => text_value(alloc, "0001-01-01T00:00:00Z"),
+        }
     }
 }

@@ -2,8 +2,7 @@
 ghost use Rattle.wire_text.specs.Nodes.{patch_data};
 
 use crate::json_form::JsonForm;
-use crate::lists::some_value;
-use crate::members::put_some;
+use crate::members::{put_form, put_option};
 use serde_json::{Map, Value};
 use std::alloc::Global;
 use tail_base::NoMemory;
@@ -15,11 +14,11 @@ impl JsonForm for Patch {
     #[tactic(auto, unfolding(crate::specs::Nodes::patch_data))]
     fn to_json(&self, alloc: Global) -> Result<Value, NoMemory> {
         let mut members = Map::new(alloc);
-        put_some(&mut members, alloc, "Online", some_value(alloc, &self.online)?)?;
-        put_some(&mut members, alloc, "NodeID", Some(Value::from(self.id)))?;
-        put_some(&mut members, alloc, "Endpoints", some_value(alloc, &self.endpoints)?)?;
-        put_some(&mut members, alloc, "DiscoKey", some_value(alloc, &self.disco)?)?;
-        put_some(&mut members, alloc, "DERPRegion", some_value(alloc, &self.derp)?)?;
+        put_option(&mut members, alloc, "Online", &self.online)?;
+        put_form(&mut members, alloc, "NodeID", &self.id)?;
+        put_option(&mut members, alloc, "Endpoints", &self.endpoints)?;
+        put_option(&mut members, alloc, "DiscoKey", &self.disco)?;
+        put_option(&mut members, alloc, "DERPRegion", &self.derp)?;
         Ok(Value::Object(members))
     }
 }
