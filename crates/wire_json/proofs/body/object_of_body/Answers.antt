@@ -4,13 +4,12 @@ use Rattle.std.specs.Str.{is_utf8}
 use Rattle.std.proofs.lemmas.Str.{IsUtf8-from_is_utf8, is_utf8-from_IsUtf8}
 use Rattle.serde_json.specs.Data.{Data}
 use Rattle.serde_json.specs.Read.{read}
-use Rattle.wire_json.specs.Body.{◌>>=◌, body_value, object_at, or_fault}
-use Rattle.wire_json.specs.Register.{register_at}
+use Rattle.wire_json.specs.Body.{body_value, object_at, or_fault}
 use Rattle.serde_json.specs.Find.{as_object}
 use Rattle.std.specs.Prelude.{is_some, Ok}
 use Rattle.std.proofs.lemmas.Bool.{false≢true}
 use Rattle.wire_json.specs.declared.fault.WireFault.TheVariants as fault
-use Rattle.wire_json.proofs.register.read_register.Goals as goal
+use Rattle.wire_json.proofs.body.object_of_body.Goals as goal
 
 body_some : (body : List ℕ) (d : Data) → IsUtf8 body → read body ≡ Some d → body_value body ≡ Some d
 body_some body d text same = ap (λ b. cond b (read body) None) (is_utf8-from_IsUtf8 body text) ∙ same
@@ -26,12 +25,12 @@ taken body d text same object =
     ap object_at (body_some body d text same) ∙ ap (λ b. or_fault {A = Data} fault.NotJson (cond b (Some d) None)) (sym object)
 
 pub returns-in-Ok : goal.returns-in-Ok
-returns-in-Ok c =
-    let same = taken c.args.body.now _ c.in-Ok.ensures.ok.0 c.in-Ok.ensures.ok.1 (search rules) in
-    record { value = rw same c.register_of.ensures.value }
+returns-in-Ok c = record {
+  value = taken c.args.body.now _ c.in-Ok.ensures.ok.0 c.in-Ok.ensures.ok.1 (search rules);
+}
 
 pub returns-in-Err-2 : goal.returns-in-Err-2
 unfolding object_at
 returns-in-Err-2 c = record {
-  value = ap (λ o. object_at o >>= register_at) (body_none c.args.body.now (c.in-Err.ensures.err (λ m. false≢true (c.if-is_memory.ensures.1 m))));
+  value = ap object_at (body_none c.args.body.now (c.in-Err.ensures.err (λ m. false≢true (c.if-is_memory.ensures.1 m))));
 }
