@@ -41,37 +41,20 @@ impl ReadElement for SourceText {
     }
 }
 
-/// A destination of a rule, whose ports may be any.
-struct DestText;
+/// A destination of a rule, whose ports may be all alone.
+struct DestText<const ONLY_ALL: bool>;
 
-impl ReadElement for DestText {
+impl<const ONLY_ALL: bool> ReadElement for DestText<ONLY_ALL> {
     type Item = Dest;
 
-    ghost reads = { dest_text false };
+    ghost reads = { dest_text ONLY_ALL };
 
     #[tactic(auto, unfolding(crate::specs::Rules::dest_text))]
     fn read(alloc: Global, names: &Names, place: &str, value: &Value) -> Result<Dest, PolicyFault> {
         let Some(text) = value.as_str() else {
             return refused(alloc, PolicyCode::WrongShape, place);
         };
-        read_dest(alloc, false, names, place, text.as_bytes())
-    }
-}
-
-/// A destination of a rule whose protocol has no ports, so that they can only be all.
-struct StarDestText;
-
-impl ReadElement for StarDestText {
-    type Item = Dest;
-
-    ghost reads = { dest_text true };
-
-    #[tactic(auto, unfolding(crate::specs::Rules::dest_text))]
-    fn read(alloc: Global, names: &Names, place: &str, value: &Value) -> Result<Dest, PolicyFault> {
-        let Some(text) = value.as_str() else {
-            return refused(alloc, PolicyCode::WrongShape, place);
-        };
-        read_dest(alloc, true, names, place, text.as_bytes())
+        read_dest(alloc, ONLY_ALL, names, place, text.as_bytes())
     }
 }
 
@@ -114,9 +97,9 @@ fn dests_due(
     ensures value { Gives result (list_due (dest_text only_all names.now) place.now (option_map view (option_copied value.entry))) }
 {
     if only_all {
-        list_due::<StarDestText>(alloc, names, place, value)
+        list_due::<DestText<true>>(alloc, names, place, value)
     } else {
-        list_due::<DestText>(alloc, names, place, value)
+        list_due::<DestText<false>>(alloc, names, place, value)
     }
 }
 

@@ -4,6 +4,8 @@
 
 mod acls;
 mod approvers;
+#[cfg(test)]
+mod cases;
 mod document;
 mod groups;
 mod hosts;
