@@ -1,6 +1,7 @@
 //! The settings file and the words of the command line, read.
 #![tactic(auto)]
 
+mod command;
 mod fault;
 mod rules;
 mod settings;
@@ -8,6 +9,7 @@ mod words;
 
 pub use fault::SettingsFault;
 pub use settings::read_settings;
+pub use command::{Command, read_command};
 pub use words::{Pipe, read_words};
 
 #[cfg(test)]

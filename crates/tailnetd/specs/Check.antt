@@ -36,6 +36,12 @@ pub record Judged (ended : Status) (file : Option (Option (List ℕ))) (old new 
   pub wrote : Wrote old new before now (verdict_line verdict) failed
   pub status_is : ended ≡ (if failed then status.WriteFault else verdict_status verdict)
 
+-- a line was written, or, where a write failed, a front of it; the status is the line's or that of the fault
+pub record Said (line : List ℕ) (whole ended : Status) (old new : Option (List ℕ)) (before now : ℕ) : Type 0 where
+  pub failed : Bool
+  pub wrote : Wrote old new before now line failed
+  pub status_is : ended ≡ (if failed then status.WriteFault else whole)
+
 -- nothing was written
 abbrev pub IsUnwritten : Option (List ℕ) → Option (List ℕ) → ℕ → ℕ → Type 0
 IsUnwritten old new before now = (new ≡ old) × (now ≡ before)

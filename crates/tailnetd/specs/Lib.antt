@@ -7,5 +7,6 @@ pub mod Serve
 pub mod Talk
 pub mod Run
 pub mod Pipe
+pub mod Check
 pub mod Top
 pub mod Complete

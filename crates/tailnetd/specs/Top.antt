@@ -1,15 +1,27 @@
 -- What the whole program comes to.
-use Rattle.std.specs.Prelude.{◌≡◌, ℕ, false, Option, None, Some, List}
-use Rattle.tail_words.specs.Words.{PipeWords}
+use Rattle.std.specs.Prelude.{◌≡◌, ℕ, false, Option, None, Some, List, IfSome}
+use Rattle.io_edge.specs.Edge.{IsWhereTold}
+use Rattle.tail_words.specs.Commands.{CommandWords, pipe, policy_check}
+use Rattle.tailnetd.specs.Check.{Checked, check_line}
 use Rattle.tailnetd.specs.Lines.{Noted, usage_line}
 use Rattle.tailnetd.specs.Pipe.{Outcome}
 use Rattle.tailnetd.specs.Run.{Untouched, World}
 use Rattle.tailnetd.specs.declared.status.Status.{Status}
 use Rattle.tailnetd.specs.declared.status.Status.TheVariants as status
 
--- Words that are no command do nothing but leave their line on errors; `pipe` comes to what its status says.
-abbrev pub Top : Option PipeWords → Status → (List ℕ → Option (Option (List ℕ))) → ℕ → ℕ → World → World → Option (List ℕ) → Option (List ℕ) → ℕ → ℕ → Type 0
+-- nothing was read from the input, and the kept rows are as before
+pub record Unread (old new : World) : Type 0 where
+  pub left : new.told.left ≡ old.told.left
+  pub read_faults : new.told.read_faults ≡ old.told.read_faults
+  pub rows : IfSome old.rows (λ rows. IsWhereTold rows new.rows)
+
+-- Words that are no command do nothing but leave their line on errors; a command comes to what its status says.
+abbrev pub Top : Option CommandWords → Status → (List ℕ → Option (Option (List ℕ))) → ℕ → ℕ → World → World → Option (List ℕ) → Option (List ℕ) → ℕ → ℕ → Type 0
 Top None ended files before now old new errors errors_after error_faults error_faults_after =
     (ended ≡ status.Usage) × Untouched old new × Noted usage_line false errors errors_after error_faults error_faults_after
-Top (Some pipe) ended files before now old new errors errors_after error_faults error_faults_after =
-    Outcome ended (files pipe.file) before now pipe.seed old new errors errors_after error_faults error_faults_after
+Top (Some (pipe given)) ended files before now old new errors errors_after error_faults error_faults_after =
+    Outcome ended (files given.file) before now given.seed old new errors errors_after error_faults error_faults_after
+Top (Some (policy_check file)) ended files before now old new errors errors_after error_faults error_faults_after =
+    Unread old new
+    × Checked ended (files file) before now old.told.giving.held new.told.giving.held old.told.giving.write_faults new.told.giving.write_faults
+    × Noted (check_line ended) false errors errors_after error_faults error_faults_after

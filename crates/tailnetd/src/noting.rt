@@ -55,7 +55,7 @@ fn damaged_line(alloc: Global, kind: Kind, id: u32) -> Result<Text, NoMemory>
 }
 
 /// Writes the line.
-fn note_line<E: Sink>(errors: &mut E, line: &str)
+pub(crate) fn note_line<E: Sink>(errors: &mut E, line: &str)
     ensures noted { Noted line.now false (E.holds errors.old) (E.holds errors.new) (E.write_faults errors.old) (E.write_faults errors.new) }
 {
     let _ = write_all(errors, line.as_bytes());

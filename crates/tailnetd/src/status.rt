@@ -21,4 +21,6 @@ pub enum Status {
     Damaged = 7,
     /// Memory was refused.
     NoMemory = 8,
+    /// A policy has a fault.
+    Refused = 10,
 }

@@ -1,11 +1,12 @@
 //! The top call.
 ghost use Rattle.std.specs.Prelude.{◌≡◌, map, string_bytes};
-ghost use Rattle.tail_words.specs.Words.{words_of};
+ghost use Rattle.tail_words.specs.Commands.{command_of};
 ghost use Rattle.tailnetd.specs.Outside.{giving};
 ghost use Rattle.tailnetd.specs.Run.{world};
 ghost use Rattle.tailnetd.specs.Serve.{told};
 ghost use Rattle.tailnetd.specs.Top.{Top};
 
+use crate::checking::policy_check;
 use crate::noting::note_usage;
 use crate::piping::pipe_command;
 use crate::status::Status;
@@ -14,11 +15,11 @@ use row_keeper::Opener;
 use std::alloc::Global;
 use std::sync::Wait;
 use std::thread::Threads;
-use tail_words::{Pipe, read_words};
+use tail_words::{Command, Pipe, read_command};
 
 /// The whole program over its outside: the words after its name, and all that it may touch.
 ///
-/// `pipe` alone is a command so far. It waits for nobody, asks no door and no link, and starts no
+/// `pipe` and `policy-check` are the commands so far. It waits for nobody, asks no door and no link, and starts no
 /// thread.
 pub fn tailnetd<
     R: Threads + Wait + Sync,
@@ -48,17 +49,18 @@ pub fn tailnetd<
     link: &mut L,
 ) -> Status
     ensures outcome { let at = giving O.holds O.write_faults C.answer N.word N.faults in
-        Top (words_of (map string_bytes words.now)) result (F.holds files.old) (F.faults files.old) (F.faults files.new)
+        Top (command_of (map string_bytes words.now)) result (F.holds files.old) (F.faults files.old) (F.faults files.new)
         (world P.told P.faults opener.old (told I.left I.read_faults input.old (at output.old clock.old entropy.old)))
         (world P.told P.faults opener.new (told I.left I.read_faults input.new (at output.new clock.new entropy.new)))
         (E.holds errors.old) (E.holds errors.new) (E.write_faults errors.old) (E.write_faults errors.new) }
     ensures doors { doors.new ≡ doors.old }
     ensures link { link.new ≡ link.old }
 {
-    match read_words(words) {
-        Some(Pipe { file, seed }) => pipe_command(
+    match read_command(words) {
+        Some(Command::Pipe(Pipe { file, seed })) => pipe_command(
             alloc, file, seed, input, output, errors, files, opener, clock, entropy,
         ),
+        Some(Command::PolicyCheck { file }) => policy_check(alloc, file, output, errors, files),
         None => {
             note_usage(errors);
             Status::Usage
