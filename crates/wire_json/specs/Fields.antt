@@ -3,6 +3,7 @@ use Rattle.std.specs.Prelude.{ℕ, List, codes}
 use Rattle.wire_json.specs.declared.field.Field.{Field}
 use Rattle.wire_json.specs.declared.field.Field.TheVariants as field
 
+-- the name of a field
 abbrev pub field_name : Field → List ℕ
 field_name field.Auth = codes "Auth"
 field_name field.AuthKey = codes "AuthKey"

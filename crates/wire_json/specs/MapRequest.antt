@@ -19,6 +19,7 @@ abbrev pub unless_named : Option (List ℕ) → Result (Unit {0}) WireFault
 unless_named None = Err fault.Compressed
 unless_named (Some name) = if length name == 0 then Ok tt else Err fault.Compressed
 
+-- the field is absent, or an empty text
 abbrev pub uncompressed : Option Data → Result (Unit {0}) WireFault
 uncompressed None = Ok tt
 uncompressed (Some d) = unless_named (as_str d)
@@ -37,6 +38,7 @@ host_at d = do
   routes ← optional field.RoutableIps [] (short_list 32 prefix_spelled) (Some d)
   Ok (record { name = name; derp = derp; routes = sorted_routes routes })
 
+-- the host, where it is told of
 abbrev pub some_host : Option Data → Result (Option HostUpdate) WireFault
 some_host None = Ok None
 some_host (Some d) = host_at d >>= (λ host. Ok (Some host))

@@ -4,6 +4,7 @@ use Rattle.std.specs.declared.cmp.Ordering.{Ordering}
 use Rattle.std.specs.Ordering.{bool_cmp, nat_cmp, match_ordering, ordering_then}
 use Rattle.net_addr.specs.Bits.{Block}
 
+-- how two routes compare
 abbrev pub route_cmp : Block → Block → Ordering
 route_cmp p q = ordering_then (bool_cmp p.base.v6 q.base.v6) (ordering_then (nat_cmp p.base.bits q.base.bits) (nat_cmp p.len q.len))
 

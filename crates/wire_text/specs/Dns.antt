@@ -12,12 +12,14 @@ use Rattle.wire_text.specs.Parts.{array_data}
 abbrev pub record_type : Address → List ℕ
 record_type addr = if addr.v6 then codes "AAAA" else codes "A"
 
+-- an extra record (`tailcfg.DNSRecord`)
 unfoldable pub extra_data : DnsExtra → Data
 extra_data e = object (
     member (codes "Name") (string e.name) (
     member (codes "Type") (string (record_type e.addr)) (
     member (codes "Value") (string (addr_text e.addr)) no_members)))
 
+-- a resolver (`dnstype.Resolver`)
 unfoldable pub resolver_data : Address → Data
 resolver_data addr = object (member (codes "Addr") (string (addr_text addr)) no_members)
 
@@ -29,6 +31,7 @@ with_route ms r = put r.suffix (array_data resolver_data r.resolvers) ms
 unfoldable pub routes_data : List DnsRoute → Data
 routes_data rs = object (fold with_route no_members rs)
 
+-- all fields are always written
 unfoldable pub dns_data : Dns → Data
 dns_data d = object (
     member (codes "Domains") (array_data string d.domains) (

@@ -49,6 +49,7 @@ patch_data p = object (
     some_member (codes "NodeID") (Some (number_data p.id)) (
     some_member (codes "Online") (option_map boolean p.online) no_members)))))
 
+-- the profile of a user
 unfoldable pub profile_data : Profile → Data
 profile_data p = object (
     member (codes "DisplayName") (string p.display) (

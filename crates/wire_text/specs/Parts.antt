@@ -31,23 +31,27 @@ abbrev pub some_member : List ℕ → Option Data → Members → Members
 some_member name None ms = ms
 some_member name (Some d) ms = put name d ms
 
--- keys: a head and 64 hexadecimal digits
+-- a node key: a head and 64 hexadecimal digits
 unfoldable pub node_key_data : NodeKey → Data
 node_key_data key = string (key_text (codes "nodekey:") key.0)
 
+-- a machine key
 unfoldable pub machine_key_data : MachineKey → Data
 machine_key_data key = string (key_text (codes "mkey:") key.0)
 
+-- a disco key
 unfoldable pub disco_key_data : DiscoKey → Data
 disco_key_data key = string (key_text (codes "discokey:") key.0)
 
--- a prefix with its length, and an endpoint
+-- a prefix with its length
 unfoldable pub prefix_data : Block → Data
 prefix_data p = string (prefix_text p)
 
+-- an address and a port
 unfoldable pub endpoint_data : Endpoint → Data
 endpoint_data e = string (endpoint_text e)
 
+-- a time in UTC
 unfoldable pub moment_data : ℤ → Data
 moment_data t = string (moment_text t)
 

@@ -5,13 +5,15 @@ use Rattle.serde_json.specs.Written.{compact_text}
 use Rattle.wire_json.specs.declared.profile.Profile.{Profile}
 use Rattle.wire_text.specs.Parts.{number_data}
 
--- who the machine is registered for (`tailcfg.Login`, `tailcfg.User`)
+-- the user for whom the machine is registered (`tailcfg.Login`)
 abbrev pub login_data : Profile → Data
 login_data p = object (member (codes "ID") (number_data p.id) (member (codes "LoginName") (string p.login) no_members))
 
+-- that user, as shown (`tailcfg.User`)
 abbrev pub user_data : Profile → Data
 user_data p = object (member (codes "DisplayName") (string p.display) (member (codes "ID") (number_data p.id) no_members))
 
+-- an answer: the URL, the user, whether the machine is admitted, whether its node key has expired
 unfoldable pub answer_data : List ℕ → Profile → Bool → Bool → Data
 answer_data url p authorized expired = object (
     member (codes "AuthURL") (string url) (

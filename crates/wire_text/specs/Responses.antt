@@ -19,6 +19,7 @@ peer_members r =
     some_member (codes "Seq") (option_map number_data r.seq) (
     some_member (codes "UserProfiles") (some_array profile_data r.profiles) no_members)))))
 
+-- a response: the members before `Peers`, and those
 unfoldable pub response_data : Response → Data
 response_data r = object (
     some_member (codes "DNSConfig") (option_map dns_data r.dns) (
@@ -27,5 +28,6 @@ response_data r = object (
     some_member (codes "Node") (option_map node_data r.node) (
     some_member (codes "PacketFilter") (option_map (array_data rule_data) r.filter) (peer_members r))))))
 
+-- the text of a response
 abbrev pub response_text : Response → List ℕ
 response_text r = compact_text (response_data r)
