@@ -45,7 +45,6 @@ fn add_peer(
 }
 
 /// The nodes of the machines that the viewer sees.
-#[tactic(auto, using(crate::proofs::ShownLemmas::next_taken))]
 fn peers_of(
     alloc: Global,
     domain: &str,

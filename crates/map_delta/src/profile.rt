@@ -96,7 +96,6 @@ fn add_owner(
 }
 
 /// The users that own one of the nodes.
-#[tactic(auto, using(crate::proofs::ShownLemmas::next_taken))]
 fn users_shown(
     alloc: Global,
     users: &[User],

@@ -1,7 +1,6 @@
 //! The settings file and the words of the command line, read.
 #![tactic(auto)]
 
-mod command;
 mod fault;
 mod rules;
 mod settings;
@@ -9,7 +8,6 @@ mod words;
 
 pub use fault::SettingsFault;
 pub use settings::read_settings;
-pub use command::{Command, read_command};
 pub use words::{Pipe, read_words};
 
 #[cfg(test)]
