@@ -1,3 +1,3 @@
-pub mod CheckedLemmas
 pub mod FaultLemmas
 pub mod LabelLemmas
+pub mod ListLemmas

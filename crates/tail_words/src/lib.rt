@@ -1,9 +1,14 @@
 //! The settings file and the words of the command line, read.
 #![tactic(auto)]
 
+mod dns;
 mod fault;
+mod lists;
+mod rule;
 mod rules;
 mod settings;
+mod table;
+mod values;
 mod words;
 
 pub use fault::SettingsFault;
