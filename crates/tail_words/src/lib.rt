@@ -13,7 +13,7 @@ mod words;
 
 pub use fault::SettingsFault;
 pub use settings::read_settings;
-pub use words::{Pipe, read_words};
+pub use words::{Command, Pipe, read_command, read_words};
 
 #[cfg(test)]
 mod tests;

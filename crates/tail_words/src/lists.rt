@@ -1,8 +1,10 @@
 //! Lists in a settings file. A value's fault is the number of the rule that it breaks: 3 where its
 //! type or that of an element is another, 4 where it is against its key's rule.
 ghost use Rattle.std.specs.Prelude.{◌≡◌, IfOk};
-ghost use Rattle.toml.specs.View.{table_view, view};
-ghost use Rattle.tail_words.specs.SettingsValues.{addresses, are_domains, each_address, each_route, member_texts, resolvers, route, routes, routes_within, search_domains, table_texts, texts};
+ghost use Rattle.std.specs.List.{list_all};
+ghost use Rattle.net_rows.specs.Settings.{is_domain};
+ghost use Rattle.toml.specs.View.{items_view, table_view, view};
+ghost use Rattle.tail_words.specs.SettingsValues.{addresses, are_domains, each_address, each_route, item_texts, member_texts, resolvers, route, routes, routes_within, search_domains, table_texts, texts};
 
 use crate::rules::is_domain;
 use net_addr::Addr;
@@ -18,22 +20,29 @@ pub(crate) struct RouteTexts {
     resolvers: Items<Text>,
 }
 
-/// The strings of an array of strings.
+/// The texts of elements, if they all are strings.
 #[tactic(auto, using(crate::proofs::ListLemmas::onto_start, crate::proofs::ListLemmas::onto_one, crate::proofs::ListLemmas::onto_end))]
-fn texts(alloc: Global, value: &Value) -> Result<Option<Items<Text>>, NoMemory>
-    ensures value { IfOk result (λ made. made ≡ texts (view value.now)) }
+fn item_texts(alloc: Global, items: &[Value]) -> Result<Option<Items<Text>>, NoMemory>
+    ensures value { IfOk result (λ made. made ≡ item_texts (items_view items.now)) }
 {
-    let Some(array) = value.as_array() else {
-        return Ok(None);
-    };
     let mut made = Items::new(alloc);
-    for item in array.iter() {
+    for item in items {
         let Some(text) = item.as_str() else {
             return Ok(None);
         };
         made.push(Text::from_str(alloc, text)?)?;
     }
     Ok(Some(made))
+}
+
+/// The strings of an array of strings.
+fn texts(alloc: Global, value: &Value) -> Result<Option<Items<Text>>, NoMemory>
+    ensures value { IfOk result (λ made. made ≡ texts (view value.now)) }
+{
+    match value.as_array() {
+        Some(array) => item_texts(alloc, array.as_slice()),
+        None => Ok(None),
+    }
 }
 
 /// The addresses that texts spell, if they all do.
@@ -74,10 +83,21 @@ pub(crate) fn resolvers(alloc: Global, value: &Value) -> Result<Result<Items<Add
     }
 }
 
+fn each_is_domain(texts: &[Text]) -> bool
+    ensures value { result ≡ list_all is_domain texts.now }
+{
+    for text in texts {
+        if !is_domain(text.as_slice()) {
+            return false;
+        }
+    }
+    true
+}
+
 fn are_domains(texts: &[Text]) -> bool
     ensures value { result ≡ are_domains texts.now }
 {
-    texts.len() <= 16 && texts.iter().all(|text| is_domain(text.as_slice()))
+    texts.len() <= 16 && each_is_domain(texts)
 }
 
 /// The domains that an array of up to 16 strings gives.

@@ -28,6 +28,12 @@ pub(crate) enum Rule {
 /// The greatest number that a key takes, `workers` apart.
 const MOST: u32 = 1_000_000_000;
 
+fn numbers(least: u32, greatest: u32) -> Option<Rule>
+    ensures value { result ≡ Some (Rule.Number least greatest) }
+{
+    Some(Rule::Number { least, greatest })
+}
+
 /// The rule of a key, if it is known. `dns` has rules of its own.
 #[tactic(auto, unfolding(crate::specs::SettingsText::rule_of))]
 pub(crate) fn rule_of(key: &str) -> Option<Rule>
@@ -36,52 +42,31 @@ pub(crate) fn rule_of(key: &str) -> Option<Rule>
     if key == "base_domain" {
         Some(Rule::Text(TextRule::Domain))
     } else if key == "connections" {
-        Some(Rule::Number {
-            least: 0,
-            greatest: MOST,
-        })
+        numbers(0, MOST)
     } else if key == "database" {
         Some(Rule::Text(TextRule::Any))
     } else if key == "ephemeral_seconds" {
-        Some(Rule::Number {
-            least: 1,
-            greatest: MOST,
-        })
+        numbers(1, MOST)
     } else if key == "key_seconds" {
-        Some(Rule::Number {
-            least: 0,
-            greatest: MOST,
-        })
+        numbers(0, MOST)
     } else if key == "listen" {
         Some(Rule::Text(TextRule::Any))
     } else if key == "pending_seconds" {
-        Some(Rule::Number {
-            least: 1,
-            greatest: MOST,
-        })
+        numbers(1, MOST)
     } else if key == "poll_turns" {
-        Some(Rule::Number {
-            least: 1,
-            greatest: MOST,
-        })
+        numbers(1, MOST)
     } else if key == "prefix_v4" {
         Some(Rule::Prefix { v6: false })
     } else if key == "prefix_v6" {
         Some(Rule::Prefix { v6: true })
     } else if key == "requests" {
-        Some(Rule::Number {
-            least: 1,
-            greatest: MOST,
-        })
+        numbers(1, MOST)
     } else if key == "server_url" {
         Some(Rule::Text(TextRule::Visible))
     } else if key == "token" {
         Some(Rule::Text(TextRule::Visible))
     } else if key == "workers" {
-        Some(Rule::Number {
-            least: 1,
-            greatest: 64,
-        })
+        numbers(1, 64)
     } else {
         None
     }
