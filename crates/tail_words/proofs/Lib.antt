@@ -1,3 +1,4 @@
-pub mod CheckedLemmas
 pub mod FaultLemmas
+pub mod FieldLemmas
 pub mod LabelLemmas
+pub mod ListLemmas

@@ -1,2 +1,3 @@
 pub mod SettingsText
+pub mod SettingsValues
 pub mod Words

@@ -1,17 +1,20 @@
 -- The settings file, a TOML document: its first fault counts.
-use Rattle.std.specs.Prelude.{◌≡◌, ℕ, Bool, List, if◌then◌else◌, ◌||◌, Option, Some, None, Result, Ok, Err, codes, option_and_then}
+use Rattle.std.specs.Prelude.{◌≡◌, ℕ, Bool, true, false, List, [], ◌∷◌, ◌++◌, if◌then◌else◌, Option, Some, None, Result, Ok, Err, codes, option_and_then, unwrap_or}
+use Rattle.std.specs.Result.{result_ok, result_err}
 use Rattle.std.specs.Str.{bytes_eq, is_utf8}
-use Rattle.toml.specs.Data.{Data, Members, no_members, member, as_str, get_member}
+use Rattle.toml.specs.Data.{Data, Members, no_members, member, as_bool, as_table, get_member}
 use Rattle.toml.specs.Parse.{parse_document}
-use Rattle.net_rows.specs.Settings.{default_settings, is_domain, is_visible}
+use Rattle.tail_base.specs.Steps.{◌>>=◌, or_fault}
+use Rattle.net_addr.specs.Bits.{Block}
+use Rattle.net_rows.specs.Limits.{tailnet_v4, tailnet_v6}
+use Rattle.net_rows.specs.declared.settings.DnsSettings.{DnsSettings}
 use Rattle.net_rows.specs.declared.settings.SettingsFields.{SettingsFields}
+use Rattle.tail_words.specs.SettingsValues.{number, prefix, resolvers, routes, search_domains, text}
 use Rattle.tail_words.specs.declared.fault.SettingsFault.{SettingsFault}
 use Rattle.tail_words.specs.declared.fault.SettingsFault.TheVariants.{Refused, NoMemory}
-
-infixl 10 ◌>>=◌
-abbrev pub ◌>>=◌ : {A B : Type 0} → Result A SettingsFault → (A → Result B SettingsFault) → Result B SettingsFault
-(Ok x) >>= f = f x
-(Err e) >>= f = Err e
+use Rattle.tail_words.specs.declared.rule.Rule.{Rule}
+use Rattle.tail_words.specs.declared.rule.Rule.TheVariants.{Number, Prefix, Text}
+use Rattle.tail_words.specs.declared.rule.TextRule.TheVariants.{Any, Domain, Visible}
 
 -- the settings that were read are those, and so is the fault, but want of memory, which is free
 abbrev pub IsRead : Result SettingsFields SettingsFault → Result SettingsFields SettingsFault → Type 0
@@ -34,21 +37,39 @@ abbrev pub Gives : {A B : Type 0} → (A → B) → Result A SettingsFault → R
 Gives view (Ok x) read = read ≡ Ok (view x)
 Gives view (Err e) read = Fails e read
 
--- the value, or that fault
-abbrev pub or_fault : {A : Type 0} → SettingsFault → Option A → Result A SettingsFault
-or_fault e None = Err e
-or_fault e (Some x) = Ok x
+-- the rule of each key but `dns`
+unfoldable pub rule_of : List ℕ → Option Rule
+rule_of key =
+    if bytes_eq key (codes "base_domain") then Some (Text Domain)
+    else if bytes_eq key (codes "connections") then Some (Number 0 1000000000)
+    else if bytes_eq key (codes "database") then Some (Text Any)
+    else if bytes_eq key (codes "ephemeral_seconds") then Some (Number 1 1000000000)
+    else if bytes_eq key (codes "key_seconds") then Some (Number 0 1000000000)
+    else if bytes_eq key (codes "listen") then Some (Text Any)
+    else if bytes_eq key (codes "pending_seconds") then Some (Number 1 1000000000)
+    else if bytes_eq key (codes "poll_turns") then Some (Number 1 1000000000)
+    else if bytes_eq key (codes "prefix_v4") then Some (Prefix false)
+    else if bytes_eq key (codes "prefix_v6") then Some (Prefix true)
+    else if bytes_eq key (codes "requests") then Some (Number 1 1000000000)
+    else if bytes_eq key (codes "server_url") then Some (Text Visible)
+    else if bytes_eq key (codes "token") then Some (Text Visible)
+    else if bytes_eq key (codes "workers") then Some (Number 1 64)
+    else None
 
--- the rule that a value breaks, if it has to be a text that passes a test: its type, or the test
-abbrev pub broken_by : (List ℕ → Bool) → Option (List ℕ) → Option ℕ
-broken_by test None = Some 3
-broken_by test (Some text) = if test text then None else Some 4
+-- the number of the rule that a value breaks: a key without a rule is unknown
+abbrev pub broken_by : Option Rule → Data → Option ℕ
+broken_by None d = Some 2
+broken_by (Some (Number least greatest)) d = result_err (number least greatest d)
+broken_by (Some (Prefix v6)) d = result_err (prefix v6 d)
+broken_by (Some (Text rule)) d = result_err (text rule d)
 
--- the rule that an entry breaks: each key is known and has a text that keeps its rule
-abbrev pub broken_rule : List ℕ → Data → Option ℕ
-broken_rule key d =
-    if bytes_eq key (codes "base_domain") then broken_by is_domain (as_str d)
-    else if bytes_eq key (codes "server_url") || bytes_eq key (codes "token") then broken_by is_visible (as_str d)
+-- the number of the rule that an entry of `dns` breaks
+abbrev pub broken_in_dns : List ℕ → Data → Option ℕ
+broken_in_dns key d =
+    if bytes_eq key (codes "magic") then result_err (or_fault 3 (as_bool d))
+    else if bytes_eq key (codes "resolvers") then result_err (resolvers d)
+    else if bytes_eq key (codes "routes") then result_err (routes d)
+    else if bytes_eq key (codes "search") then result_err (search_domains d)
     else Some 2
 
 -- no rule is broken at a key
@@ -56,23 +77,90 @@ abbrev pub kept : List ℕ → Option ℕ → Result (Unit {0}) SettingsFault
 kept key None = Ok tt
 kept key (Some rule) = Err (Refused rule key)
 
--- the entries in their order keep their rules
+-- the entries of `dns` in byte order keep their rules
+abbrev pub dns_checked : Members → Result (Unit {0}) SettingsFault
+dns_checked no_members = Ok tt
+dns_checked (member key d more) = kept (codes "dns." ++ key) (broken_in_dns key d) >>= (λ _. dns_checked more)
+
+-- an entry keeps its rule; that of `dns` is a table whose entries do
+abbrev pub entry_checked : List ℕ → Data → Result (Unit {0}) SettingsFault
+entry_checked key d =
+    if bytes_eq key (codes "dns") then or_fault (Refused 3 (codes "dns")) (as_table d) >>= dns_checked
+    else kept key (broken_by (rule_of key) d)
+
+-- the entries in byte order keep their rules
 abbrev pub checked : Members → Result (Unit {0}) SettingsFault
 checked no_members = Ok tt
-checked (member key d more) = kept key (broken_rule key d) >>= (λ _. checked more)
+checked (member key d more) = entry_checked key d >>= (λ _. checked more)
+
+-- the value of a rule's kind
+abbrev pub number_by : Option Rule → Data → Option ℕ
+number_by (Some (Number least greatest)) d = result_ok (number least greatest d)
+number_by _ d = None
+
+abbrev pub prefix_by : Option Rule → Data → Option Block
+prefix_by (Some (Prefix v6)) d = result_ok (prefix v6 d)
+prefix_by _ d = None
+
+abbrev pub text_by : Option Rule → Data → Option (List ℕ)
+text_by (Some (Text rule)) d = result_ok (text rule d)
+text_by _ d = None
+
+-- the value at a key, if there is one
+abbrev pub number_at : List ℕ → Members → Option ℕ
+number_at key table = option_and_then (number_by (rule_of key)) (get_member key table)
+
+abbrev pub prefix_at : List ℕ → Members → Option Block
+prefix_at key table = option_and_then (prefix_by (rule_of key)) (get_member key table)
+
+abbrev pub text_at : List ℕ → Members → Option (List ℕ)
+text_at key table = option_and_then (text_by (rule_of key)) (get_member key table)
+
+-- the value at a key of `dns`, if there is one
+abbrev pub dns_at : List ℕ → Members → Option Data
+dns_at key table = option_and_then (get_member key) (option_and_then as_table (get_member (codes "dns") table))
 
 -- a text that has to be there
 abbrev pub required : List ℕ → Members → Result (List ℕ) SettingsFault
-required key table = or_fault (Refused 5 key) (option_and_then as_str (get_member key table))
+required key table = or_fault (Refused 5 key) (text_at key table)
 
--- the settings that a table gives: all but these three are the defaults
+-- the DNS settings, with their defaults
+abbrev pub dns_of : List ℕ → Members → DnsSettings
+dns_of base_domain table = record {
+  magic = unwrap_or (option_and_then as_bool (dns_at (codes "magic") table)) true;
+  resolvers = unwrap_or (option_and_then (λ d. result_ok (resolvers d)) (dns_at (codes "resolvers") table)) [];
+  routes = unwrap_or (option_and_then (λ d. result_ok (routes d)) (dns_at (codes "routes") table)) [];
+  search = unwrap_or (option_and_then (λ d. result_ok (search_domains d)) (dns_at (codes "search") table)) (base_domain ∷ []);
+}
+
+-- the settings of a checked table, with their defaults
+abbrev pub fields_of : List ℕ → List ℕ → List ℕ → Members → SettingsFields
+fields_of base_domain server_url token table = record {
+  base_domain = base_domain;
+  connections = unwrap_or (number_at (codes "connections") table) 0;
+  database = unwrap_or (text_at (codes "database") table) (codes ":memory:");
+  dns = dns_of base_domain table;
+  ephemeral_seconds = unwrap_or (number_at (codes "ephemeral_seconds") table) 1800;
+  key_seconds = unwrap_or (number_at (codes "key_seconds") table) 0;
+  listen = unwrap_or (text_at (codes "listen") table) (codes "127.0.0.1:8080");
+  pending_seconds = unwrap_or (number_at (codes "pending_seconds") table) 3600;
+  poll_turns = unwrap_or (number_at (codes "poll_turns") table) 1000;
+  prefix_v4 = unwrap_or (prefix_at (codes "prefix_v4") table) tailnet_v4;
+  prefix_v6 = unwrap_or (prefix_at (codes "prefix_v6") table) tailnet_v6;
+  requests = unwrap_or (number_at (codes "requests") table) 100000;
+  server_url = server_url;
+  token = token;
+  workers = unwrap_or (number_at (codes "workers") table) 4;
+}
+
+-- the settings that a table gives: its entries are checked, and then the keys that have to be there
 unfoldable pub settings_at : Members → Result SettingsFields SettingsFault
 settings_at table = do
   good ← checked table
   base_domain ← required (codes "base_domain") table
   server_url ← required (codes "server_url") table
   token ← required (codes "token") table
-  Ok (default_settings base_domain server_url token)
+  Ok (fields_of base_domain server_url token table)
 
 -- the table that a text is, if it is UTF-8 and a TOML document
 abbrev pub table_of : List ℕ → Option Members

@@ -2,6 +2,8 @@
 use Rattle.std.specs.Prelude.{ℕ, Bool, List, [], ◌∷◌, length, if◌then◌else◌, nat_le, ◌&&◌, Option, Some, None, codes, option_map}
 use Rattle.std.specs.List.{list_all}
 use Rattle.std.specs.Str.{bytes_eq}
+use Rattle.tail_words.specs.declared.words.Command.{Command}
+use Rattle.tail_words.specs.declared.words.Command.TheVariants.{Pipe as PipeCommand, PolicyCheck}
 use Rattle.tail_words.specs.declared.words.Pipe.{Pipe}
 
 -- what `pipe` is given: the settings file, and the key that is seeded
@@ -26,3 +28,27 @@ words_of (command ∷ file ∷ flag ∷ key ∷ []) =
     then Some (record { file = file; seed = Some key })
     else None
 words_of _ = None
+
+-- what the program is asked to do
+pub data CommandWords : Type 0 where
+  serves : PipeWords → CommandWords
+  checks_policy : List ℕ → CommandWords
+
+-- the words that a `Command` holds
+abbrev pub command_words : Command → CommandWords
+command_words (PipeCommand p) = serves (pipe_words p)
+command_words (PolicyCheck file) = checks_policy file.now
+
+-- the file of `policy-check FILE`
+abbrev pub policy_file : List (List ℕ) → Option (List ℕ)
+policy_file (command ∷ file ∷ []) = if bytes_eq command (codes "policy-check") then Some file else None
+policy_file _ = None
+
+-- the command that is not `policy-check`
+abbrev pub or_pipe : Option (List ℕ) → Option PipeWords → Option CommandWords
+or_pipe (Some file) pipe = Some (checks_policy file)
+or_pipe None pipe = option_map serves pipe
+
+-- `policy-check FILE`, or the words of `pipe`
+unfoldable pub command_of : List (List ℕ) → Option CommandWords
+command_of words = or_pipe (policy_file words) (words_of words)

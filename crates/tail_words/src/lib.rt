@@ -1,14 +1,19 @@
 //! The settings file and the words of the command line, read.
 #![tactic(auto)]
 
+mod dns;
 mod fault;
+mod lists;
+mod rule;
 mod rules;
 mod settings;
+mod table;
+mod values;
 mod words;
 
 pub use fault::SettingsFault;
 pub use settings::read_settings;
-pub use words::{Pipe, read_words};
+pub use words::{Command, Pipe, read_command, read_words};
 
 #[cfg(test)]
 mod tests;

@@ -1,67 +1,44 @@
 //! The settings file.
-ghost use Rattle.std.specs.Prelude.{◌≡◌, option_and_then, option_map};
-ghost use Rattle.toml.specs.Data.{as_str, get_member};
-ghost use Rattle.toml.specs.View.{view, table_view};
-ghost use Rattle.tail_words.specs.SettingsText.{Gives, IsFault, IsRead, broken_rule, checked, required, settings_at, settings_of};
+ghost use Rattle.std.specs.Prelude.{◌≡◌, IfOk, unwrap_or};
+ghost use Rattle.toml.specs.View.{table_view, view};
+ghost use Rattle.net_rows.specs.Limits.{tailnet_v4, tailnet_v6};
+ghost use Rattle.tail_words.specs.SettingsText.{Gives, IsRead, checked, entry_checked, fields_of, required, settings_at, settings_of, text_at};
 
-use crate::fault::SettingsFault;
-use crate::rules::{is_domain, is_visible};
-use net_rows::Settings;
+use crate::dns::{check_dns, dns_of};
+use crate::fault::{SettingsFault, refused};
+use crate::rule::rule_of;
+use crate::table::{broken_by, number_at, prefix_at, text_at};
+use net_addr::{Addr, Prefix};
+use net_rows::{Settings, SettingsFields};
 use std::alloc::Global;
-use tail_base::Text;
+use tail_base::{NoMemory, Text};
 use toml::{Table, Value};
 
-/// The number of the rule that an entry breaks, if it breaks one.
-fn broken_rule(key: &str, value: &Value) -> Option<u8>
-    ensures value { result ≡ broken_rule key.now (view value.now) }
+/// Checks an entry.
+fn check_entry(alloc: Global, key: &str, value: &Value) -> Result<(), SettingsFault>
+    ensures value { Gives (λ _. tt) result (entry_checked key.now (view value.now)) }
 {
-    if key == "base_domain" {
-        match value.as_str() {
-            Some(text) if is_domain(text.as_bytes()) => None,
-            Some(_) => Some(4),
-            None => Some(3),
-        }
-    } else if key == "server_url" || key == "token" {
-        match value.as_str() {
-            Some(text) if is_visible(text.as_bytes()) => None,
-            Some(_) => Some(4),
-            None => Some(3),
-        }
-    } else {
-        Some(2)
+    if key == "dns" {
+        return match value.as_table() {
+            Some(table) => check_dns(alloc, table),
+            None => Err(refused(alloc, 3, "dns")),
+        };
     }
-}
-
-/// The fault that a rule is broken by a key.
-fn refused(alloc: Global, rule: u8, key: &str) -> SettingsFault
-    ensures value { IsFault result (SettingsFault.Refused rule key.now) }
-{
-    match Text::from_str(alloc, key) {
-        Ok(key) => SettingsFault::Refused { rule, key },
-        Err(_) => SettingsFault::NoMemory,
+    match broken_by(rule_of(key), value) {
+        Some(rule) => Err(refused(alloc, rule, key)),
+        None => Ok(()),
     }
 }
 
 /// Checks the entries in their order.
+#[tactic(auto, using(crate::proofs::FaultLemmas::fails_first))]
 fn check_entries(alloc: Global, table: &Table) -> Result<(), SettingsFault>
     ensures value { Gives (λ _. tt) result (checked (table_view table.now)) }
 {
     for (key, value) in table.iter() {
-        if let Some(rule) = broken_rule(key.as_str(), value) {
-            return Err(refused(alloc, rule, key.as_str()));
-        }
+        check_entry(alloc, key.as_str(), value)?;
     }
     Ok(())
-}
-
-/// The text at a key.
-fn text_at<'a>(table: &'a Table, key: &str) -> Option<&'a str>
-    ensures value { option_map (λ t. t.now) result ≡ option_and_then as_str (get_member key.now (table_view table.now)) }
-{
-    match table.get(key) {
-        Some(value) => value.as_str(),
-        None => None,
-    }
 }
 
 /// The text of a key that has to be there.
@@ -74,6 +51,62 @@ fn required(alloc: Global, table: &Table, key: &str) -> Result<Text, SettingsFau
     }
 }
 
+/// The text at a key, or the default.
+fn text_or(alloc: Global, table: &Table, key: &str, default: &str) -> Result<Text, NoMemory>
+    ensures value { IfOk result (λ t. t ≡ unwrap_or (text_at key.now (table_view table.now)) default.now) }
+{
+    match text_at(table, key) {
+        Some(text) => Text::from_str(alloc, text),
+        None => Text::from_str(alloc, default),
+    }
+}
+
+/// 100.64.0.0/10, the addresses of carrier-grade NAT (RFC 6598 section 7).
+fn tailnet_v4() -> Prefix
+    ensures value { result ≡ tailnet_v4 }
+{
+    Prefix::new(Addr::new(false, 0x6440_0000), 10)
+}
+
+/// fd7a:115c:a1e0::/48, a prefix of unique local addresses (RFC 4193).
+fn tailnet_v6() -> Prefix
+    ensures value { result ≡ tailnet_v6 }
+{
+    Prefix::new(
+        Addr::new(true, 0xfd7a_115c_a1e0_0000_0000_0000_0000_0000),
+        48,
+    )
+}
+
+/// The settings of a table that was checked, with these texts.
+fn fields_of(
+    alloc: Global,
+    base_domain: Text,
+    server_url: Text,
+    token: Text,
+    table: &Table,
+) -> Result<SettingsFields, NoMemory>
+    ensures value { IfOk result (λ made. made ≡ fields_of base_domain server_url token (table_view table.now)) }
+{
+    Ok(SettingsFields {
+        connections: number_at(table, "connections").unwrap_or(0),
+        database: text_or(alloc, table, "database", ":memory:")?,
+        dns: dns_of(alloc, &base_domain, table)?,
+        ephemeral_seconds: number_at(table, "ephemeral_seconds").unwrap_or(1800),
+        key_seconds: number_at(table, "key_seconds").unwrap_or(0),
+        listen: text_or(alloc, table, "listen", "127.0.0.1:8080")?,
+        pending_seconds: number_at(table, "pending_seconds").unwrap_or(3600),
+        poll_turns: number_at(table, "poll_turns").unwrap_or(1000),
+        prefix_v4: prefix_at(table, "prefix_v4").unwrap_or(tailnet_v4()),
+        prefix_v6: prefix_at(table, "prefix_v6").unwrap_or(tailnet_v6()),
+        requests: number_at(table, "requests").unwrap_or(100_000),
+        workers: number_at(table, "workers").unwrap_or(4),
+        base_domain,
+        server_url,
+        token,
+    })
+}
+
 #[tactic(auto, unfolding(crate::specs::SettingsText::settings_at))]
 fn settings_from(alloc: Global, table: &Table) -> Result<Settings, SettingsFault>
     ensures value { Gives (λ s. s) result (settings_at (table_view table.now)) }
@@ -82,14 +115,27 @@ fn settings_from(alloc: Global, table: &Table) -> Result<Settings, SettingsFault
     let base_domain = required(alloc, table, "base_domain")?;
     let server_url = required(alloc, table, "server_url")?;
     let token = required(alloc, table, "token")?;
-    Ok(Settings::with_defaults(alloc, base_domain, server_url, token)?)
+    Ok(Settings::new(fields_of(alloc, base_domain, server_url, token, table)?))
 }
 
-/// The settings that a file gives, a TOML document with the keys `base_domain` (labels joined by
-/// dots, up to 180 bytes), `server_url` and `token` (1 to 255 visible ASCII bytes each), which all
-/// have to be there; the other settings are the defaults. The fault is the first: the file isn't a
-/// TOML document in UTF-8; or, key by key in byte order, the key is unknown, its value isn't a
-/// string, or the string is against the key's rule; or a key is missing, in byte order.
+/// The settings that a file gives, a TOML document. The keys `base_domain` (labels joined by dots,
+/// up to 180 bytes), `server_url` and `token` (1 to 255 visible ASCII bytes each) have to be there.
+/// These have defaults:
+///
+/// - `connections` (0 to 1000000000, by default 0), `key_seconds` (the same);
+/// - `ephemeral_seconds` (1 to 1000000000, by default 1800), `pending_seconds` (3600), `poll_turns`
+///   (1000), `requests` (100000);
+/// - `workers` (1 to 64, by default 4);
+/// - `database` and `listen` (texts, by default `:memory:` and `127.0.0.1:8080`);
+/// - `prefix_v4` (within 100.64.0.0/10 with a length up to 30, by default that prefix), `prefix_v6`
+///   (within fd7a:115c:a1e0::/48 with a length up to 126, by default that prefix);
+/// - in the table `dns`: `magic` (a truth value, by default true), `resolvers` (up to 16 addresses, by
+///   default none), `routes` (a table of up to 64 domains with up to 16 addresses each, by default
+///   empty), `search` (up to 16 domains, by default the base domain).
+///
+/// The fault is the first: the file isn't a TOML document in UTF-8; or, key by key in byte order, the
+/// key is unknown, its value or an element of it has another type, or it is against the key's rule; or
+/// a key is missing, in byte order. The keys of `dns` go in its place, and are named `dns.KEY`.
 #[tactic(auto, unfolding(crate::specs::SettingsText::settings_of))]
 pub fn read_settings(alloc: Global, text: &[u8]) -> Result<Settings, SettingsFault>
     ensures value { IsRead result (settings_of text.now) }

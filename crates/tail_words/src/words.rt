@@ -1,6 +1,6 @@
 //! The words of the command line.
 ghost use Rattle.std.specs.Prelude.{◌≡◌, map, option_map, string_bytes};
-ghost use Rattle.tail_words.specs.Words.{is_seed, pipe_words, words_of};
+ghost use Rattle.tail_words.specs.Words.{command_of, command_words, is_seed, pipe_words, policy_file, words_of};
 
 use crate::rules::has_visible_bytes;
 
@@ -11,6 +11,15 @@ pub struct Pipe<'a> {
     pub file: &'a str,
     /// The text of a pre-auth key that the tailnet begins with.
     pub seed: Option<&'a str>,
+}
+
+/// What the program is asked to do.
+#[derive(Clone, Copy)]
+pub enum Command<'a> {
+    /// To serve requests on the source and answer on the sink.
+    Pipe(Pipe<'a>),
+    /// To check the policy in this file.
+    PolicyCheck { file: &'a str },
 }
 
 /// Whether the text is 1 to 128 visible ASCII bytes.
@@ -48,5 +57,29 @@ pub fn read_words(words: &[String]) -> Option<Pipe<'_>>
             }
         }
         _ => None,
+    }
+}
+
+/// The file of `policy-check FILE`.
+fn policy_file(words: &[String]) -> Option<&str>
+    ensures value { option_map (λ t. t.now) result ≡ policy_file (map string_bytes words.now) }
+{
+    match words {
+        [command, file] if command.as_str() == "policy-check" => Some(file.as_str()),
+        _ => None,
+    }
+}
+
+/// The command that the words after the program's name are: `policy-check FILE`, or those of `pipe`.
+#[tactic(auto, unfolding(crate::specs::Words::command_of))]
+pub fn read_command(words: &[String]) -> Option<Command<'_>>
+    ensures value { option_map command_words result ≡ command_of (map string_bytes words.now) }
+{
+    match policy_file(words) {
+        Some(file) => Some(Command::PolicyCheck { file }),
+        None => match read_words(words) {
+            Some(pipe) => Some(Command::Pipe(pipe)),
+            None => None,
+        },
     }
 }

@@ -6,7 +6,8 @@ use Rattle.std.proofs.lemmas.Str.{IsUtf8-from_is_utf8, is_utf8-from_IsUtf8}
 use Rattle.toml.specs.Data.{Members}
 use Rattle.toml.specs.Parse.{parse_document}
 use Rattle.tail_words.specs.declared.fault.SettingsFault.TheVariants.{Refused}
-use Rattle.tail_words.specs.SettingsText.{◌>>=◌, or_fault, settings_at, settings_of, table_of}
+use Rattle.tail_words.specs.SettingsText.{settings_at, settings_of, table_of}
+use Rattle.tail_base.specs.Steps.{◌>>=◌, or_fault}
 use Rattle.tail_words.proofs.FaultLemmas.{fails_from, read_from}
 use Rattle.tail_words.proofs.settings.read_settings.Goals as goal
 

@@ -1,6 +1,6 @@
 use Rattle.std.proofs.Common.{ap, sym}
 use Rattle.tail_words.specs.declared.fault.SettingsFault.TheVariants.{Refused}
-use Rattle.tail_words.specs.SettingsText.{or_fault}
+use Rattle.tail_base.specs.Steps.{or_fault}
 use Rattle.tail_words.proofs.FaultLemmas.{fails_from}
 use Rattle.tail_words.proofs.settings.required.Goals as goal
 

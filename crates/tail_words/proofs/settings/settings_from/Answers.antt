@@ -1,18 +1,14 @@
-use Rattle.std.proofs.Common.{refl}
-use Rattle.std.specs.Prelude.{codes}
-use Rattle.net_rows.specs.Settings.{is_domain, is_visible}
+use Rattle.std.proofs.Common.{sym, subst}
+use Rattle.net_rows.specs.Settings.{AreSettings}
+use Rattle.toml.specs.Data.{Members}
 use Rattle.toml.specs.View.{table_view}
-use Rattle.tail_words.proofs.CheckedLemmas.{text_kept}
+use Rattle.tail_words.proofs.FieldLemmas.{base_domain_in, fields_fit, server_url_in, token_in}
 use Rattle.tail_words.proofs.settings.settings_from.Goals as goal
 
-pub with_defaults-requires-clause-domain : goal.with_defaults-requires-clause-domain
-with_defaults-requires-clause-domain c =
-    text_kept (codes "base_domain") is_domain (table_view c.args.table.now) _ (λ d. refl) c.in_ok-check_entries.ensures.value c.in_ok-base_domain.ensures.value
-
-pub with_defaults-requires-clause-url : goal.with_defaults-requires-clause-url
-with_defaults-requires-clause-url c =
-    text_kept (codes "server_url") is_visible (table_view c.args.table.now) _ (λ d. refl) c.in_ok-check_entries.ensures.value c.in_ok-server_url.ensures.value
-
-pub with_defaults-requires-clause-token : goal.with_defaults-requires-clause-token
-with_defaults-requires-clause-token c =
-    text_kept (codes "token") is_visible (table_view c.args.table.now) _ (λ d. refl) c.in_ok-check_entries.ensures.value c.in_ok-token.ensures.value
+pub new-requires : goal.new-requires
+new-requires c =
+    let table : Members = table_view c.args.table.now in
+    let base = base_domain_in table _ c.in_ok-base_domain.ensures.value in
+    let url = server_url_in table _ c.in_ok-server_url.ensures.value in
+    let token = token_in table _ c.in_ok-token.ensures.value in
+    record { rules = subst AreSettings (sym c.in_ok-fields_of.ensures.value) (fields_fit _ _ _ table base url token) }
