@@ -5,10 +5,7 @@ use std::alloc::Global;
 use tail_base::{Duplicate, NoMemory};
 
 /// A copy of the value, if there is one.
-pub(crate) fn copy_of<T: Duplicate>(
-    alloc: Global,
-    value: &Option<T>,
-) -> Result<Option<T>, NoMemory>
+pub(crate) fn copy_of<T: Duplicate>(alloc: Global, value: &Option<T>) -> Result<Option<T>, NoMemory>
     ensures equal { IfOk result (λ made. made ≡ value.now) }
 {
     match value {

@@ -59,11 +59,7 @@ pub(crate) fn short_text_of(
 }
 
 /// A number in plain digits up to a greatest; 0 where it is absent.
-pub(crate) fn number_of(
-    object: Option<&Value>,
-    field: Field,
-    limit: u64,
-) -> Result<u64, WireFault>
+pub(crate) fn number_of(object: Option<&Value>, field: Field, limit: u64) -> Result<u64, WireFault>
     ensures value { Gives (λ n. n) result (optional field 0 (whole_up_to limit) (option_map (λ v. view v.now) object.entry)) }
     ensures limited { IfOk result (λ n. n ≤ limit) }
 {

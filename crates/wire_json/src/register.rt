@@ -7,7 +7,9 @@ use crate::body::{object_of, object_of_body};
 use crate::fault::WireFault;
 use crate::field::Field;
 use crate::limits::{ASKED_TAG_LIMIT, HOST_LIMIT, ROUTE_LIMIT};
-use crate::readers::{flag_of, node_key_of, short_text_of, some_node_key_of, some_time_of, text_of};
+use crate::readers::{
+    flag_of, node_key_of, short_text_of, some_node_key_of, some_time_of, text_of,
+};
 use crate::routes::sorted_routes;
 use crate::spelled::list_of;
 use moments::Moment;

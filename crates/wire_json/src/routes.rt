@@ -39,10 +39,7 @@ fn place_of(held: &[Prefix], route: &Prefix) -> RoutePlace
 }
 
 /// The routes by family, base and length, each once.
-pub(crate) fn sorted_routes(
-    alloc: Global,
-    routes: &[Prefix],
-) -> Result<Items<Prefix>, NoMemory>
+pub(crate) fn sorted_routes(alloc: Global, routes: &[Prefix]) -> Result<Items<Prefix>, NoMemory>
     ensures value { IfOk result (λ made. made ≡ sorted_routes routes.now) }
 {
     let mut held: Vec<Prefix> = Vec::new(alloc);

@@ -50,7 +50,10 @@ fn bodies_that_are_no_objects(rt: HostRuntime) -> Result<(), Fail> {
         b"{} {}".as_slice(),
     ] {
         assert_eq!(rt; read_register(alloc, body).err(), Some(WireFault::NotJson));
-        assert_eq!(rt; read_map_request(alloc, body).err(), Some(WireFault::NotJson));
+        assert_eq!(rt;
+            read_map_request(alloc, body).err(),
+            Some(WireFault::NotJson)
+        );
     }
     let missing = WireFault::Missing(Field::NodeKey);
     let broken = WireFault::BadField(Field::NodeKey);
@@ -61,8 +64,16 @@ fn bodies_that_are_no_objects(rt: HostRuntime) -> Result<(), Fail> {
         ("{\"NodeKey\":\"nodekey:00\"}", broken),
         ("{\"NodeKey\":3}", broken),
     ] {
-        assert_eq!(rt; read_register(alloc, body.as_bytes()).err(), Some(fault), "{body}");
-        assert_eq!(rt; read_map_request(alloc, body.as_bytes()).err(), Some(fault), "{body}");
+        assert_eq!(rt;
+            read_register(alloc, body.as_bytes()).err(),
+            Some(fault),
+            "{body}"
+        );
+        assert_eq!(rt;
+            read_map_request(alloc, body.as_bytes()).err(),
+            Some(fault),
+            "{body}"
+        );
     }
     let zero = format!(in alloc; "{{\"NodeKey\":\"nodekey:{ZEROS}\"}}")?;
     assert_eq!(rt; read_register(alloc, zero.as_bytes()).err(), Some(broken));
@@ -73,17 +84,35 @@ fn bodies_that_are_no_objects(rt: HostRuntime) -> Result<(), Fail> {
 fn faults_of_registrations(rt: HostRuntime) -> Result<(), Fail> {
     let alloc = rt.alloc();
     for (more, field) in [
-        (",\"OldNodeKey\":\"nodekey:0\",\"Auth\":1", Field::OldNodeKey),
+        (
+            ",\"OldNodeKey\":\"nodekey:0\",\"Auth\":1",
+            Field::OldNodeKey,
+        ),
         (",\"Auth\":[],\"Expiry\":1", Field::Auth),
         (",\"Auth\":{\"AuthKey\":1},\"Expiry\":1", Field::AuthKey),
-        (",\"Expiry\":\"2001-02-29T00:00:00Z\",\"Ephemeral\":1", Field::Expiry),
+        (
+            ",\"Expiry\":\"2001-02-29T00:00:00Z\",\"Ephemeral\":1",
+            Field::Expiry,
+        ),
         (",\"Ephemeral\":1,\"Hostinfo\":1", Field::Ephemeral),
         (",\"Hostinfo\":[]", Field::Hostinfo),
-        (",\"Hostinfo\":{\"Hostname\":1,\"RoutableIPs\":1}", Field::Hostname),
-        (",\"Hostinfo\":{\"RoutableIPs\":{},\"RequestTags\":1}", Field::RoutableIps),
-        (",\"Hostinfo\":{\"RoutableIPs\":[\"10.0.0.1/8\"]}", Field::RoutableIps),
+        (
+            ",\"Hostinfo\":{\"Hostname\":1,\"RoutableIPs\":1}",
+            Field::Hostname,
+        ),
+        (
+            ",\"Hostinfo\":{\"RoutableIPs\":{},\"RequestTags\":1}",
+            Field::RoutableIps,
+        ),
+        (
+            ",\"Hostinfo\":{\"RoutableIPs\":[\"10.0.0.1/8\"]}",
+            Field::RoutableIps,
+        ),
         (",\"Hostinfo\":{\"RoutableIPs\":[null]}", Field::RoutableIps),
-        (",\"Hostinfo\":{\"RequestTags\":[\"web\"]}", Field::RequestTags),
+        (
+            ",\"Hostinfo\":{\"RequestTags\":[\"web\"]}",
+            Field::RequestTags,
+        ),
     ] {
         let fault = WireFault::BadField(field);
         assert_eq!(rt; register(alloc, more)?.err(), Some(fault), "{more}");
@@ -102,17 +131,44 @@ fn faults_of_map_requests(rt: HostRuntime) -> Result<(), Fail> {
         (",\"Stream\":0,\"OmitPeers\":0", Field::Stream),
         (",\"OmitPeers\":\"\",\"ReadOnly\":0", Field::OmitPeers),
         (",\"ReadOnly\":[],\"MapSessionHandle\":0", Field::ReadOnly),
-        (",\"MapSessionHandle\":0,\"MapSessionSeq\":-1", Field::MapSessionHandle),
-        (",\"MapSessionSeq\":1e0,\"Endpoints\":1", Field::MapSessionSeq),
+        (
+            ",\"MapSessionHandle\":0,\"MapSessionSeq\":-1",
+            Field::MapSessionHandle,
+        ),
+        (
+            ",\"MapSessionSeq\":1e0,\"Endpoints\":1",
+            Field::MapSessionSeq,
+        ),
         (",\"MapSessionSeq\":-0", Field::MapSessionSeq),
-        (",\"MapSessionSeq\":18446744073709551616", Field::MapSessionSeq),
-        (",\"Endpoints\":[\"1.2.3.4\"],\"DiscoKey\":1", Field::Endpoints),
-        (",\"DiscoKey\":\"discokey:0\",\"Hostinfo\":1", Field::DiscoKey),
+        (
+            ",\"MapSessionSeq\":18446744073709551616",
+            Field::MapSessionSeq,
+        ),
+        (
+            ",\"Endpoints\":[\"1.2.3.4\"],\"DiscoKey\":1",
+            Field::Endpoints,
+        ),
+        (
+            ",\"DiscoKey\":\"discokey:0\",\"Hostinfo\":1",
+            Field::DiscoKey,
+        ),
         (",\"Hostinfo\":true", Field::Hostinfo),
-        (",\"Hostinfo\":{\"Hostname\":{},\"NetInfo\":1}", Field::Hostname),
-        (",\"Hostinfo\":{\"NetInfo\":1,\"RoutableIPs\":1}", Field::NetInfo),
-        (",\"Hostinfo\":{\"NetInfo\":{\"PreferredDERP\":65536}}", Field::PreferredDerp),
-        (",\"Hostinfo\":{\"RoutableIPs\":[\"::/129\"]}", Field::RoutableIps),
+        (
+            ",\"Hostinfo\":{\"Hostname\":{},\"NetInfo\":1}",
+            Field::Hostname,
+        ),
+        (
+            ",\"Hostinfo\":{\"NetInfo\":1,\"RoutableIPs\":1}",
+            Field::NetInfo,
+        ),
+        (
+            ",\"Hostinfo\":{\"NetInfo\":{\"PreferredDERP\":65536}}",
+            Field::PreferredDerp,
+        ),
+        (
+            ",\"Hostinfo\":{\"RoutableIPs\":[\"::/129\"]}",
+            Field::RoutableIps,
+        ),
     ] {
         let fault = WireFault::BadField(field);
         assert_eq!(rt; map_request(alloc, more)?.err(), Some(fault), "{more}");
@@ -154,11 +210,16 @@ fn limits(rt: HostRuntime) -> Result<(), Fail> {
 #[test]
 fn a_registration(rt: HostRuntime) -> Result<(), Fail> {
     let alloc = rt.alloc();
-    let bare = register(alloc, ",\"Auth\":{},\"Expiry\":\"0001-01-01T01:00:00+01:00\"")??;
+    let bare = register(
+        alloc,
+        ",\"Auth\":{},\"Expiry\":\"0001-01-01T01:00:00+01:00\"",
+    )??;
     assert_eq!(rt; bare.node, NodeKey([0xaa; 32]));
     assert!(rt; bare.old.is_none() && bare.auth.is_empty() && bare.expiry.is_none());
     assert!(rt; !bare.ephemeral && bare.host.is_empty() && bare.routes.is_empty());
-    let more = format!(in alloc; ",\"OldNodeKey\":\"nodekey:{ZEROS}\",\"Ephemeral\":false,\"Ephemeral\":true,\"Expiry\":\"1970-01-01T00:00:01Z\",\"Auth\":{{\"AuthKey\":\"k1\"}},\"Hostinfo\":{{\"Hostname\":\"h\",\"RoutableIPs\":[\"fd00::/8\",\"10.0.0.0/9\",\"10.0.0.0/8\",\"10.0.0.0/9\"],\"RequestTags\":[\"tag:b\",\"tag:a\"]}}")?;
+    let more = format!(in alloc;
+        ",\"OldNodeKey\":\"nodekey:{ZEROS}\",\"Ephemeral\":false,\"Ephemeral\":true,\"Expiry\":\"1970-01-01T00:00:01Z\",\"Auth\":{{\"AuthKey\":\"k1\"}},\"Hostinfo\":{{\"Hostname\":\"h\",\"RoutableIPs\":[\"fd00::/8\",\"10.0.0.0/9\",\"10.0.0.0/8\",\"10.0.0.0/9\"],\"RequestTags\":[\"tag:b\",\"tag:a\"]}}"
+    )?;
     let full = register(alloc, more.as_str())??;
     assert!(rt; full.old.is_none() && full.ephemeral);
     assert_eq!(rt; full.auth.as_str(), "k1");
@@ -181,7 +242,10 @@ fn a_map_request(rt: HostRuntime) -> Result<(), Fail> {
     let bare = map_request(alloc, ",\"Compress\":\"\"")??;
     assert!(rt; !bare.stream && !bare.omit_peers && !bare.read_only && bare.seq == 0);
     assert!(rt; bare.update.host.is_none() && bare.update.disco.is_none());
-    let full = map_request(alloc, ",\"Stream\":true,\"MapSessionHandle\":\"s1-0\",\"MapSessionSeq\":18446744073709551615,\"Endpoints\":[\"[fd00::1]:5\"],\"DiscoKey\":\"discokey:1111111111111111111111111111111111111111111111111111111111111111\",\"Hostinfo\":{\"Hostname\":\"\",\"NetInfo\":{}}")??;
+    let full = map_request(
+        alloc,
+        ",\"Stream\":true,\"MapSessionHandle\":\"s1-0\",\"MapSessionSeq\":18446744073709551615,\"Endpoints\":[\"[fd00::1]:5\"],\"DiscoKey\":\"discokey:1111111111111111111111111111111111111111111111111111111111111111\",\"Hostinfo\":{\"Hostname\":\"\",\"NetInfo\":{}}",
+    )??;
     let full = full.copy(alloc)?;
     assert!(rt; full.stream && full.seq == 18_446_744_073_709_551_615);
     assert_eq!(rt; full.handle.as_str(), "s1-0");

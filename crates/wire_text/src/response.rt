@@ -14,11 +14,31 @@ fn peer_members(alloc: Global, response: &Response) -> Result<Map<String, Value>
     ensures value { IfOk result (λ m. members_view m.entries ≡ peer_members response.now) }
 {
     let mut members = Map::new(alloc);
-    put_list(&mut members, alloc, "UserProfiles", response.profiles.as_slice())?;
+    put_list(
+        &mut members,
+        alloc,
+        "UserProfiles",
+        response.profiles.as_slice(),
+    )?;
     put_option(&mut members, alloc, "Seq", &response.seq)?;
-    put_list(&mut members, alloc, "PeersRemoved", response.removed.as_slice())?;
-    put_list(&mut members, alloc, "PeersChangedPatch", response.patches.as_slice())?;
-    put_list(&mut members, alloc, "PeersChanged", response.changed.as_slice())?;
+    put_list(
+        &mut members,
+        alloc,
+        "PeersRemoved",
+        response.removed.as_slice(),
+    )?;
+    put_list(
+        &mut members,
+        alloc,
+        "PeersChangedPatch",
+        response.patches.as_slice(),
+    )?;
+    put_list(
+        &mut members,
+        alloc,
+        "PeersChanged",
+        response.changed.as_slice(),
+    )?;
     put_list(&mut members, alloc, "Peers", response.peers.as_slice())?;
     Ok(members)
 }
