@@ -1,7 +1,7 @@
 -- What the whole program comes to.
 use Rattle.std.specs.Prelude.{◌≡◌, ℕ, false, Option, None, Some, List, IfSome}
 use Rattle.io_edge.specs.Edge.{IsWhereTold}
-use Rattle.tail_words.specs.Commands.{CommandWords, pipe, policy_check}
+use Rattle.tail_words.specs.Words.{CommandWords, serves, checks_policy}
 use Rattle.tailnetd.specs.Check.{Checked, check_line}
 use Rattle.tailnetd.specs.Lines.{Noted, usage_line}
 use Rattle.tailnetd.specs.Pipe.{Outcome}
@@ -19,9 +19,9 @@ pub record Unread (old new : World) : Type 0 where
 abbrev pub Top : Option CommandWords → Status → (List ℕ → Option (Option (List ℕ))) → ℕ → ℕ → World → World → Option (List ℕ) → Option (List ℕ) → ℕ → ℕ → Type 0
 Top None ended files before now old new errors errors_after error_faults error_faults_after =
     (ended ≡ status.Usage) × Untouched old new × Noted usage_line false errors errors_after error_faults error_faults_after
-Top (Some (pipe given)) ended files before now old new errors errors_after error_faults error_faults_after =
+Top (Some (serves given)) ended files before now old new errors errors_after error_faults error_faults_after =
     Outcome ended (files given.file) before now given.seed old new errors errors_after error_faults error_faults_after
-Top (Some (policy_check file)) ended files before now old new errors errors_after error_faults error_faults_after =
+Top (Some (checks_policy file)) ended files before now old new errors errors_after error_faults error_faults_after =
     Unread old new
     × Checked ended (files file) before now old.told.giving.held new.told.giving.held old.told.giving.write_faults new.told.giving.write_faults
     × Noted (check_line ended) false errors errors_after error_faults error_faults_after

@@ -1,6 +1,6 @@
 //! The top call.
 ghost use Rattle.std.specs.Prelude.{◌≡◌, map, string_bytes};
-ghost use Rattle.tail_words.specs.Commands.{command_of};
+ghost use Rattle.tail_words.specs.Words.{command_of};
 ghost use Rattle.tailnetd.specs.Outside.{giving};
 ghost use Rattle.tailnetd.specs.Run.{world};
 ghost use Rattle.tailnetd.specs.Serve.{told};
