@@ -17,3 +17,6 @@ pub use profile::profile_of;
 pub use response::first_response;
 pub use view::View;
 
+
+#[cfg(test)]
+mod tests;

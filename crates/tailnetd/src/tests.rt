@@ -1,6 +1,8 @@
 //! Requests through `pipe`, byte for byte, over memory objects.
+mod checks;
 mod edges;
 mod faults;
+mod maps;
 
 use crate::piping::pipe_command;
 use crate::status::Status;
