@@ -2,11 +2,9 @@
 #![tactic(auto)]
 
 mod asking;
-mod header;
 mod replies;
 mod want;
 
 pub use asking::wanted;
-pub use header::HeaderKey;
 pub use replies::reply_answer;
 pub use want::Wanted;

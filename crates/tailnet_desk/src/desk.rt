@@ -14,7 +14,6 @@ ghost use Rattle.tailnet_desk.specs.declared.entry.Event.TheVariants as event;
 use crate::ask::Ask;
 use crate::decision::{Decision, Stop};
 use crate::life::Snapshot;
-use crate::one_map::one_map;
 use crate::opening::{all_offline_of, unserved};
 use crate::presence::{MachinePresence, Presence};
 use crate::register::register;
@@ -70,7 +69,6 @@ fn decision_of(alloc: Global, at: &Snapshot<'_>, ask: &Ask) -> Result<Decision, 
     match ask {
         Ask::Seed { text } => seed(alloc, at, text),
         Ask::Register { machine, form } => register(alloc, at, machine, form),
-        Ask::OneMap { machine, node } => one_map(alloc, at, machine, node),
     }
 }
 

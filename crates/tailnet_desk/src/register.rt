@@ -8,7 +8,7 @@ ghost use Rattle.tailnet_desk.specs.Register as spec;
 
 use crate::decision::{Decision, Stop};
 use crate::life::{Snapshot, is_ahead, is_live};
-use map_delta::profile_of;
+use crate::profile::profile_of;
 use crate::reply::{Answer, Refusal, Scarce};
 use crate::tags::sorted_once;
 use allot::{free_name, least_address};

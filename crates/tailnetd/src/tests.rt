@@ -2,7 +2,6 @@
 mod checks;
 mod edges;
 mod faults;
-mod maps;
 
 use crate::piping::pipe_command;
 use crate::status::Status;

@@ -1,7 +1,3 @@
 pub mod Body
-pub mod Fields
-pub mod MapRequest
-pub mod Readers
 pub mod Register
-pub mod RoutePlaces
-pub mod Routes
+pub mod Registered

@@ -1,6 +1,0 @@
-pub mod Dns
-pub mod Filters
-pub mod Nodes
-pub mod Parts
-pub mod Registered
-pub mod Responses
