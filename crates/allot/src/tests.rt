@@ -1,10 +1,10 @@
 use crate::names::free_label;
 use crate::{free_name, least_free};
+use moments::Moment;
+use net_addr::{Addr, Prefix};
 use net_rows::{Machine, Tables};
 use std::alloc::Global;
 use std::test::Fail;
-use moments::Moment;
-use net_addr::{Addr, Prefix};
 use tail_base::{DiscoKey, Items, Label, MachineKey, NodeKey, Text};
 
 fn machine(alloc: Global, name: Label, v4: Addr) -> Machine {

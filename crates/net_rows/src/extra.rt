@@ -1,8 +1,8 @@
 //! Extra DNS records.
 ghost use Rattle.std.specs.Prelude.{◌≡◌};
 
-use std::alloc::Global;
 use net_addr::Addr;
+use std::alloc::Global;
 use tail_base::{Duplicate, NoMemory, Text};
 
 /// An extra DNS record, `A` or `AAAA` by the family of its address.

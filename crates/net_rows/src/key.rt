@@ -2,8 +2,8 @@
 ghost use Rattle.std.specs.Prelude.{◌≡◌};
 
 use crate::id::HasId;
-use std::alloc::Global;
 use moments::Moment;
+use std::alloc::Global;
 use tail_base::{Duplicate, Items, NoMemory, Tag, Text};
 
 /// A pre-auth key: a text by which a machine registers for a user with no operator at hand.

@@ -2,9 +2,9 @@
 ghost use Rattle.std.specs.Prelude.{◌≡◌};
 
 use crate::id::HasId;
-use std::alloc::Global;
 use moments::Moment;
 use net_addr::{Addr, Endpoint, Prefix};
+use std::alloc::Global;
 use tail_base::{DiscoKey, Duplicate, Items, Label, MachineKey, NoMemory, NodeKey, Tag, Text};
 
 /// A machine of the tailnet, also one whose life has ended: its row keeps its keys, name and

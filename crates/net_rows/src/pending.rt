@@ -2,9 +2,9 @@
 ghost use Rattle.std.specs.Prelude.{◌≡◌};
 
 use crate::id::HasId;
-use std::alloc::Global;
 use moments::Moment;
 use net_addr::Prefix;
+use std::alloc::Global;
 use tail_base::{Duplicate, Items, MachineKey, NoMemory, NodeKey, Tag, Text};
 
 /// A machine that waits for an operator to admit it, with what it asked for.

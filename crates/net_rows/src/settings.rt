@@ -2,9 +2,9 @@
 ghost use Rattle.std.specs.Prelude.{◌≡◌, true, IfOk, ℕ, List};
 ghost use Rattle.net_rows.specs.Settings.{AreSettings, default_settings, is_domain, is_visible};
 
+use net_addr::{Addr, Prefix};
 use std::alloc::Global;
 use std::marker::Model;
-use net_addr::{Addr, Prefix};
 use tail_base::{Duplicate, Items, NoMemory, Text};
 
 /// The addresses of the resolvers of a domain (split DNS).

@@ -3,9 +3,9 @@ ghost use Rattle.net_rows.specs.Rows.{after, empty_rows};
 ghost use Rattle.net_rows.specs.Damage.{damage};
 
 use crate::{AuthKey, Change, Counters, Damage, Kind, Pending, Row, Rows, Settings, Tables, User};
+use moments::Moment;
 use std::alloc::Global;
 use std::test::Fail;
-use moments::Moment;
 use tail_base::{Items, Login, MachineKey, NoMemory, NodeKey, Text};
 
 fn text(rt: &HostRuntime, text: &str) -> Result<Text, Fail>

@@ -20,11 +20,11 @@ use crate::register::register;
 use crate::reply::{Answer, Refusal, Reply};
 use crate::seed::seed;
 use io_edge::EdgeFault;
+use moments::Moment;
 use net_rows::{Change, Damage, Kind, Settings, Shelf, Tables};
 use row_keeper::{Keeper, LoadFault};
 use std::alloc::Global;
 use std::marker::Model;
-use moments::Moment;
 use tail_base::{Items, NoMemory};
 
 /// The Tailnet machine over a keeper. Contracts see it as its state and its keeper, which has the

@@ -81,12 +81,7 @@ fn say<O: Sink>(output: &mut O, verdict: &Verdict) -> Status
 }
 
 /// Reads a policy file and writes what is said of it.
-fn check_file<O: Sink, F: Files>(
-    alloc: Global,
-    file: &str,
-    output: &mut O,
-    files: &mut F,
-) -> Status
+fn check_file<O: Sink, F: Files>(alloc: Global, file: &str, output: &mut O, files: &mut F) -> Status
     ensures checked { Checked result (F.holds files.old file.now) (F.faults files.old) (F.faults files.new) (O.holds output.old) (O.holds output.new) (O.write_faults output.old) (O.write_faults output.new) }
 {
     let text = match files.read(alloc, file, FILE_LIMIT) {
