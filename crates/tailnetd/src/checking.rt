@@ -56,7 +56,7 @@ fn fault_verdict(alloc: Global, code: PolicyCode, place: &Text) -> Result<Verdic
 }
 
 /// What is said of a text.
-fn verdict(alloc: Global, text: &[u8]) -> Result<Verdict, NoMemory>
+fn judge(alloc: Global, text: &[u8]) -> Result<Verdict, NoMemory>
     ensures line { IfOk result (λ v. v.line ≡ verdict_line (verdict_of text.now)) }
     ensures status { IfOk result (λ v. v.status ≡ verdict_status (verdict_of text.now)) }
 {
@@ -90,7 +90,7 @@ fn check_file<O: Sink, F: Files>(alloc: Global, file: &str, output: &mut O, file
         Err(FileFault::TooLarge) => return Status::Settings,
         Err(FileFault::NoMemory) => return Status::NoMemory,
     };
-    match verdict(alloc, &text) {
+    match judge(alloc, &text) {
         Ok(verdict) => say(output, &verdict),
         Err(NoMemory) => Status::NoMemory,
     }
