@@ -6,4 +6,3 @@ pub mod TalkLemmas
 pub mod RunLemmas
 pub mod PipeLemmas
 pub mod CompleteLemmas
-pub mod CheckLemmas
