@@ -22,6 +22,3 @@ pub use entry::{Entry, Event};
 pub use presence::{MachinePresence, Presence};
 pub use reply::{Answer, Refusal, Reply, Scarce};
 pub use turns::Turns;
-
-#[cfg(test)]
-mod tests;
