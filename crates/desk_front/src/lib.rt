@@ -8,6 +8,3 @@ mod want;
 pub use asking::wanted;
 pub use replies::reply_answer;
 pub use want::Wanted;
-
-#[cfg(test)]
-mod tests;
