@@ -1,11 +1,12 @@
 -- The bytes of a reply: its status and its body.
 use Rattle.std.specs.Prelude.{ℕ, List, ◌++◌, Bool, codes, decimal}
 use Rattle.http_front.specs.AnswerBytes.{answer}
-use Rattle.wire_json.specs.Registered.{registered_text}
+use Rattle.map_delta.specs.Frames.{frame_of}
+use Rattle.wire_text.specs.Registered.{registered_text}
 use Rattle.tailnet_desk.specs.declared.reply.Answer.{Answer}
-use Rattle.tailnet_desk.specs.declared.reply.Answer.TheVariants.{Registered, Gone}
+use Rattle.tailnet_desk.specs.declared.reply.Answer.TheVariants.{Registered, Map, Gone}
 use Rattle.tailnet_desk.specs.declared.reply.Refusal.{Refusal}
-use Rattle.tailnet_desk.specs.declared.reply.Refusal.TheVariants.{KeyUnknown, KeyExpired, KeyUsed, NodeKeyTaken, Full, AddressesSpent, KeeperFault, NoMemory}
+use Rattle.tailnet_desk.specs.declared.reply.Refusal.TheVariants.{UnknownMachine, NotLive, KeyUnknown, KeyExpired, KeyUsed, NodeKeyTaken, Full, AddressesSpent, KeeperFault, NoMemory}
 use Rattle.tailnet_desk.specs.declared.reply.Reply.{Reply}
 use Rattle.tailnet_desk.specs.declared.reply.Reply.TheVariants.{Done, Refused}
 use Rattle.tailnet_desk.specs.declared.reply.Scarce.{Scarce}
@@ -15,12 +16,18 @@ use Rattle.tailnet_desk.specs.declared.reply.Scarce.TheVariants as scarce
 abbrev pub error_body : List ℕ → List ℕ
 error_body name = codes "{\"error\":\"" ++ name ++ codes "\"}"
 
+-- the body that names a fault and its field
+abbrev pub field_body : List ℕ → List ℕ → List ℕ
+field_body name at = codes "{\"error\":\"" ++ name ++ codes "\",\"field\":\"" ++ at ++ codes "\"}"
+
 abbrev pub scarce_name : Scarce → List ℕ
 scarce_name scarce.User = codes "User"
 scarce_name scarce.Key = codes "Key"
 scarce_name scarce.Machine = codes "Machine"
 
 abbrev pub refusal_status : Refusal → ℕ
+refusal_status UnknownMachine = 401
+refusal_status NotLive = 401
 refusal_status KeyUnknown = 401
 refusal_status KeyExpired = 401
 refusal_status KeyUsed = 401
@@ -31,6 +38,8 @@ refusal_status KeeperFault = 500
 refusal_status NoMemory = 503
 
 abbrev pub refusal_body : Refusal → List ℕ
+refusal_body UnknownMachine = error_body (codes "UnknownMachine")
+refusal_body NotLive = error_body (codes "NotLive")
 refusal_body KeyUnknown = error_body (codes "KeyUnknown")
 refusal_body KeyExpired = error_body (codes "KeyExpired")
 refusal_body KeyUsed = error_body (codes "KeyUsed")
@@ -46,6 +55,7 @@ reply_status (Refused refusal) = refusal_status refusal
 
 abbrev pub answer_body : Answer → List ℕ
 answer_body (Registered profile expired) = registered_text profile expired
+answer_body (Map response) = frame_of response
 answer_body Gone = codes "{}"
 
 abbrev pub reply_body : Reply → List ℕ

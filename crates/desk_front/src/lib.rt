@@ -2,9 +2,11 @@
 #![tactic(auto)]
 
 mod asking;
+mod header;
 mod replies;
 mod want;
 
 pub use asking::wanted;
+pub use header::HeaderKey;
 pub use replies::reply_answer;
 pub use want::Wanted;

@@ -2,13 +2,14 @@
 ghost use Rattle.std.specs.Prelude.{◌≡◌, IfOk};
 ghost use Rattle.http.specs.StatusCode.{IsStatusCode};
 ghost use Rattle.tailnet_desk.specs.declared.reply.Refusal.{Refusal};
-ghost use Rattle.desk_front.specs.Replies.{answer_body, error_body, refusal_body, refusal_status, reply_body, reply_bytes, reply_status, scarce_name};
+ghost use Rattle.desk_front.specs.Replies.{answer_body, error_body, field_body, refusal_body, refusal_status, reply_body, reply_bytes, reply_status, scarce_name};
 
 use http_front::plain_answer;
+use map_delta::frame_bytes;
 use std::alloc::Global;
 use tail_base::{NoMemory, Text};
 use tailnet_desk::{Answer, Refusal, Reply, Scarce};
-use wire_json::registered_text;
+use wire_text::registered_text;
 
 fn scarce_name(kind: Scarce) -> &'static str
     ensures value { result.now ≡ scarce_name kind }
@@ -30,10 +31,24 @@ pub(crate) fn error_body(alloc: Global, name: &str) -> Result<Text, NoMemory>
     Ok(text)
 }
 
+/// The body that names a fault and its field.
+pub(crate) fn field_body(alloc: Global, name: &str, field: &str) -> Result<Text, NoMemory>
+    ensures value { IfOk result (λ text. text ≡ field_body name.now field.now) }
+{
+    let mut text = Text::from_str(alloc, "{\"error\":\"")?;
+    text.push(name)?;
+    text.push("\",\"field\":\"")?;
+    text.push(field)?;
+    text.push("\"}")?;
+    Ok(text)
+}
+
 fn refusal_body(alloc: Global, refusal: &Refusal) -> Result<Text, NoMemory>
     ensures value { IfOk result (λ text. text ≡ refusal_body refusal.now) }
 {
     match refusal {
+        Refusal::UnknownMachine => error_body(alloc, "UnknownMachine"),
+        Refusal::NotLive => error_body(alloc, "NotLive"),
         Refusal::KeyUnknown => error_body(alloc, "KeyUnknown"),
         Refusal::KeyExpired => error_body(alloc, "KeyExpired"),
         Refusal::KeyUsed => error_body(alloc, "KeyUsed"),
@@ -68,6 +83,8 @@ fn refusal_status(refusal: &Refusal) -> u16
     ensures value { result ≡ refusal_status refusal.now }
 {
     match refusal {
+        Refusal::UnknownMachine => 401,
+        Refusal::NotLive => 401,
         Refusal::KeyUnknown => 401,
         Refusal::KeyExpired => 401,
         Refusal::KeyUsed => 401,
@@ -89,15 +106,31 @@ fn reply_status(reply: &Reply) -> u16
     }
 }
 
-fn reply_body(alloc: Global, reply: &Reply) -> Result<Text, NoMemory>
-    ensures value { IfOk result (λ text. text ≡ reply_body reply.now) }
+/// The bytes of a text.
+fn bytes_of(alloc: Global, text: &Text) -> Result<Vec<u8>, NoMemory>
+    ensures value { IfOk result (λ made. made.items ≡ text.now) }
+{
+    Ok(Vec::from_slice(alloc, text.as_slice())?)
+}
+
+fn answer_body(alloc: Global, answer: &Answer) -> Result<Vec<u8>, NoMemory>
+    ensures value { IfOk result (λ made. made.items ≡ answer_body answer.now) }
+{
+    match answer {
+        Answer::Registered { profile, expired } => {
+            bytes_of(alloc, &registered_text(alloc, profile, *expired)?)
+        }
+        Answer::Map(response) => frame_bytes(alloc, response),
+        Answer::Gone => bytes_of(alloc, &Text::from_str(alloc, "{}")?),
+    }
+}
+
+fn reply_body(alloc: Global, reply: &Reply) -> Result<Vec<u8>, NoMemory>
+    ensures value { IfOk result (λ made. made.items ≡ reply_body reply.now) }
 {
     match reply {
-        Reply::Done(Answer::Registered { profile, expired }) => {
-            registered_text(alloc, profile, *expired)
-        }
-        Reply::Done(Answer::Gone) => Text::from_str(alloc, "{}"),
-        Reply::Refused(refusal) => refusal_body(alloc, refusal),
+        Reply::Done(answer) => answer_body(alloc, answer),
+        Reply::Refused(refusal) => bytes_of(alloc, &refusal_body(alloc, refusal)?),
     }
 }
 
@@ -107,5 +140,5 @@ pub fn reply_answer(alloc: Global, reply: &Reply, close: bool) -> Result<Vec<u8>
     ensures value { IfOk result (λ made. made.items ≡ reply_bytes reply.now close) }
 {
     let body = reply_body(alloc, reply)?;
-    plain_answer(alloc, reply_status(reply), body.as_slice(), close)
+    plain_answer(alloc, reply_status(reply), &body, close)
 }

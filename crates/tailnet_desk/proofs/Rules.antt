@@ -11,10 +11,13 @@ use Rattle.allot.specs.Addresses.{free_address}
 use Rattle.wire_json.specs.declared.register.Register.{Register}
 use Rattle.tailnet_desk.specs.Carried.{IsRuling}
 use Rattle.tailnet_desk.specs.History.{IsCall}
-use Rattle.tailnet_desk.specs.Profiles.{profile_of}
+use Rattle.map_delta.specs.Profiles.{profile_of}
 use Rattle.tailnet_desk.specs.Register.{register_as, by_key, place_for, kept_place, usable_key, repeats, is_taken, admitted}
 use Rattle.tailnet_desk.specs.Seed.{seed, is_past_seed}
-use Rattle.tailnet_desk.specs.State.{State, at_moment, is_ahead}
+use Rattle.tailnet_desk.specs.State.{State, at_moment, is_ahead, is_live}
+use Rattle.tailnet_desk.specs.OneMap.{asking, one_map}
+use Rattle.std.specs.Str.{bytes_eq}
+use Rattle.tail_base.specs.declared.key.NodeKey.{NodeKey}
 use Rattle.tailnet_desk.specs.Step.{decision, decided, moment_of, outcome}
 use Rattle.tailnet_desk.specs.Steps.{◌>>=◌, refuse_if, or_refuse}
 use Rattle.tailnet_desk.specs.declared.ask.Ask.{Ask}
@@ -25,7 +28,7 @@ use Rattle.tailnet_desk.specs.declared.register.Place.{Place}
 use Rattle.tailnet_desk.specs.declared.reply.Answer.TheVariants.{Registered, Gone}
 use Rattle.tailnet_desk.specs.declared.reply.Reply.TheVariants.{Refused}
 use Rattle.tailnet_desk.specs.declared.reply.Refusal.{Refusal}
-use Rattle.tailnet_desk.specs.declared.reply.Refusal.TheVariants.{Full, KeyUnknown, KeyExpired, KeyUsed, NodeKeyTaken, AddressesSpent, KeeperFault, NoMemory}
+use Rattle.tailnet_desk.specs.declared.reply.Refusal.TheVariants.{UnknownMachine, NotLive, Full, KeyUnknown, KeyExpired, KeyUsed, NodeKeyTaken, AddressesSpent, KeeperFault, NoMemory}
 use Rattle.tailnet_desk.specs.declared.reply.Scarce.TheVariants as scarce
 
 -- where it is refused, it is by a rule
@@ -84,12 +87,31 @@ seed_ruled s text =
     (bind_ruled (refuse_if (not (has_room s.rows kind.User)) (Full scarce.User)) _ (refuse_ruled (not (has_room s.rows kind.User)) (Full scarce.User) tt) (λ _.
     bind_ruled (refuse_if (not (has_room s.rows kind.Key)) (Full scarce.Key)) _ (refuse_ruled (not (has_room s.rows kind.Key)) (Full scarce.Key) tt) (λ _. ok_ruled _)))
 
+map_ruled : (s : State) (mk : MachineKey) (node : NodeKey) → AreRuled (one_map s mk node)
+map_ruled s mk node =
+    bind_ruled (asking s mk node) _
+    (bind_ruled (or_refuse (machine_of s.rows.machines mk.0) UnknownMachine) _ (or_ruled (machine_of s.rows.machines mk.0) UnknownMachine tt) (λ (row : Machine).
+    bind_ruled (refuse_if (not (bytes_eq row.node.0 node.0)) UnknownMachine) _ (refuse_ruled (not (bytes_eq row.node.0 node.0)) UnknownMachine tt) (λ _.
+    bind_ruled (refuse_if (not (is_live s row)) NotLive) _ (refuse_ruled (not (is_live s row)) NotLive tt) (λ _. ok_ruled _))))
+    (λ m. ok_ruled _)
+
 pub decision_ruled : (s : State) (x : Ask) → AreRuled (decision s x)
 decision_ruled s (ask.Seed text) = seed_ruled s text
 decision_ruled s (ask.Register mk form) = register_ruled s mk form (machine_of s.rows.machines mk.0)
+decision_ruled s (ask.OneMap mk node) = map_ruled s mk node
 
 -- a ruling is the step's reply
 pub ruling_call : (s : State) (e : Event) (count : ℕ) (r : Refusal) → IsRuling r → decided s e ≡ Err r → IsCall s count e (Refused r) (at_moment s (moment_of e)) count
+ruling_call s e count UnknownMachine h d = record {
+  reply_is = ap (λ x. (outcome (at_moment s (moment_of e)) x).reply) (sym d);
+  state = ap (λ x. (outcome (at_moment s (moment_of e)) x).state) (sym d);
+  later = omega arith;
+}
+ruling_call s e count NotLive h d = record {
+  reply_is = ap (λ x. (outcome (at_moment s (moment_of e)) x).reply) (sym d);
+  state = ap (λ x. (outcome (at_moment s (moment_of e)) x).state) (sym d);
+  later = omega arith;
+}
 ruling_call s e count KeyUnknown h d = record {
   reply_is = ap (λ x. (outcome (at_moment s (moment_of e)) x).reply) (sym d);
   state = ap (λ x. (outcome (at_moment s (moment_of e)) x).state) (sym d);

@@ -36,6 +36,7 @@ use Rattle.wire_json.specs.declared.register.Register.{Register}
 use Rattle.tailnet_desk.specs.State.{State, is_ahead}
 use Rattle.tailnet_desk.specs.Carried.{IsSoundDecision}
 use Rattle.tailnet_desk.specs.Steps.{◌>>=◌, refuse_if, or_refuse, Gives}
+use Rattle.tailnet_desk.specs.OneMap.{asking, one_map}
 use Rattle.tailnet_desk.specs.Seed.{seed, is_past_seed, seed_change, seed_user, seed_key}
 use Rattle.tailnet_desk.specs.Register.{register_as, by_key, repeats, is_taken, usable_key, place_for, new_place, kept_place, machine_row, admission, admitted, pending_gone}
 use Rattle.tailnet_desk.specs.Step.{decision}
@@ -363,10 +364,17 @@ seed_changes s text c o a sound h =
           (seeded s.rows text sound first (room_ok _ (Full scarce.User) user.0 user.1) (room_ok _ (Full scarce.Key) key.0 key.1))
     ]
 
+-- a map changes no row
+map_changes : (s : State) (mk : MachineKey) (node : NodeKey) (c : Change) (o : List ℕ) (a : Answer) → one_map s mk node ≡ Ok (Changes c o a) → ⊥
+map_changes s mk node c o a h =
+    let row = bind_ok (asking s mk node) _ (Changes c o a) h in
+    let clash = row.2 in cc
+
 -- Every decision keeps the rules of the tables.
 pub decision_sound : (s : State) (x : Ask) (c : Change) (o : List ℕ) (a : Answer) → SettingsHold s → damage s.rows ≡ None → decision s x ≡ Ok (Changes c o a) → damage (after s.rows c) ≡ None
 decision_sound s (ask.Seed text) c o a hold none h = no_damage _ (seed_changes s text c o a (sound_of s.rows none) h)
 decision_sound s (ask.Register mk form) c o a hold none h = no_damage _ (register_changes s mk form (machine_of s.rows.machines mk.0) c o a hold (sound_of s.rows none) refl h)
+decision_sound s (ask.OneMap mk node) c o a hold none h = absurd (map_changes s mk node c o a h)
 
 -- what was decided, as the code has it
 pub sound_decision : (s : State) (x : Ask) (r : Result Decision Stop) → SettingsHold s → damage s.rows ≡ None → Gives (λ d. d) r (decision s x) → IsSoundDecision s.rows r

@@ -1,10 +1,10 @@
 pub mod Asks
 pub mod State
 pub mod Steps
-pub mod Profiles
 pub mod Tags
 pub mod Seed
 pub mod Register
+pub mod OneMap
 pub mod Step
 pub mod History
 pub mod Seated

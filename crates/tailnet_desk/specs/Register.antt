@@ -17,7 +17,7 @@ use Rattle.net_rows.specs.declared.change.RowKey.TheVariants as gone
 use Rattle.allot.specs.Addresses.{free_address}
 use Rattle.allot.specs.Names.{free_name}
 use Rattle.wire_json.specs.declared.register.Register.{Register}
-use Rattle.tailnet_desk.specs.Profiles.{profile_of}
+use Rattle.map_delta.specs.Profiles.{profile_of}
 use Rattle.tailnet_desk.specs.State.{State, is_ahead, is_live, later_by}
 use Rattle.tailnet_desk.specs.Steps.{◌>>=◌, refuse_if, or_refuse}
 use Rattle.tailnet_desk.specs.Tags.{sorted_once}

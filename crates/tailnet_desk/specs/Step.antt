@@ -5,6 +5,7 @@ use Rattle.net_rows.specs.declared.change.Change.{Change}
 use Rattle.tailnet_desk.specs.State.{State, at_moment, all_offline}
 use Rattle.tailnet_desk.specs.Seed.{seed}
 use Rattle.tailnet_desk.specs.Register.{register}
+use Rattle.tailnet_desk.specs.OneMap.{one_map}
 use Rattle.tailnet_desk.specs.declared.ask.Ask.{Ask}
 use Rattle.tailnet_desk.specs.declared.ask.Ask.TheVariants as ask
 use Rattle.tailnet_desk.specs.declared.entry.Event.{Event}
@@ -19,6 +20,7 @@ use Rattle.tailnet_desk.specs.declared.decision.Decision.TheVariants.{Only, Chan
 abbrev pub decision : State → Ask → Result Decision Refusal
 decision s (ask.Seed text) = seed s text
 decision s (ask.Register machine form) = register s machine form
+decision s (ask.OneMap machine node) = one_map s machine node
 
 -- a state and a reply
 pub record Turn : Type 0 where

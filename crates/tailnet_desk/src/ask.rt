@@ -2,7 +2,7 @@
 ghost use Rattle.std.specs.Prelude.{◌≡◌};
 ghost use Rattle.tailnet_desk.specs.Asks.{needs_words as needs};
 
-use tail_base::{MachineKey, Text};
+use tail_base::{MachineKey, NodeKey, Text};
 use wire_json::Register;
 
 /// One thing that is asked of the desk.
@@ -12,6 +12,8 @@ pub enum Ask {
     Seed { text: Text },
     /// The machine with this key registers.
     Register { machine: MachineKey, form: Register },
+    /// The machine with these keys asks for its map.
+    OneMap { machine: MachineKey, node: NodeKey },
 }
 
 /// Whether fresh random words have to be drawn for it: for a registration without a key, whose
@@ -22,5 +24,6 @@ pub fn needs_words(ask: &Ask) -> bool
     match ask {
         Ask::Seed { .. } => false,
         Ask::Register { form, .. } => form.auth.is_empty(),
+        Ask::OneMap { .. } => false,
     }
 }

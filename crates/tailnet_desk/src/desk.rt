@@ -14,17 +14,18 @@ ghost use Rattle.tailnet_desk.specs.declared.entry.Event.TheVariants as event;
 use crate::ask::Ask;
 use crate::decision::{Decision, Stop};
 use crate::life::Snapshot;
+use crate::one_map::one_map;
 use crate::opening::{all_offline_of, unserved};
 use crate::presence::{MachinePresence, Presence};
 use crate::register::register;
 use crate::reply::{Answer, Refusal, Reply};
 use crate::seed::seed;
 use io_edge::EdgeFault;
-use moments::Moment;
 use net_rows::{Change, Damage, Kind, Settings, Shelf, Tables};
 use row_keeper::{Keeper, LoadFault};
 use std::alloc::Global;
 use std::marker::Model;
+use moments::Moment;
 use tail_base::{Items, NoMemory};
 
 /// The Tailnet machine over a keeper. Contracts see it as its state and its keeper, which has the
@@ -69,6 +70,7 @@ fn decision_of(alloc: Global, at: &Snapshot<'_>, ask: &Ask) -> Result<Decision, 
     match ask {
         Ask::Seed { text } => seed(alloc, at, text),
         Ask::Register { machine, form } => register(alloc, at, machine, form),
+        Ask::OneMap { machine, node } => one_map(alloc, at, machine, node),
     }
 }
 

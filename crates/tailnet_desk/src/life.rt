@@ -3,9 +3,9 @@ ghost use Rattle.std.specs.Prelude.{◌≡◌, Some};
 ghost use Rattle.tailnet_desk.specs.State.{State, is_ahead, is_live, presence_of, stays};
 
 use crate::presence::{MachinePresence, Presence};
-use moments::Moment;
 use net_rows::{Machine, Settings, SettingsFields, Tables};
 use std::marker::Model;
+use moments::Moment;
 
 /// The state at an event's moment, as its decision sees it.
 #[derive(Drop)]

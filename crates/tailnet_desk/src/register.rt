@@ -8,14 +8,14 @@ ghost use Rattle.tailnet_desk.specs.Register as spec;
 
 use crate::decision::{Decision, Stop};
 use crate::life::{Snapshot, is_ahead, is_live};
-use crate::profile::profile_of;
+use map_delta::profile_of;
 use crate::reply::{Answer, Refusal, Scarce};
 use crate::tags::sorted_once;
 use allot::{free_name, least_address};
-use moments::Moment;
-use net_addr::{Addr, Prefix};
 use net_rows::{AuthKey, Change, Counters, Kind, Machine, Pending, Row, RowKey};
 use std::alloc::Global;
+use moments::Moment;
+use net_addr::{Addr, Prefix};
 use tail_base::{DiscoKey, Duplicate, Items, Label, MachineKey, NoMemory, NodeKey, Text};
 use wire_json::Register;
 

@@ -1,5 +1,5 @@
 //! What the desk answers.
-use wire_json::Profile;
+use wire_json::{Profile, Response};
 
 /// What there may be no room for.
 #[derive(Clone, Copy, Debug, PartialEq, Eq, Drop)]
@@ -12,6 +12,8 @@ pub enum Scarce {
 /// Why an ask is refused. A refusal changes nothing but the time.
 #[derive(Clone, Copy, Debug, PartialEq, Eq, Drop)]
 pub enum Refusal {
+    /// No machine has that machine key and node key.
+    UnknownMachine,
     /// No pre-auth key has that text.
     KeyUnknown,
     /// The pre-auth key's life has ended.
@@ -20,6 +22,8 @@ pub enum Refusal {
     KeyUsed,
     /// Another machine has that node key.
     NodeKeyTaken,
+    /// The machine's life has ended.
+    NotLive,
     /// There are as many rows of that kind as there may be.
     Full(Scarce),
     /// No address of the family, 4 or 6, is free.
@@ -35,6 +39,8 @@ pub enum Refusal {
 pub enum Answer {
     /// The machine is registered for the user of this profile; its node key has expired or not.
     Registered { profile: Profile, expired: bool },
+    /// The machine's map.
+    Map(Response),
     /// It is done, and there is nothing to say.
     Gone,
 }

@@ -2,6 +2,7 @@
 mod checks;
 mod edges;
 mod faults;
+mod maps;
 
 use crate::piping::pipe_command;
 use crate::status::Status;

@@ -1,3 +1,7 @@
 pub mod Body
+pub mod Fields
+pub mod MapRequest
+pub mod Readers
 pub mod Register
-pub mod Registered
+pub mod RoutePlaces
+pub mod Routes
