@@ -5,3 +5,4 @@ pub mod Readers
 pub mod Register
 pub mod RoutePlaces
 pub mod Routes
+pub mod Short

@@ -1,9 +1,9 @@
 //! Whether machines are online.
 ghost use Rattle.std.specs.Prelude.{◌≡◌};
 
+use moments::Moment;
 use net_rows::HasId;
 use std::alloc::Global;
-use moments::Moment;
 use tail_base::{Duplicate, NoMemory};
 
 /// Whether a machine is online, or since when it isn't.

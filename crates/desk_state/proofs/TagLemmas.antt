@@ -3,7 +3,7 @@ use Rattle.std.proofs.Common.{◌≤◌, ◌+◌, ℕ, List, [], ◌∷◌, leng
 use Rattle.std.specs.Ordering.{match_ordering, nat_cmp}
 use Rattle.std.specs.declared.cmp.Ordering.TheVariants.{Less, Equal, Greater}
 use Rattle.std.specs.Cmp.Lexicographic.{slice_cmp}
-use Rattle.tailnet_desk.specs.Tags.{with_tag, with_tags, sorted_once}
+use Rattle.desk_state.specs.Tags.{with_tag, with_tags, sorted_once}
 
 length-with_tag : (held : List (List ℕ)) (tag : List ℕ) → length (with_tag held tag) ≤ length held + 1
 length-with_tag [] tag = omega arith

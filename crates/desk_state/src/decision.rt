@@ -26,7 +26,7 @@ pub enum Stop {
 }
 
 impl From<NoMemory> for Stop {
-    ghost use Rattle.tailnet_desk.specs.declared.decision.Stop.TheVariants.{Memory};
+    ghost use Rattle.desk_state.specs.declared.decision.Stop.TheVariants.{Memory};
 
     ghost from_gives = { λ _ e. e ≡ Memory };
 

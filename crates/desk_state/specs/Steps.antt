@@ -1,8 +1,8 @@
 -- Steps that may be refused: the first refusal ends them.
 use Rattle.std.specs.Prelude.{◌≡◌, Bool, Option, Some, None, Result, Ok, Err, if◌then◌else◌}
-use Rattle.tailnet_desk.specs.declared.reply.Refusal.{Refusal}
-use Rattle.tailnet_desk.specs.declared.decision.Stop.{Stop}
-use Rattle.tailnet_desk.specs.declared.decision.Stop.TheVariants as stop
+use Rattle.desk_state.specs.declared.reply.Refusal.{Refusal}
+use Rattle.desk_state.specs.declared.decision.Stop.{Stop}
+use Rattle.desk_state.specs.declared.decision.Stop.TheVariants as stop
 
 infixl 10 ◌>>=◌
 abbrev pub ◌>>=◌ : {A B : Type 0} → Result A Refusal → (A → Result B Refusal) → Result B Refusal

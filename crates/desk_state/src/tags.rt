@@ -1,7 +1,7 @@
 //! Tags in order.
 ghost use Rattle.std.specs.Prelude.{◌≡◌, ◌≤◌, ◌<◌, ℕ, List, length, insert, IfOk};
-ghost use Rattle.tailnet_desk.specs.Tags.{sorted_once};
-ghost use Rattle.tailnet_desk.specs.TagPlaces.{IsPlace};
+ghost use Rattle.desk_state.specs.Tags.{sorted_once};
+ghost use Rattle.desk_state.specs.TagPlaces.{IsPlace};
 
 use std::alloc::Global;
 use std::cmp::Ordering;
@@ -28,7 +28,7 @@ fn place_of(held: &[Tag], tag: &Tag) -> TagPlace
 }
 
 /// The tags in byte order, each once.
-pub(crate) fn sorted_once(alloc: Global, tags: &[Tag]) -> Result<Items<Tag>, NoMemory>
+pub fn sorted_once(alloc: Global, tags: &[Tag]) -> Result<Items<Tag>, NoMemory>
     ensures value { IfOk result (λ made. made ≡ sorted_once tags.now) }
 {
     let mut held: Vec<Tag> = Vec::new(alloc);
