@@ -3,35 +3,22 @@ use Rattle.std.specs.Prelude.{◌≡◌, ℕ, List, None, Result, Ok, Err}
 use Rattle.net_rows.specs.Damage.{damage}
 use Rattle.net_rows.specs.Rows.{after}
 use Rattle.net_rows.specs.declared.rows.Rows.{Rows}
-use Rattle.tailnet_desk.specs.declared.decision.Decision.{Decision}
-use Rattle.tailnet_desk.specs.declared.decision.Decision.TheVariants.{Only, Changes}
-use Rattle.tailnet_desk.specs.declared.decision.Stop.{Stop}
-use Rattle.tailnet_desk.specs.declared.decision.Stop.TheVariants as stop
-use Rattle.tailnet_desk.specs.declared.reply.Refusal.{Refusal}
+use Rattle.desk_state.specs.declared.decision.Decision.{Decision}
+use Rattle.desk_state.specs.declared.decision.Decision.TheVariants.{Only, Changes}
+use Rattle.desk_state.specs.declared.decision.Stop.{Stop}
+use Rattle.desk_state.specs.declared.decision.Stop.TheVariants as stop
+use Rattle.desk_state.specs.declared.reply.Refusal.{Refusal}
 use Rattle.io_edge.specs.Edge.{Rose}
 use Rattle.net_rows.specs.declared.change.Change.{Change}
-use Rattle.tailnet_desk.specs.State.{State}
+use Rattle.desk_state.specs.State.{State}
 use Rattle.tailnet_desk.specs.Step.{changed}
-use Rattle.tailnet_desk.specs.declared.reply.Answer.{Answer}
-use Rattle.tailnet_desk.specs.declared.reply.Reply.{Reply}
-use Rattle.tailnet_desk.specs.declared.reply.Reply.TheVariants.{Done, Refused}
-use Rattle.tailnet_desk.specs.declared.reply.Refusal.TheVariants.{NoMemory, KeeperFault}
+use Rattle.desk_state.specs.declared.reply.Answer.{Answer}
+use Rattle.desk_state.specs.declared.reply.Reply.{Reply}
+use Rattle.desk_state.specs.declared.reply.Reply.TheVariants.{Done, Refused}
+use Rattle.desk_state.specs.declared.reply.Refusal.TheVariants.{NoMemory, KeeperFault}
 
 -- the change is in the state and the answer is given; or memory ran out or the keeper failed, and the state is as it was
 abbrev pub Carried : State → Change → List ℕ → Answer → Reply → State → ℕ → ℕ → Type 0
 Carried s change offline answer (Refused NoMemory) t before now = t ≡ s
 Carried s change offline answer (Refused KeeperFault) t before now = (t ≡ s) × Rose before now
 Carried s change offline answer reply t before now = (reply ≡ Done answer) × (t ≡ changed s change offline)
-
--- it is a rule's refusal, neither want of memory nor a fault of the keeper
-abbrev pub IsRuling : Refusal → Type 0
-IsRuling KeeperFault = ⊥
-IsRuling NoMemory = ⊥
-IsRuling refusal = Unit {0}
-
--- a decided change keeps the rules of the tables, and a refusal is a rule's
-abbrev pub IsSoundDecision : Rows → Result Decision Stop → Type 0
-IsSoundDecision rows (Ok (Only answer)) = Unit {0}
-IsSoundDecision rows (Ok (Changes change offline answer)) = damage (after rows change) ≡ None
-IsSoundDecision rows (Err stop.Memory) = Unit {0}
-IsSoundDecision rows (Err (stop.Refused refusal)) = IsRuling refusal

@@ -3,29 +3,31 @@ ghost use Rattle.std.specs.Prelude.{◌≡◌, ◌≤◌, ◌<◌, ℕ, List, Op
 ghost use Rattle.io_edge.specs.Edge.{IsWhereTold, Rose, StillTells};
 ghost use Rattle.net_rows.specs.Damage.{damage};
 ghost use Rattle.net_rows.specs.Rows.{after};
-ghost use Rattle.tailnet_desk.specs.State.{State, at_moment, all_offline, offline_at, opening};
-ghost use Rattle.tailnet_desk.specs.Steps.{Gives};
+ghost use Rattle.desk_state.specs.Asks.{IsShort};
+ghost use Rattle.desk_state.specs.Rulings.{IsSoundDecision};
+ghost use Rattle.desk_state.specs.State.{State, at_moment, all_offline, forgotten, offline_at, opening};
+ghost use Rattle.desk_state.specs.Steps.{Gives};
 ghost use Rattle.tailnet_desk.specs.Step.{decision, changed};
 ghost use Rattle.tailnet_desk.specs.History.{IsCall};
-ghost use Rattle.tailnet_desk.specs.Carried.{Carried, IsSoundDecision};
+ghost use Rattle.tailnet_desk.specs.Carried.{Carried};
 ghost use Rattle.tailnet_desk.specs.Opening.{unserved};
 ghost use Rattle.tailnet_desk.specs.declared.entry.Event.TheVariants as event;
 
-use crate::ask::Ask;
-use crate::decision::{Decision, Stop};
-use crate::life::Snapshot;
-use crate::one_map::one_map;
 use crate::opening::{all_offline_of, unserved};
-use crate::presence::{MachinePresence, Presence};
-use crate::register::register;
-use crate::reply::{Answer, Refusal, Reply};
-use crate::seed::seed;
+use admin_asks::{
+    add_key, add_user, drop_node, drop_user, expire_key, expire_node, keys, nodes, rename,
+    set_tags, sweep, users, waiting,
+};
+use desk_state::{
+    Answer, Ask, Decision, MachinePresence, Presence, Refusal, Reply, Snapshot, Stop,
+};
 use io_edge::EdgeFault;
-use net_rows::{Change, Damage, Kind, Settings, Shelf, Tables};
+use machine_asks::{admit, one_map, register, seed, update};
+use moments::Moment;
+use net_rows::{Change, Damage, Kind, RowKey, Settings, Shelf, Tables};
 use row_keeper::{Keeper, LoadFault};
 use std::alloc::Global;
 use std::marker::Model;
-use moments::Moment;
 use tail_base::{Items, NoMemory};
 
 /// The Tailnet machine over a keeper. Contracts see it as its state and its keeper, which has the
@@ -41,7 +43,7 @@ pub struct Desk<K: Keeper> {
 
 impl<K: Keeper> Model for Desk<K> {
     ghost use Rattle.io_edge.specs.Edge.{IsWhereTold};
-    ghost use Rattle.tailnet_desk.specs.State.{State};
+    ghost use Rattle.desk_state.specs.State.{State};
     ghost use Rattle.tailnet_desk.specs.Seated.{Seated};
 
     ghost Value = { Seated K };
@@ -63,27 +65,51 @@ pub enum OpenFault {
     NoMemory,
 }
 
-/// What an ask comes to, by its own rules.
-fn decision_of(alloc: Global, at: &Snapshot<'_>, ask: &Ask) -> Result<Decision, Stop>
-    ensures value { Gives (λ d. d) result (decision at.now ask.now) }
+/// What an ask comes to, by its own rules. A change of rows keeps the rules of the tables.
+fn decide(
+    alloc: Global,
+    at: &Snapshot<'_>,
+    ask: &Ask,
+    words: Option<[u64; 4]>,
+) -> Result<Decision, Stop>
+    requires short { IsShort ask.now }
+    ensures value { Gives (λ d. d) result (decision at.now ask.now words) }
+    ensures sound { IsSoundDecision at.now.rows result }
 {
     match ask {
         Ask::Seed { text } => seed(alloc, at, text),
-        Ask::Register { machine, form } => register(alloc, at, machine, form),
-        Ask::OneMap { machine, node } => one_map(alloc, at, machine, node),
+        Ask::Register { machine, form } => register(alloc, at, machine, form, words),
+        Ask::Update { machine, node, update: told } => update(alloc, at, machine, node, told),
+        Ask::OneMap { machine, node, update: told } => {
+            one_map(alloc, at, machine, node, told.as_ref())
+        }
+        Ask::AddUser { name } => add_user(alloc, at, name),
+        Ask::Users => users(alloc, at),
+        Ask::DropUser { login } => drop_user(alloc, at, login),
+        Ask::AddKey { form } => add_key(alloc, at, form, words),
+        Ask::Keys => keys(alloc, at),
+        Ask::ExpireKey { id } => expire_key(alloc, at, *id),
+        Ask::Nodes => nodes(alloc, at),
+        Ask::Waiting => waiting(alloc, at),
+        Ask::Admit { pending, login } => admit(alloc, at, pending, login),
+        Ask::ExpireNode { id, at: expiry } => expire_node(alloc, at, *id, *expiry),
+        Ask::Rename { id, name } => rename(alloc, at, *id, name),
+        Ask::SetTags { id, tags } => set_tags(alloc, at, *id, tags.as_slice()),
+        Ask::DropNode { id } => drop_node(alloc, at, *id),
+        Ask::Sweep => sweep(alloc, at),
     }
 }
 
-/// What an ask comes to. A change of rows keeps the rules of the tables.
-fn decide(alloc: Global, at: &Snapshot<'_>, ask: &Ask) -> Result<Decision, Stop>
-    ensures value { Gives (λ d. d) result (decision at.now ask.now) }
-    ensures sound { IsSoundDecision at.now.rows result }
+/// The machines whose rows go have no presence any more. It takes no memory.
+fn forget(presence: &mut Shelf<MachinePresence>, gone: &[RowKey])
+    ensures presence { presence.new.0 ≡ forgotten presence.old.0 gone.now }
+    ensures spare { presence.old.1 ≤ presence.new.1 }
 {
-    let fields = at.settings.fields();
-    let _v4 = fields.prefix_v4.base();
-    let _v6 = fields.prefix_v6.base();
-    let _rules = at.tables.users();
-    decision_of(alloc, at, ask)
+    for key in gone {
+        if let RowKey::Machine(id) = key {
+            presence.remove(*id);
+        }
+    }
 }
 
 /// The machines with these ids are offline from this moment on. It takes no memory.
@@ -154,6 +180,7 @@ impl<K: Keeper> Desk<K> {
         }
         match self.keeper.commit(alloc, &change) {
             Ok(()) => {
+                forget(&mut self.presence, change.gone.as_slice());
                 self.tables.apply(change);
                 go_offline(&mut self.presence, offline.as_slice(), self.time);
                 Reply::Done(answer)
@@ -163,7 +190,8 @@ impl<K: Keeper> Desk<K> {
         }
     }
 
-    /// One event: its reply is the machine's, or want of memory, or a fault of the keeper.
+    /// One event: its reply is the machine's, or want of memory, or a fault of the keeper. The lists and
+    /// texts of the ask are within the limits of rows.
     pub fn ask(
         &mut self,
         alloc: Global,
@@ -171,6 +199,7 @@ impl<K: Keeper> Desk<K> {
         moment: Moment,
         words: Option<[u64; 4]>,
     ) -> Reply
+        requires short { IsShort ask.now }
         ensures call { IsCall self.old.state (K.faults self.old.keeper) (event.Ask ask.now moment words) result self.new.state (K.faults self.new.keeper) }
     {
         self.time = self.time.or_later(moment);
@@ -180,7 +209,7 @@ impl<K: Keeper> Desk<K> {
             presence: self.presence.as_slice(),
             time: self.time,
         };
-        match decide(alloc, &at, ask) {
+        match decide(alloc, &at, ask, words) {
             Err(Stop::Memory) => Reply::Refused(Refusal::NoMemory),
             Err(Stop::Refused(refusal)) => Reply::Refused(refusal),
             Ok(Decision::Only(answer)) => Reply::Done(answer),

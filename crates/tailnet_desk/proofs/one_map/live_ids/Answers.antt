@@ -1,9 +1,0 @@
-use Rattle.std.proofs.Common.{◌∷◌}
-use Rattle.net_rows.specs.declared.machine.Machine.{Machine}
-use Rattle.tailnet_desk.specs.State.{is_live}
-use Rattle.tailnet_desk.specs.OneMap.{live_ids}
-use Rattle.map_delta.proofs.ShownLemmas.{gathered_all}
-use Rattle.tailnet_desk.proofs.one_map.live_ids.Goals as goal
-
-pub loop-machine-init : goal.loop-machine-init
-loop-machine-init c = gathered_all (is_live c.args.at.now) (λ (m : Machine). m.id) c.args.at.now.rows.machines
