@@ -1,5 +1,6 @@
--- The names of fields, as `tailcfg` has them in JSON.
+-- The names of fields in JSON: as `tailcfg` has them, and those of operators.
 use Rattle.std.specs.Prelude.{ℕ, List, codes}
+use Rattle.wire_json.specs.AdminFields.{admin_field_name}
 use Rattle.wire_json.specs.declared.field.Field.{Field}
 use Rattle.wire_json.specs.declared.field.Field.TheVariants as field
 
@@ -25,3 +26,4 @@ field_name field.ReadOnly = codes "ReadOnly"
 field_name field.RequestTags = codes "RequestTags"
 field_name field.RoutableIps = codes "RoutableIPs"
 field_name field.Stream = codes "Stream"
+field_name (field.Admin f) = admin_field_name f

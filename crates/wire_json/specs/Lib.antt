@@ -1,3 +1,4 @@
+pub mod AdminFields
 pub mod Body
 pub mod Fields
 pub mod MapRequest

@@ -9,9 +9,10 @@ use crate::field::Field;
 use serde_json::Value;
 use std::alloc::Global;
 
-/// The object that a body is.
+/// The object that a body is: a JSON text in UTF-8 (RFC 8259) whose value is an object. Of members of one
+/// name the last counts.
 #[tactic(auto, unfolding(crate::specs::Body::object_at))]
-pub(crate) fn object_of_body(alloc: Global, body: &[u8]) -> Result<Value, WireFault>
+pub fn object_of_body(alloc: Global, body: &[u8]) -> Result<Value, WireFault>
     ensures value { Gives (λ v. view v) result (object_at (body_value body.now)) }
 {
     match Value::from_slice(alloc, body) {
@@ -22,8 +23,8 @@ pub(crate) fn object_of_body(alloc: Global, body: &[u8]) -> Result<Value, WireFa
     }
 }
 
-/// The value of a field that is there and not null.
-pub(crate) fn field_of<'a>(object: Option<&'a Value>, field: Field) -> Option<&'a Value>
+/// The value of a field that is there and not null, in an object that may itself be absent.
+pub fn field_of<'a>(object: Option<&'a Value>, field: Field) -> Option<&'a Value>
     ensures value { option_map (λ v. view v.now) result ≡ field_of field (option_map (λ v. view v.now) object.entry) }
 {
     match object?.get(field.name()) {

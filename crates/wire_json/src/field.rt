@@ -1,7 +1,9 @@
 //! Fields of request bodies.
 ghost use Rattle.std.specs.Prelude.{◌≡◌};
 
-/// A field of a request's body, or of an object in it, by its name in `tailcfg`.
+use crate::admin_field::AdminField;
+
+/// A field of a request's body, or of an object in it: by its name in `tailcfg`, or an operator's.
 #[derive(Clone, Copy, Debug, PartialEq, Eq, Drop)]
 pub enum Field {
     Auth,
@@ -24,6 +26,8 @@ pub enum Field {
     RequestTags,
     RoutableIps,
     Stream,
+    /// A field of an operator's request.
+    Admin(AdminField),
 }
 
 impl Field {
@@ -54,6 +58,7 @@ impl Field {
             Field::RequestTags => "RequestTags",
             Field::RoutableIps => "RoutableIPs",
             Field::Stream => "Stream",
+            Field::Admin(field) => field.name(),
         }
     }
 }

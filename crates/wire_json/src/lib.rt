@@ -1,6 +1,8 @@
-//! The JSON of `tailcfg`: the types of requests and responses, and request bodies read.
+//! The JSON of `tailcfg`: the types of requests and responses, and request bodies read; and the words
+//! by which other bodies are read.
 #![tactic(auto)]
 
+mod admin_field;
 mod body;
 mod copies;
 mod dest_range;
@@ -24,6 +26,8 @@ mod sources;
 mod spelled;
 mod update;
 
+pub use admin_field::AdminField;
+pub use body::{field_of, object_of_body};
 pub use dest_range::DestRange;
 pub use dns::Dns;
 pub use dns_extra::DnsExtra;
@@ -37,9 +41,11 @@ pub use map_request::read_map_request;
 pub use node_row::NodeRow;
 pub use patch::Patch;
 pub use profile::Profile;
+pub use readers::{flag_of, some_time_of};
 pub use register::{Register, read_register};
 pub use response::Response;
 pub use sources::Sources;
+pub use spelled::{Spelled, list_of};
 pub use update::{HostUpdate, Update};
 
 #[cfg(test)]

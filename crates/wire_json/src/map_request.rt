@@ -1,8 +1,9 @@
 //! Map requests, read.
-ghost use Rattle.std.specs.Prelude.{option_map};
+ghost use Rattle.std.specs.Prelude.{option_map, IfOk, IfSome};
 ghost use Rattle.serde_json.specs.View.{view};
 ghost use Rattle.wire_json.specs.Body.{Gives};
 ghost use Rattle.wire_json.specs.MapRequest.{derp_of, host_at, map_ask_at, map_ask_of_body, some_host, uncompressed, update_at};
+ghost use Rattle.wire_json.specs.Short.{IsShortHost, IsShortUpdate};
 
 use crate::body::{field_of, object_of, object_of_body};
 use crate::fault::WireFault;
@@ -45,6 +46,7 @@ fn derp_of(net: Option<&Value>) -> Result<Option<u32>, WireFault>
 #[tactic(auto, unfolding(crate::specs::MapRequest::host_at))]
 fn host_of(alloc: Global, info: &Value) -> Result<HostUpdate, WireFault>
     ensures value { Gives (λ h. h) result (host_at (view info.now)) }
+    ensures short { IfOk result IsShortHost }
 {
     let name = short_text_of(alloc, Some(info), Field::Hostname, HOST_LIMIT)?;
     let net = object_of(Some(info), Field::NetInfo)?;
@@ -59,6 +61,7 @@ fn host_of(alloc: Global, info: &Value) -> Result<HostUpdate, WireFault>
 
 fn some_host(alloc: Global, info: Option<&Value>) -> Result<Option<HostUpdate>, WireFault>
     ensures value { Gives (λ h. h) result (some_host (option_map (λ v. view v.now) info.entry)) }
+    ensures short { IfOk result (λ host. IfSome host IsShortHost) }
 {
     match info {
         Some(info) => Ok(Some(host_of(alloc, info)?)),
@@ -69,6 +72,7 @@ fn some_host(alloc: Global, info: Option<&Value>) -> Result<Option<HostUpdate>, 
 #[tactic(auto, unfolding(crate::specs::MapRequest::update_at))]
 fn update_of(alloc: Global, body: &Value) -> Result<Update, WireFault>
     ensures value { Gives (λ u. u) result (update_at (view body.now)) }
+    ensures short { IfOk result IsShortUpdate }
 {
     let endpoints = list_of(alloc, Some(body), Field::Endpoints, ENDPOINT_LIMIT)?;
     let disco = some_disco_key_of(Some(body), Field::DiscoKey)?;
@@ -83,6 +87,7 @@ fn update_of(alloc: Global, body: &Value) -> Result<Update, WireFault>
 #[tactic(auto, unfolding(crate::specs::MapRequest::map_ask_at))]
 fn map_ask_of(alloc: Global, body: &Value) -> Result<MapAsk, WireFault>
     ensures value { Gives (λ a. a) result (map_ask_at (view body.now)) }
+    ensures short { IfOk result (λ m. IsShortUpdate m.update) }
 {
     uncompressed(field_of(Some(body), Field::Compress))?;
     let node = node_key_of(Some(body), Field::NodeKey)?;
@@ -108,6 +113,7 @@ fn map_ask_of(alloc: Global, body: &Value) -> Result<MapAsk, WireFault>
 /// `NetInfo` with `PreferredDERP`, and `RoutableIPs`. Fields of other names aren't read.
 pub fn read_map_request(alloc: Global, body: &[u8]) -> Result<MapAsk, WireFault>
     ensures value { Gives (λ a. a) result (map_ask_of_body body.now) }
+    ensures short { IfOk result (λ m. IsShortUpdate m.update) }
 {
     let value = object_of_body(alloc, body)?;
     map_ask_of(alloc, &value)

@@ -1,5 +1,5 @@
 //! What the values of fields say.
-ghost use Rattle.std.specs.Prelude.{◌≡◌, ◌≤◌, false, [], option_map, None, IfOk};
+ghost use Rattle.std.specs.Prelude.{◌≡◌, ◌≤◌, false, [], option_map, None, IfOk, IfSome, length};
 ghost use Rattle.serde_json.specs.Find.{as_bool, as_str};
 ghost use Rattle.serde_json.specs.View.{view};
 ghost use Rattle.wire_json.specs.Body.{Gives};
@@ -14,7 +14,7 @@ use std::alloc::Global;
 use tail_base::{DiscoKey, NodeKey, Text};
 
 /// A truth value; false where it is absent.
-pub(crate) fn flag_of(object: Option<&Value>, field: Field) -> Result<bool, WireFault>
+pub fn flag_of(object: Option<&Value>, field: Field) -> Result<bool, WireFault>
     ensures value { Gives (λ b. b) result (optional field false as_bool (option_map (λ v. view v.now) object.entry)) }
 {
     match field_of(object, field) {
@@ -48,6 +48,7 @@ pub(crate) fn short_text_of(
     limit: usize,
 ) -> Result<Option<Text>, WireFault>
     ensures value { Gives (λ t. t) result (optional field None (some_short_text limit) (option_map (λ v. view v.now) object.entry)) }
+    ensures short { IfOk result (λ t. IfSome t (λ text. length text ≤ limit)) }
 {
     let Some(value) = field_of(object, field) else {
         return Ok(None);
@@ -139,11 +140,8 @@ fn unless_zero_time(moment: Moment) -> Option<Moment>
     }
 }
 
-/// A time; None where it is absent or Go's zero time.
-pub(crate) fn some_time_of(
-    object: Option<&Value>,
-    field: Field,
-) -> Result<Option<Moment>, WireFault>
+/// A time in the form of RFC 3339; None where it is absent or Go's zero time.
+pub fn some_time_of(object: Option<&Value>, field: Field) -> Result<Option<Moment>, WireFault>
     ensures value { Gives (λ t. t) result (optional field None some_time (option_map (λ v. view v.now) object.entry)) }
 {
     let Some(value) = field_of(object, field) else {

@@ -1,7 +1,9 @@
 //! Registrations.
+ghost use Rattle.std.specs.Prelude.{IfOk};
 ghost use Rattle.serde_json.specs.View.{view};
 ghost use Rattle.wire_json.specs.Body.{Gives};
 ghost use Rattle.wire_json.specs.Register.{register_at, register_of_body};
+ghost use Rattle.wire_json.specs.Short.{IsShortForm};
 
 use crate::body::{object_of, object_of_body};
 use crate::fault::WireFault;
@@ -40,6 +42,7 @@ pub struct Register {
 #[tactic(auto, unfolding(crate::specs::Register::register_at))]
 fn register_of(alloc: Global, body: &Value) -> Result<Register, WireFault>
     ensures value { Gives (λ r. r) result (register_at (view body.now)) }
+    ensures short { IfOk result IsShortForm }
 {
     let node = node_key_of(Some(body), Field::NodeKey)?;
     let old = some_node_key_of(Some(body), Field::OldNodeKey)?;
@@ -68,6 +71,7 @@ fn register_of(alloc: Global, body: &Value) -> Result<Register, WireFault>
 /// with `Hostname`, `RoutableIPs` and `RequestTags`. Fields of other names aren't read.
 pub fn read_register(alloc: Global, body: &[u8]) -> Result<Register, WireFault>
     ensures value { Gives (λ r. r) result (register_of_body body.now) }
+    ensures short { IfOk result IsShortForm }
 {
     let value = object_of_body(alloc, body)?;
     register_of(alloc, &value)

@@ -1,5 +1,5 @@
 //! Routes in order.
-ghost use Rattle.std.specs.Prelude.{◌≡◌, IfOk};
+ghost use Rattle.std.specs.Prelude.{◌≡◌, ◌≤◌, length, IfOk};
 ghost use Rattle.wire_json.specs.RoutePlaces.{IsPlace};
 ghost use Rattle.wire_json.specs.Routes.{route_cmp, sorted_routes};
 
@@ -41,6 +41,7 @@ fn place_of(held: &[Prefix], route: &Prefix) -> RoutePlace
 /// The routes by family, base and length, each once.
 pub(crate) fn sorted_routes(alloc: Global, routes: &[Prefix]) -> Result<Items<Prefix>, NoMemory>
     ensures value { IfOk result (λ made. made ≡ sorted_routes routes.now) }
+    ensures short { IfOk result (λ made. length made ≤ length routes.now) }
 {
     let mut held: Vec<Prefix> = Vec::new(alloc);
     for route in routes {

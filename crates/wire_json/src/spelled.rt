@@ -1,5 +1,5 @@
 //! Lists of what texts spell.
-ghost use Rattle.std.specs.Prelude.{◌≡◌, ℕ, List, Option, [], IfOk, option_map, option_and_then};
+ghost use Rattle.std.specs.Prelude.{◌≡◌, ℕ, List, Option, [], ◌≤◌, length, IfOk, IfSome, option_map, option_and_then};
 ghost use Rattle.std.specs.Result.{result_ok};
 ghost use Rattle.serde_json.specs.Find.{as_str};
 ghost use Rattle.serde_json.specs.View.{view, items_view};
@@ -67,6 +67,7 @@ fn elements_of<T: Spelled>(
     values: &[Value],
 ) -> Result<Items<T>, WireFault>
     ensures value { Gives (λ made. made) result (or_fault (BadField field) (all_spelled T.spelled (items_view values.now))) }
+    ensures count { IfOk result (λ made. length made ≡ length values.now) }
 {
     let mut made = Items::new(alloc);
     for value in values {
@@ -79,6 +80,7 @@ fn elements_of<T: Spelled>(
 #[tactic(auto, using(crate::proofs::Counts::items_count))]
 fn short_array(value: &Value, limit: usize) -> Option<&[Value]>
     ensures value { option_map (λ vs. items_view vs.now) result ≡ short_array limit (view value.now) }
+    ensures short { IfSome result (λ vs. length vs.now ≤ limit) }
 {
     let values = value.as_array()?;
     if values.len() <= limit {
@@ -89,13 +91,14 @@ fn short_array(value: &Value, limit: usize) -> Option<&[Value]>
 }
 
 /// A list of at most so many texts, each of which spells an element; empty where it is absent.
-pub(crate) fn list_of<T: Spelled>(
+pub fn list_of<T: Spelled>(
     alloc: Global,
     object: Option<&Value>,
     field: Field,
     limit: usize,
 ) -> Result<Items<T>, WireFault>
     ensures value { Gives (λ xs. xs) result (optional field [] (short_list limit T.spelled) (option_map (λ v. view v.now) object.entry)) }
+    ensures short { IfOk result (λ xs. length xs ≤ limit) }
 {
     let Some(value) = field_of(object, field) else {
         return Ok(Items::new(alloc));

@@ -27,7 +27,7 @@ use Rattle.wire_text.specs.Filters.{dest_data, ports_data, rule_data, sources_da
 use Rattle.wire_text.specs.Dns.{dns_data, extra_data, resolver_data, routes_data, with_route}
 use Rattle.wire_text.specs.Responses.{peer_members, response_data}
 
-neither : (a b : Bool) → a ≡ false → b ≡ false → (a || b) ≡ false
+pub neither : (a b : Bool) → a ≡ false → b ≡ false → (a || b) ≡ false
 neither a b x y = ap (λ v. v || b) x ∙ y
 
 both : (a b : Bool) → (a || b) ≡ false → (a ≡ false) × (b ≡ false)
@@ -57,7 +57,7 @@ some_plain : (k : List ℕ) (o : Option Data) (ms : Members) → IsPlain o → m
 some_plain k None ms x y = y
 some_plain k (Some d) ms x y = put_plain k d ms x y
 
-items_plain : {X : Type 0} (f : X → Data) (xs : List X) → ((x : X) → has_float (f x) ≡ false) → items_have_float (items_of (map f xs)) ≡ false
+pub items_plain : {X : Type 0} (f : X → Data) (xs : List X) → ((x : X) → has_float (f x) ≡ false) → items_have_float (items_of (map f xs)) ≡ false
 items_plain f [] h = refl
 items_plain f (x ∷ xs) h = neither (has_float (f x)) (items_have_float (items_of (map f xs))) (h x) (items_plain f xs h)
 
@@ -69,12 +69,12 @@ option_plain : {X : Type 0} (f : X → Data) (o : Option X) → ((x : X) → has
 option_plain f None h = tt
 option_plain f (Some x) h = h x
 
-time_plain : (t : Option ℤ) → has_float (time_data t) ≡ false
+pub time_plain : (t : Option ℤ) → has_float (time_data t) ≡ false
 unfolding moment_data
 time_plain None = refl
 time_plain (Some t) = refl
 
-prefix_plain : (p : Block) → has_float (prefix_data p) ≡ false
+pub prefix_plain : (p : Block) → has_float (prefix_data p) ≡ false
 unfolding prefix_data
 prefix_plain p = refl
 

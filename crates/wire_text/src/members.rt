@@ -10,8 +10,8 @@ use serde_json::{Map, Value};
 use std::alloc::Global;
 use tail_base::NoMemory;
 
-/// Puts a member.
-pub(crate) fn put_form<T: JsonForm>(
+/// Puts a member, in the place of one of that name. Members stand in byte order.
+pub fn put_form<T: JsonForm>(
     members: &mut Map<String, Value>,
     alloc: Global,
     name: &str,

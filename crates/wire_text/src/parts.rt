@@ -12,7 +12,7 @@ use std::alloc::Global;
 use tail_base::{DiscoKey, MachineKey, NoMemory, NodeKey, Tag, Text};
 
 /// A text as a JSON string.
-pub(crate) fn text_value(alloc: Global, text: &str) -> Result<Value, NoMemory>
+pub fn text_value(alloc: Global, text: &str) -> Result<Value, NoMemory>
     ensures value { IfOk result (λ v. view v ≡ string text.now) }
 {
     Ok(Value::try_from_str(alloc, text)?)
