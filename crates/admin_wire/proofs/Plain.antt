@@ -1,6 +1,6 @@
 -- No number that operators are shown is a float.
 use Rattle.std.proofs.Common.{◌≡◌, List, false, refl}
-use Rattle.serde_json.specs.Data.{Data, string}
+use Rattle.serde_json.specs.Data.{string}
 use Rattle.serde_json.specs.Written.{has_float}
 use Rattle.net_rows.specs.declared.pending.Pending.{Pending}
 use Rattle.net_rows.specs.declared.user.User.{User}
