@@ -6,6 +6,7 @@ ghost use Rattle.tailnetd.specs.Serve.{told};
 
 use crate::conversing::talk;
 use crate::ended::Ended;
+use desk_front::Front;
 use io_edge::{Clock, EdgeFault, Entropy, Sink, Source};
 use moments::Moment;
 use net_rows::Settings;
@@ -43,6 +44,9 @@ pub(crate) fn run<I: Source, O: Sink, P: Opener, C: Clock, N: Entropy>(
 {
     let moment = Moment::clamp(clock.seconds());
     let requests = settings.fields().requests;
+    let Ok(front) = Front::new(alloc, &settings) else {
+        return Ended::NoMemory;
+    };
     let keeper = match opener.open(alloc, settings.fields().database.as_str()) {
         Ok(keeper) => keeper,
         Err(EdgeFault::Failed) => return Ended::KeeperFault,
@@ -51,7 +55,7 @@ pub(crate) fn run<I: Source, O: Sink, P: Opener, C: Clock, N: Entropy>(
     match Desk::open(alloc, settings, keeper, moment) {
         Ok(mut desk) => {
             let closed = talk(
-                alloc, requests, seed, &mut desk, input, output, clock, entropy,
+                alloc, &front, requests, seed, &mut desk, input, output, clock, entropy,
             );
             opener.close(desk.close());
             Ended::Closed(closed)
