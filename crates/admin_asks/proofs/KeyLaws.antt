@@ -1,5 +1,5 @@
 -- Decisions on pre-auth keys keep the rules of the tables.
-use Rattle.std.proofs.Common.{◌≡◌, ◌<◌, ◌≤◌, ◌+◌, ◌==◌, ℕ, Bool, true, false, not, List, Option, Some, None, Result, Ok, inl, inr, ap, ◌∙◌, refl, subst, nat_lt, length, codes, arith}
+use Rattle.std.proofs.Common.{◌≡◌, ◌≤◌, ◌+◌, ◌==◌, ℕ, true, not, List, Option, Some, None, Result, Ok, inl, inr, refl, subst, nat_lt, length, arith}
 use Rattle.std.specs.Prelude.{Contains}
 use Rattle.net_rows.specs.Damage.{damage}
 use Rattle.net_rows.specs.Limits.{asked_tag_limit, counter_limit, key_limit}
@@ -17,7 +17,7 @@ use Rattle.net_rows.proofs.SoundPut.{sound_key}
 use Rattle.net_rows.proofs.Sounds.{sound_of, no_damage}
 use Rattle.desk_state.specs.Rulings.{IsSoundDecision}
 use Rattle.desk_state.specs.State.{State, is_ahead}
-use Rattle.desk_state.specs.Steps.{◌>>=◌, or_refuse, refuse_if, Gives}
+use Rattle.desk_state.specs.Steps.{or_refuse, refuse_if, Gives}
 use Rattle.desk_state.specs.Users.{user_named, tags_defined}
 use Rattle.desk_state.specs.declared.ask.KeyForm.{KeyForm}
 use Rattle.desk_state.specs.declared.decision.Decision.{Decision}

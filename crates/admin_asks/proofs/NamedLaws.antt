@@ -1,5 +1,5 @@
 -- What several kinds of asks rest on: users by login, defined tags, and rows that go.
-use Rattle.std.proofs.Common.{◌≡◌, ℕ, List, Result, Ok, sym, subst, length, nat_lt}
+use Rattle.std.proofs.Common.{◌≡◌, ℕ, List, Ok, subst, length, nat_lt}
 use Rattle.std.specs.Prelude.{Contains}
 use Rattle.std.specs.Str.{bytes_eq}
 use Rattle.tail_base.specs.Logins.{login_of}
@@ -11,7 +11,7 @@ use Rattle.net_rows.specs.declared.rows.Rows.{Rows}
 use Rattle.net_rows.specs.declared.user.User.{User}
 use Rattle.net_rows.proofs.Members.{find_member}
 use Rattle.net_rows.proofs.SoundGone.{next_stays}
-use Rattle.desk_state.specs.Steps.{◌>>=◌, or_refuse, refuse_if}
+use Rattle.desk_state.specs.Steps.{or_refuse}
 use Rattle.desk_state.specs.Users.{user_of, user_named, tags_defined}
 use Rattle.desk_state.specs.declared.reply.Refusal.TheVariants.{UnknownUser, TagUndefined}
 use Rattle.desk_state.proofs.StepLemmas.{AreRuled, bind_ok, bind_ruled, or_refuse_ok, or_ruled, refuse_ruled}

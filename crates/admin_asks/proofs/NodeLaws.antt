@@ -1,5 +1,5 @@
 -- Decisions on machines keep the rules of the tables.
-use Rattle.std.proofs.Common.{◌≡◌, ◌<◌, ◌≤◌, ◌==◌, ℕ, ℤ, Bool, true, false, not, ◌&&◌, List, [], ◌∷◌, Option, Some, None, unwrap_or, Result, Ok, inl, inr, sym, ap, ◌∙◌, refl, subst, length, arith}
+use Rattle.std.proofs.Common.{◌≡◌, ◌≤◌, ◌==◌, ℕ, ℤ, true, false, not, ◌&&◌, List, [], ◌∷◌, Option, Some, None, unwrap_or, Result, Ok, inl, inr, refl, subst, length, arith}
 use Rattle.std.specs.Prelude.{Contains}
 use Rattle.std.specs.Cmp.Lexicographic.{pointwise}
 use Rattle.std.specs.Str.{bytes_eq}
@@ -20,7 +20,7 @@ use Rattle.net_rows.proofs.SoundRemove.{sound_without_machine}
 use Rattle.net_rows.proofs.Sounds.{sound_of, no_damage}
 use Rattle.desk_state.specs.Rulings.{IsSoundDecision}
 use Rattle.desk_state.specs.State.{State}
-use Rattle.desk_state.specs.Steps.{◌>>=◌, or_refuse, refuse_if, Gives}
+use Rattle.desk_state.specs.Steps.{or_refuse, refuse_if, Gives}
 use Rattle.desk_state.specs.Tags.{sorted_once}
 use Rattle.desk_state.specs.Users.{tags_defined}
 use Rattle.desk_state.specs.declared.decision.Decision.{Decision}

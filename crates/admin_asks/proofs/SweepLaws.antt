@@ -1,5 +1,5 @@
 -- A sweep keeps the rules of the tables, and counts what goes.
-use Rattle.std.proofs.Common.{◌≡◌, ◌≤◌, ◌+◌, ◌==◌, ℕ, Bool, true, false, List, [], ◌∷◌, ◌++◌, None, Result, Ok, inl, inr, sym, refl, subst, length, arith}
+use Rattle.std.proofs.Common.{◌≡◌, ◌≤◌, ◌+◌, ◌==◌, ℕ, true, List, [], ◌∷◌, ◌++◌, None, Result, Ok, inl, inr, sym, refl, subst, length, arith}
 use Rattle.std.specs.List.{list_all}
 use Rattle.net_rows.specs.Damage.{damage}
 use Rattle.net_rows.specs.Limits.{machine_limit, pending_limit}

@@ -1,7 +1,7 @@
 -- Decisions on users keep the rules of the tables.
-use Rattle.std.proofs.Common.{◌≡◌, ◌≢◌, ◌<◌, ◌≤◌, ◌+◌, ◌++◌, ◌==◌, ℕ, Bool, true, false, not, List, [], ◌∷◌, None, Result, Ok, inl, inr, sym, ap, ◌∙◌, refl, subst, nat_lt, length, arith}
+use Rattle.std.proofs.Common.{◌≡◌, ◌+◌, ◌++◌, ◌==◌, ℕ, true, false, not, List, [], ◌∷◌, None, Result, Ok, inl, inr, sym, ap, ◌∙◌, refl, subst, nat_lt, length, arith}
 use Rattle.std.specs.Prelude.{Contains}
-use Rattle.std.specs.List.{list_any, list_all}
+use Rattle.std.specs.List.{list_all}
 use Rattle.std.specs.Str.{bytes_eq}
 use Rattle.tail_base.specs.Logins.{login_of}
 use Rattle.net_rows.specs.Damage.{damage}
@@ -11,7 +11,6 @@ use Rattle.net_rows.specs.Rows.{after, take_out, take_all_out}
 use Rattle.net_rows.specs.Sound.{AreSound}
 use Rattle.net_rows.specs.declared.change.Change.{Change}
 use Rattle.net_rows.specs.declared.change.Kind.TheVariants as kind
-use Rattle.net_rows.specs.declared.change.RowKey.{RowKey}
 use Rattle.net_rows.specs.declared.change.RowKey.TheVariants as gone
 use Rattle.net_rows.specs.declared.key.AuthKey.{AuthKey}
 use Rattle.net_rows.specs.declared.machine.Machine.{Machine}
@@ -19,13 +18,13 @@ use Rattle.net_rows.specs.declared.rows.Rows.{Rows}
 use Rattle.net_rows.specs.declared.user.User.{User}
 use Rattle.net_rows.proofs.Bools.{truth, both, bytes_is, lt_of}
 use Rattle.net_rows.proofs.Members.{no_member, cut_member, first_member, rest_member, list_any_member}
-use Rattle.net_rows.proofs.SoundGone.{is_unnamed, sound_take_all_out, take_all_out-append, next_stays, key_left, machine_left}
+use Rattle.net_rows.proofs.SoundGone.{is_unnamed, sound_take_all_out, take_all_out-append, key_left, machine_left}
 use Rattle.net_rows.proofs.SoundPut.{sound_user}
 use Rattle.net_rows.proofs.SoundRemove.{sound_without_user}
 use Rattle.net_rows.proofs.Sounds.{sound_of, no_damage}
 use Rattle.desk_state.specs.Rulings.{IsSoundDecision}
 use Rattle.desk_state.specs.State.{State}
-use Rattle.desk_state.specs.Steps.{◌>>=◌, or_refuse, refuse_if, Gives}
+use Rattle.desk_state.specs.Steps.{or_refuse, refuse_if, Gives}
 use Rattle.desk_state.specs.Users.{user_named}
 use Rattle.desk_state.specs.declared.decision.Decision.{Decision}
 use Rattle.desk_state.specs.declared.decision.Decision.TheVariants.{Changes}

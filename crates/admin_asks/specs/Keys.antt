@@ -1,5 +1,5 @@
 -- Operators make, list and end pre-auth keys.
-use Rattle.std.specs.Prelude.{◌+◌, ℕ, Bool, false, List, [], ◌∷◌, Option, Some, Result, Ok, codes, not, if◌then◌else◌}
+use Rattle.std.specs.Prelude.{◌+◌, ℕ, false, List, [], ◌∷◌, Option, Some, Result, Ok, codes, not, if◌then◌else◌}
 use Rattle.net_rows.specs.Room.{has_room}
 use Rattle.net_rows.specs.Rows.{key_with}
 use Rattle.net_rows.specs.declared.change.Change.{Change}

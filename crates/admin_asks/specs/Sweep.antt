@@ -1,5 +1,5 @@
 -- Rows that have outlived their time go.
-use Rattle.std.specs.Prelude.{◌+◌, ℕ, Bool, List, [], ◌∷◌, ◌++◌, Result, Ok, length, ◌==◌, not, ◌&&◌, if◌then◌else◌}
+use Rattle.std.specs.Prelude.{◌+◌, Bool, List, [], ◌∷◌, ◌++◌, Result, Ok, length, ◌==◌, not, ◌&&◌, if◌then◌else◌}
 use Rattle.net_rows.specs.declared.change.Change.{Change}
 use Rattle.net_rows.specs.declared.change.RowKey.{RowKey}
 use Rattle.net_rows.specs.declared.change.RowKey.TheVariants as gone

@@ -121,9 +121,7 @@ pub fn expire_node(
 fn is_taken(machines: &[Machine], id: u32, name: &Label) -> bool
     ensures value { result ≡ spec.is_taken machines.now id name.now }
 {
-    machines
-        .iter()
-        .any(|row| row.name.as_slice() == name.as_slice() && row.id != id)
+    machines.iter().any(|row| row.name.as_slice() == name.as_slice() && row.id != id)
 }
 
 fn renamed(

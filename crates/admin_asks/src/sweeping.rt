@@ -36,11 +36,7 @@ fn machines_gone(
 fn has_passed(at: &Snapshot<'_>, pending: &Pending) -> bool
     ensures value { result ≡ spec.has_passed at.now pending.now }
 {
-    is_past(
-        at.time,
-        pending.made,
-        at.settings.fields().pending_seconds,
-    )
+    is_past(at.time, pending.made, at.settings.fields().pending_seconds)
 }
 
 /// The pending entries whose time has passed.

@@ -6,4 +6,4 @@ use Rattle.admin_asks.proofs.sweeping.sweep.Goals as goal
 pub returns-clause-sound : goal.returns-clause-sound
 returns-clause-sound c =
     let rows : c.at.inside.tables.now.rows ≡ c.args.at.now.rows = ap (λ (s : State). s.rows) c.at.view_is in
-    sound_sweep c.args.at.now  c.sweeping.result (rw rows at c.users-rules.ensures.sound) c.sweeping.ensures.value
+    sound_sweep c.args.at.now c.sweeping.result (rw rows at c.users-rules.ensures.sound) c.sweeping.ensures.value
