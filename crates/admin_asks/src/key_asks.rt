@@ -1,5 +1,5 @@
 //! Operators make, list and end pre-auth keys.
-ghost use Rattle.std.specs.Prelude.{◌≡◌, ◌≤◌, Ok, IfOk, true, length};
+ghost use Rattle.std.specs.Prelude.{◌≡◌, ◌≤◌, IfOk, true, length};
 ghost use Rattle.net_rows.specs.Limits.{asked_tag_limit};
 ghost use Rattle.net_rows.specs.Room.{has_room};
 ghost use Rattle.net_rows.specs.declared.change.Kind.TheVariants as kind;

@@ -7,6 +7,8 @@
 //! them again. Where the rows are as they were asked to be already, nothing changes.
 #![tactic(auto)]
 
+// Each function that may change rows reads the users as `_rules` first: the accessor's contract says
+// that the tables keep their rules, which the decision's own clause rests on.
 mod key_asks;
 mod node_asks;
 mod sweeping;

@@ -1,5 +1,5 @@
 //! Operators make, list and remove users.
-ghost use Rattle.std.specs.Prelude.{◌≡◌, Ok, IfOk, true};
+ghost use Rattle.std.specs.Prelude.{◌≡◌, IfOk, true};
 ghost use Rattle.net_rows.specs.Room.{has_room};
 ghost use Rattle.net_rows.specs.declared.change.Kind.TheVariants as kind;
 ghost use Rattle.desk_state.specs.Rulings.{IsSoundDecision};
