@@ -16,9 +16,13 @@ use Rattle.map_delta.specs.declared.view.View.{View}
 abbrev pub shown : List ℕ → Machine → NodeRow
 shown domain m = node_of domain (own_addresses m) false m
 
+-- the machine of an id is live
+abbrev pub is_listed : List ℕ → ℕ → Bool
+is_listed live id = list_any (λ other. other == id) live
+
 -- the viewer sees the machine: it is live, and another one
 abbrev pub sees : List ℕ → ℕ → Machine → Bool
-sees live viewer p = not (p.id == viewer) && list_any (λ id. id == p.id) live
+sees live viewer p = not (p.id == viewer) && is_listed live p.id
 
 -- the nodes of the machines that the viewer sees, by id, which is the tables' order
 abbrev pub peers_of : List ℕ → List Machine → List ℕ → ℕ → List NodeRow

@@ -7,17 +7,32 @@ use std::alloc::Global;
 use tail_base::{Duplicate, Items, NoMemory};
 use wire_json::{Dns, DnsExtra, DnsRoute};
 
+fn route_of(alloc: Global, route: &DomainRoute) -> Result<DnsRoute, NoMemory>
+    ensures value { IfOk result (λ made. made ≡ route_of route.now) }
+{
+    Ok(DnsRoute {
+        suffix: route.domain.copy(alloc)?,
+        resolvers: route.resolvers.copy(alloc)?,
+    })
+}
+
 fn routes_of(alloc: Global, routes: &[DomainRoute]) -> Result<Items<DnsRoute>, NoMemory>
     ensures value { IfOk result (λ made. made ≡ map route_of routes.now) }
 {
     let mut made = Vec::new(alloc);
     for route in routes {
-        made.push(DnsRoute {
-            suffix: route.domain.copy(alloc)?,
-            resolvers: route.resolvers.copy(alloc)?,
-        })?;
+        made.push(route_of(alloc, route)?)?;
     }
     Ok(Items::from_vec(made))
+}
+
+fn extra_of(alloc: Global, extra: &Extra) -> Result<DnsExtra, NoMemory>
+    ensures value { IfOk result (λ made. made ≡ extra_of extra.now) }
+{
+    Ok(DnsExtra {
+        name: extra.name.copy(alloc)?,
+        addr: extra.addr,
+    })
 }
 
 fn extras_of(alloc: Global, extras: &[Extra]) -> Result<Items<DnsExtra>, NoMemory>
@@ -25,10 +40,7 @@ fn extras_of(alloc: Global, extras: &[Extra]) -> Result<Items<DnsExtra>, NoMemor
 {
     let mut made = Vec::new(alloc);
     for extra in extras {
-        made.push(DnsExtra {
-            name: extra.name.copy(alloc)?,
-            addr: extra.addr,
-        })?;
+        made.push(extra_of(alloc, extra)?)?;
     }
     Ok(Items::from_vec(made))
 }

@@ -24,10 +24,7 @@ fn all_of(to: Prefix) -> DestRange
 }
 
 /// The filter of a machine where no policy is in force: it lets everybody in.
-pub(crate) fn open_filter(
-    alloc: Global,
-    machine: &Machine,
-) -> Result<Items<FilterRule>, NoMemory>
+pub(crate) fn open_filter(alloc: Global, machine: &Machine) -> Result<Items<FilterRule>, NoMemory>
     ensures value { IfOk result (λ made. made ≡ open_filter machine.now) }
 {
     let mut dests = Items::new(alloc);

@@ -1,6 +1,6 @@
 //! Maps computed afresh.
 ghost use Rattle.std.specs.Prelude.{◌≡◌, ◌∷◌, ◌++◌, [], IfOk, OnOk, if◌then◌else◌};
-ghost use Rattle.map_delta.specs.Fresh.{fresh, peers_of, sees, shown};
+ghost use Rattle.map_delta.specs.Fresh.{fresh, is_listed, peers_of, sees, shown};
 
 use crate::dns::dns_of;
 use crate::filter::open_filter;
@@ -20,11 +20,18 @@ fn shown(alloc: Global, domain: &str, machine: &Machine) -> Result<NodeRow, NoMe
     node_of(alloc, domain, allowed, false, machine)
 }
 
+/// Whether the machine of an id is live.
+fn is_listed(live: &[u32], id: u32) -> bool
+    ensures value { result ≡ is_listed live.now id }
+{
+    live.iter().any(|other| *other == id)
+}
+
 /// Whether the viewer sees the machine.
 fn sees(live: &[u32], viewer: u32, machine: &Machine) -> bool
     ensures value { result ≡ sees live.now viewer machine.now }
 {
-    machine.id != viewer && live.iter().any(|id| *id == machine.id)
+    machine.id != viewer && is_listed(live, machine.id)
 }
 
 /// Adds the machine's node, where it is seen.

@@ -17,6 +17,5 @@ pub use profile::profile_of;
 pub use response::first_response;
 pub use view::View;
 
-
 #[cfg(test)]
 mod tests;

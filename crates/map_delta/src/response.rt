@@ -9,12 +9,7 @@ use wire_json::Response;
 
 /// The response that is a whole map, with the handle of its session and its number there, if it has
 /// any.
-pub fn first_response(
-    alloc: Global,
-    view: View,
-    handle: Option<Text>,
-    seq: Option<u64>,
-) -> Response
+pub fn first_response(alloc: Global, view: View, handle: Option<Text>, seq: Option<u64>) -> Response
     ensures value { result ≡ first_response view handle seq }
 {
     Response {

@@ -4,4 +4,4 @@ use Rattle.map_delta.proofs.ShownLemmas.{gathered_all}
 use Rattle.map_delta.proofs.profile.users_shown.Goals as goal
 
 pub loop-user-init : goal.loop-user-init
-loop-user-init c = gathered_all (λ u. owns_any (c.args.node.now ∷ c.args.peers.now) u.id) (user_profile) c.args.users.now
+loop-user-init c = rw c.new-owners.ensures.value (gathered_all (λ u. owns_any (c.args.node.now ∷ c.args.peers.now) u.id) (user_profile) c.args.users.now)

@@ -6,4 +6,4 @@ use Rattle.map_delta.proofs.ShownLemmas.{gathered_all}
 use Rattle.tailnet_desk.proofs.one_map.live_ids.Goals as goal
 
 pub loop-machine-init : goal.loop-machine-init
-loop-machine-init c = gathered_all (is_live c.args.at.now) (λ (m : Machine). m.id) c.args.at.now.rows.machines
+loop-machine-init c = rw c.new-ids.ensures.value (gathered_all (is_live c.args.at.now) (λ (m : Machine). m.id) c.args.at.now.rows.machines)
