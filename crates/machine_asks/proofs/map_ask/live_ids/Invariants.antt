@@ -1,10 +1,10 @@
 use Rattle.std.proofs.Common.{◌≡◌, ◌∷◌, drop}
 use Rattle.std.specs.Prelude.{map, filter}
 use Rattle.net_rows.specs.declared.machine.Machine.{Machine}
-use Rattle.tailnet_desk.specs.State.{is_live}
-use Rattle.tailnet_desk.specs.OneMap.{live_ids}
+use Rattle.desk_state.specs.State.{is_live}
+use Rattle.machine_asks.specs.OneMap.{live_ids}
 use Rattle.map_delta.proofs.ShownLemmas.{gathered}
-use Rattle.tailnet_desk.proofs.one_map.live_ids.Given as goal
+use Rattle.machine_asks.proofs.map_ask.live_ids.Given as goal
 
 -- what is gathered from here on makes the whole list
 abbrev pub invariant-loop-machine : goal.invariant-loop-machine

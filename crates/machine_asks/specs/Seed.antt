@@ -8,14 +8,14 @@ use Rattle.net_rows.specs.declared.user.User.{User}
 use Rattle.net_rows.specs.declared.key.AuthKey.{AuthKey}
 use Rattle.net_rows.specs.declared.change.Change.{Change}
 use Rattle.net_rows.specs.declared.change.Row.TheVariants as row
-use Rattle.tailnet_desk.specs.State.{State}
-use Rattle.tailnet_desk.specs.Steps.{◌>>=◌, refuse_if}
-use Rattle.tailnet_desk.specs.declared.reply.Refusal.{Refusal}
-use Rattle.tailnet_desk.specs.declared.reply.Refusal.TheVariants.{Full}
-use Rattle.tailnet_desk.specs.declared.reply.Scarce.TheVariants as scarce
-use Rattle.tailnet_desk.specs.declared.reply.Answer.TheVariants.{Gone}
-use Rattle.tailnet_desk.specs.declared.decision.Decision.{Decision}
-use Rattle.tailnet_desk.specs.declared.decision.Decision.TheVariants.{Only, Changes}
+use Rattle.desk_state.specs.State.{State}
+use Rattle.desk_state.specs.Steps.{◌>>=◌, refuse_if}
+use Rattle.desk_state.specs.declared.reply.Refusal.{Refusal}
+use Rattle.desk_state.specs.declared.reply.Refusal.TheVariants.{Full}
+use Rattle.desk_state.specs.declared.reply.Scarce.TheVariants as scarce
+use Rattle.desk_state.specs.declared.reply.Answer.TheVariants.{Gone}
+use Rattle.desk_state.specs.declared.decision.Decision.{Decision}
+use Rattle.desk_state.specs.declared.decision.Decision.TheVariants.{Only, Changes}
 
 -- tables with users, and texts of the server's own keys, stay as they are
 abbrev pub is_past_seed : Rows → List ℕ → Bool
