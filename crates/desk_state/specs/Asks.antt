@@ -1,5 +1,5 @@
 -- What asks need, and how long what they hand in may be.
-use Rattle.std.specs.Prelude.{◌≤◌, ℕ, Bool, true, false, Option, IfSome, length, ◌==◌}
+use Rattle.std.specs.Prelude.{◌≤◌, Bool, true, false, IfSome, length, ◌==◌}
 use Rattle.net_rows.specs.Limits.{asked_tag_limit, tag_limit}
 use Rattle.wire_json.specs.Short.{IsShortForm, IsShortUpdate}
 use Rattle.desk_state.specs.declared.ask.Ask.{Ask}

@@ -5,3 +5,5 @@ pub mod State
 pub mod Steps
 pub mod TagPlaces
 pub mod Tags
+pub mod Texts
+pub mod Users

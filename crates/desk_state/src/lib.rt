@@ -9,6 +9,8 @@ mod lines;
 mod presence;
 mod reply;
 mod tags;
+mod texts;
+mod users;
 
 pub use ask::{Ask, KeyForm, needs_words};
 pub use decision::{Decision, Stop};
@@ -17,3 +19,5 @@ pub use lines::{KeyLine, NodeLine, key_line, login_of, node_line, offline_line};
 pub use presence::{MachinePresence, Presence};
 pub use reply::{Answer, Refusal, Reply, Scarce};
 pub use tags::sorted_once;
+pub use texts::row_text;
+pub use users::{tags_defined, user_named};
