@@ -37,15 +37,20 @@ awaited s p user = record {
   expiry = expiry_of s p.expiry (sorted_once p.tags);
 }
 
--- the machine has this row from now on, and its entry goes
-abbrev pub let_in : State → Pending → Machine → Place → Decision
-let_in s p m place = Changes (row_change s.rows m place.next None (Some p)) (place.id ∷ []) (Node (offline_line s m))
+-- the machine has this row from now on, this is the next id, and the entry goes
+abbrev pub let_in : State → Pending → Machine → ℕ → Decision
+let_in s p m next = Changes (row_change s.rows m next None (Some p)) (m.id ∷ []) (Node (offline_line s m))
+
+-- the machine of an entry enters for this user
+abbrev pub admitted : State → Pending → ℕ → Result Decision Refusal
+admitted s p user = do
+  other ← refuse_if (is_taken s.rows.machines p.machine p.node) NodeKeyTaken
+  tags ← tags_defined p.tags
+  place ← place_for s p.host (machine_of s.rows.machines p.machine.0)
+  Ok (let_in s p (machine_row p.machine (awaited s p user) place) place.next)
 
 abbrev pub admit : State → List ℕ → List ℕ → Result Decision Refusal
 admit s pending login = do
   p ← timely_entry s pending
   user ← user_named s.rows login
-  other ← refuse_if (is_taken s.rows.machines p.machine p.node) NodeKeyTaken
-  tags ← tags_defined p.tags
-  place ← place_for s p.host (machine_of s.rows.machines p.machine.0)
-  Ok (let_in s p (machine_row p.machine (awaited s p user.id) place) place)
+  admitted s p user.id

@@ -8,6 +8,7 @@ use Rattle.wire_json.specs.declared.register.Register.{Register}
 use Rattle.desk_state.specs.State.{State, is_ahead}
 use Rattle.desk_state.specs.Steps.{◌>>=◌, refuse_if, or_refuse}
 use Rattle.desk_state.specs.Tags.{sorted_once}
+use Rattle.desk_state.specs.Users.{tags_defined}
 use Rattle.desk_state.specs.declared.decision.Decision.{Decision}
 use Rattle.desk_state.specs.declared.decision.Decision.TheVariants.{Changes}
 use Rattle.desk_state.specs.declared.reply.Refusal.{Refusal}
@@ -48,5 +49,6 @@ admitted s mk e key place =
 abbrev pub by_key : State → MachineKey → Register → Option Machine → Result Decision Refusal
 by_key s mk form held = do
   key ← usable_key s form.auth
+  tags ← tags_defined form.tags
   place ← place_for s form.host held
   Ok (admitted s mk (keyed s form key) key place)

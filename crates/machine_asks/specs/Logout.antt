@@ -32,12 +32,20 @@ ended s m = record m { expiry = Some s.now }
 abbrev pub logged_out : State → Machine → Answer
 logged_out s m = Registered (profile_of s.rows.users m.user) true
 
--- an ephemeral machine goes; another one's life ends now, unless it has ended
+-- an ephemeral machine goes
+abbrev pub removed : State → Machine → Decision
+removed s m = Changes (row_gone s.rows m) [] (logged_out s m)
+
+-- the life of another one ends now
+abbrev pub closed : State → Machine → Decision
+closed s m = Changes (row_replaced s.rows (ended s m)) (online_ids s m) (logged_out s m)
+
+-- unless it has ended already
+abbrev pub closed_once : State → Machine → Decision
+closed_once s m = if is_ahead s.now m.expiry then closed s m else Only (logged_out s m)
+
 abbrev pub logout_of : State → Machine → Decision
-logout_of s m =
-    if m.ephemeral then Changes (row_gone s.rows m) [] (logged_out s m)
-    else if is_ahead s.now m.expiry then Changes (row_replaced s.rows (ended s m)) (online_ids s m) (logged_out s m)
-    else Only (logged_out s m)
+logout_of s m = if m.ephemeral then removed s m else closed_once s m
 
 -- the machine of these keys logs out
 abbrev pub logout : State → NodeKey → Option Machine → Result Decision Refusal

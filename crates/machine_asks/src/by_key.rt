@@ -7,7 +7,7 @@ ghost use Rattle.machine_asks.specs.ByKey as spec;
 use crate::entrant::{Entrant, expiry_of, joined};
 use crate::place::{Place, place_for};
 use crate::rows::{machine_row, registered, row_change};
-use desk_state::{Decision, Refusal, Snapshot, Stop, is_ahead, sorted_once};
+use desk_state::{Decision, Refusal, Snapshot, Stop, is_ahead, sorted_once, tags_defined};
 use net_rows::{AuthKey, Machine};
 use std::alloc::Global;
 use tail_base::{Duplicate, Items, MachineKey, NoMemory, Tag, Text};
@@ -91,6 +91,7 @@ pub(crate) fn by_key(
     ensures value { Gives (λ d. d) result (spec.by_key at.now machine.now form.now (option_copied row.entry)) }
 {
     let key = usable_key(at, &form.auth)?;
+    tags_defined(form.tags.as_slice())?;
     let place = place_for(alloc, at, &form.host, row)?;
     let entrant = keyed(alloc, at, form, key)?;
     Ok(admitted(alloc, at, machine, entrant, key, place)?)

@@ -48,25 +48,45 @@ fn logged_out(alloc: Global, at: &Snapshot<'_>, row: &Machine) -> Result<Answer,
     })
 }
 
+fn removed(alloc: Global, at: &Snapshot<'_>, row: &Machine) -> Result<Decision, NoMemory>
+    ensures value { IfOk result (λ d. d ≡ spec.removed at.now row.now) }
+{
+    Ok(Decision::Changes {
+        change: row_gone(alloc, at.tables, row)?,
+        offline: Items::new(alloc),
+        answer: logged_out(alloc, at, row)?,
+    })
+}
+
+fn closed(alloc: Global, at: &Snapshot<'_>, row: &Machine) -> Result<Decision, NoMemory>
+    ensures value { IfOk result (λ d. d ≡ spec.closed at.now row.now) }
+{
+    let ended = ended(alloc, at, row)?;
+    Ok(Decision::Changes {
+        change: row_replaced(alloc, at.tables, ended)?,
+        offline: online_ids(alloc, at, row)?,
+        answer: logged_out(alloc, at, row)?,
+    })
+}
+
+fn closed_once(alloc: Global, at: &Snapshot<'_>, row: &Machine) -> Result<Decision, NoMemory>
+    ensures value { IfOk result (λ d. d ≡ spec.closed_once at.now row.now) }
+{
+    if is_ahead(at.time, row.expiry) {
+        closed(alloc, at, row)
+    } else {
+        Ok(Decision::Only(logged_out(alloc, at, row)?))
+    }
+}
+
 fn logout_of(alloc: Global, at: &Snapshot<'_>, row: &Machine) -> Result<Decision, NoMemory>
     ensures value { IfOk result (λ d. d ≡ spec.logout_of at.now row.now) }
 {
-    let answer = logged_out(alloc, at, row)?;
     if row.ephemeral {
-        return Ok(Decision::Changes {
-            change: row_gone(alloc, at.tables, row)?,
-            offline: Items::new(alloc),
-            answer,
-        });
+        removed(alloc, at, row)
+    } else {
+        closed_once(alloc, at, row)
     }
-    if !is_ahead(at.time, row.expiry) {
-        return Ok(Decision::Only(answer));
-    }
-    Ok(Decision::Changes {
-        change: row_replaced(alloc, at.tables, ended(alloc, at, row)?)?,
-        offline: online_ids(alloc, at, row)?,
-        answer,
-    })
 }
 
 /// A machine logs out. The row of an ephemeral machine goes; the life of another one ends now, unless
@@ -118,8 +138,9 @@ pub(crate) fn rotated(
 ) -> Result<Decision, NoMemory>
     ensures value { IfOk result (λ d. d ≡ spec.rotated at.now node.now row.now) }
 {
+    let changed = with_node(alloc, row, node)?;
     Ok(Decision::Changes {
-        change: row_replaced(alloc, at.tables, with_node(alloc, row, node)?)?,
+        change: row_replaced(alloc, at.tables, changed)?,
         offline: online_ids(alloc, at, row)?,
         answer: Answer::Registered {
             profile: profile_of(alloc, at.tables, row.user)?,

@@ -1,5 +1,5 @@
 //! A machine waits for an operator.
-ghost use Rattle.std.specs.Prelude.{◌≡◌, IfOk, length, map};
+ghost use Rattle.std.specs.Prelude.{◌≡◌, ◌<◌, IfOk, length};
 ghost use Rattle.std.specs.Option.{option_copied};
 ghost use Rattle.desk_state.specs.Steps.{Gives};
 ghost use Rattle.machine_asks.specs.Waiting as spec;
