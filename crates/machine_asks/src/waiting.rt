@@ -2,6 +2,8 @@
 ghost use Rattle.std.specs.Prelude.{◌≡◌, ◌<◌, IfOk, length};
 ghost use Rattle.std.specs.Option.{option_copied};
 ghost use Rattle.desk_state.specs.Steps.{Gives};
+ghost use Rattle.net_rows.specs.Shelf.{without};
+ghost use Rattle.net_rows.specs.declared.pending.Pending.{Pending};
 ghost use Rattle.machine_asks.specs.Waiting as spec;
 
 use crate::rows::pending_gone;
@@ -24,13 +26,26 @@ fn waits(at: &Snapshot<'_>, node: &NodeKey, entry: &Pending) -> bool
     entry.node == *node && !is_overdue(at, entry)
 }
 
+/// How many entries have another id.
+fn count_others(pending: &[Pending], id: u32) -> usize
+    ensures value { result ≡ length (without (λ (r : Pending). r.id) pending.now id) }
+{
+    let mut count = 0;
+    for entry in pending {
+        if entry.id != id {
+            count += 1;
+        }
+    }
+    count
+}
+
 /// How many entries are left without the one that goes.
 fn count_left(pending: &[Pending], old: Option<&Pending>) -> usize
     ensures value { result ≡ length (spec.pending_left pending.now (option_copied old.entry)) }
 {
     match old {
         None => pending.len(),
-        Some(old) => pending.iter().filter(|entry| entry.id != old.id).count(),
+        Some(old) => count_others(pending, old.id),
     }
 }
 
