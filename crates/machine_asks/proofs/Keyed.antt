@@ -1,5 +1,5 @@
 -- A registration by a pre-auth key keeps the rules of the tables.
-use Rattle.std.proofs.Common.{◌≡◌, ◌≤◌, ◌+◌, ◌++◌, ℕ, Bool, false, not, ◌&&◌, List, length, Option, Some, None, Result, Ok, ap, ◌∙◌, arith}
+use Rattle.std.proofs.Common.{◌≡◌, ◌≤◌, ◌+◌, ◌++◌, ℕ, Bool, false, not, ◌&&◌, List, length, Option, Some, None, Result, Ok, nat_lt, ap, ◌∙◌, arith}
 use Rattle.std.proofs.Common.{length-append}
 use Rattle.std.specs.Prelude.{Contains}
 use Rattle.std.specs.Str.{bytes_eq}
@@ -14,7 +14,8 @@ use Rattle.wire_json.specs.declared.register.Register.{Register}
 use Rattle.desk_state.specs.State.{State, is_ahead}
 use Rattle.desk_state.specs.Steps.{◌>>=◌, refuse_if, or_refuse}
 use Rattle.desk_state.specs.Tags.{sorted_once}
-use Rattle.desk_state.specs.declared.reply.Refusal.TheVariants.{KeyUnknown, KeyExpired, KeyUsed}
+use Rattle.desk_state.specs.Users.{tags_defined}
+use Rattle.desk_state.specs.declared.reply.Refusal.TheVariants.{KeyUnknown, KeyExpired, KeyUsed, TagUndefined}
 use Rattle.desk_state.proofs.StepLemmas.{AreRuled, bind_ok, bind_ruled, ok_ruled, or_refuse_ok, or_ruled, refuse_ruled}
 use Rattle.desk_state.proofs.TagLemmas.{length-sorted_once}
 use Rattle.machine_asks.specs.ByKey.{admitted, by_key, keyed, usable_key}
@@ -55,6 +56,7 @@ pub by_key_proper : (s : State) (mk : MachineKey) (form : Register) (held : Opti
 by_key_proper s mk form held hold sound short found free =
     proper_bind s (usable_key s form.auth) _ (key_ruled s form.auth) (λ (k : AuthKey) is.
     let inside = usable_is s form.auth k is in
+    proper_bind s (tags_defined form.tags) _ (refuse_ruled (nat_lt 0 (length form.tags)) TagUndefined tt) (λ _ _.
     proper_bind s (place_for s form.host held) _ (place_ruled s form.host held) (λ (p : Place) placed.
     proper_changes s _ _ _ (enter_sound s mk (keyed s form k) form.host held p (Some k) (pending_of s.rows.pending mk.0) hold sound found free
-    (keyed_keeps s form k sound short inside) placed inside)))
+    (keyed_keeps s form k sound short inside) placed inside))))

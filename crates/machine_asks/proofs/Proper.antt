@@ -1,5 +1,5 @@
 -- Decisions that are refused by rules alone, and that keep the rules of the tables.
-use Rattle.std.proofs.Common.{◌≡◌, ℕ, Bool, true, false, List, Option, Some, None, Result, Ok, Err, if◌then◌else◌, refl, sym, subst}
+use Rattle.std.proofs.Common.{◌≡◌, ℕ, Bool, true, false, not, List, Option, Some, None, Result, Ok, Err, if◌then◌else◌, refl, sym, subst}
 use Rattle.net_addr.specs.Bits.{IsBlock}
 use Rattle.net_rows.specs.Settings.{AreSettings}
 use Rattle.net_rows.specs.declared.settings.SettingsFields.{SettingsFields}
@@ -62,3 +62,8 @@ sound_proper s d r h g = sound_decision s d r h.ruled (λ c o a e. no_damage (af
 pub proper_choice : (s : State) (b : Bool) (x y : Decision) → (b ≡ true → IsProper s (Ok x)) → (b ≡ false → IsProper s (Ok y)) → IsProper s (Ok (if b then x else y))
 proper_choice s true x y h k = h refl
 proper_choice s false x y h k = k refl
+
+-- what isn't refused passes
+pub passed : (b : Bool) → not b ≡ false → b ≡ true
+passed true h = refl
+passed false h = absurd (cc)

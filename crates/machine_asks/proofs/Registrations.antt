@@ -1,5 +1,5 @@
 -- Each registration is refused by rules alone, and keeps the rules of the tables.
-use Rattle.std.proofs.Common.{◌≡◌, ℕ, Bool, true, false, List, Option, Some, None, Result, Ok, Err, refl, sym, subst, arith}
+use Rattle.std.proofs.Common.{◌≡◌, ℕ, Bool, true, false, List, Option, Some, None, Result, Ok, Err, refl, nat_lt, length}
 use Rattle.std.specs.Prelude.{Contains}
 use Rattle.std.specs.Str.{bytes_eq}
 use Rattle.tail_base.specs.declared.key.MachineKey.{MachineKey}
@@ -12,13 +12,16 @@ use Rattle.wire_json.specs.Short.{IsShortForm}
 use Rattle.wire_json.specs.declared.register.Register.{Register}
 use Rattle.desk_state.specs.State.{State, is_ahead}
 use Rattle.desk_state.specs.declared.reply.Refusal.TheVariants.{NodeKeyTaken, UnknownMachine}
-use Rattle.machine_asks.specs.Logout.{ended, is_logout, logged_out, logout, logout_of, rotated, row_gone}
-use Rattle.machine_asks.specs.Register.{arrive, enter, register, register_as, repeats}
+use Rattle.machine_asks.specs.Logout.{ended, is_logout, logged_out, logout, logout_of, rotated, rotates, row_gone}
+use Rattle.machine_asks.specs.Register.{arrive, enter, register, repeated, repeats, unkeyed, unrepeated}
 use Rattle.machine_asks.specs.Rows.{is_taken, row_replaced}
 use Rattle.machine_asks.specs.Holds.{SettingsHold}
 use Rattle.machine_asks.proofs.Proper.{IsProper, proper_changes, proper_choice, proper_err, proper_if, proper_only, proper_refuse}
 use Rattle.machine_asks.proofs.RowLemmas.{machine_found, own_node, replaced_sound}
+use Rattle.machine_asks.specs.ByKey.{by_key}
+use Rattle.machine_asks.specs.Waiting.{wait}
 use Rattle.machine_asks.proofs.Keyed.{by_key_proper}
+use Rattle.machine_asks.proofs.Waits.{wait_proper}
 
 -- a machine's row that changes in its expiry alone
 ended_sound : (s : State) (m : Machine) → AreSound s.rows → Contains s.rows.machines m → AreSound (after s.rows (row_replaced s.rows (ended s m)))
@@ -74,19 +77,37 @@ logout_proper s mk node (Some m) sound found =
     (λ same. logout_of_proper s m sound (machine_found s.rows.machines mk m found).0)
     (λ other. proper_err s UnknownMachine tt)
 
-enter_proper : (s : State) (mk : MachineKey) (form : Register) (held : Option Machine) → SettingsHold s → AreSound s.rows → IsShortForm form
-    → machine_of s.rows.machines mk.0 ≡ held → IsProper s (enter s mk form held)
-enter_proper s mk form held hold sound short found =
-    proper_refuse s (is_taken s.rows.machines mk form.node) NodeKeyTaken _ tt (λ free. by_key_proper s mk form held hold sound short found free)
+unkeyed_proper : (s : State) (mk : MachineKey) (form : Register) (words : Option (List ℕ)) (held : Option Machine) → AreSound s.rows → IsShortForm form
+    → machine_of s.rows.machines mk.0 ≡ held → is_taken s.rows.machines mk form.node ≡ false → IsProper s (unkeyed s mk form words held)
+unkeyed_proper s mk form words None sound short found free = wait_proper s mk form words sound short
+unkeyed_proper s mk form words (Some m) sound short found free =
+    proper_if s (rotates s form.old m) (Ok (rotated s form.node m)) (wait s mk form words)
+    (λ _. proper_changes s _ _ _ (rotated_sound s mk form.node m sound found free))
+    (λ _. wait_proper s mk form words sound short)
 
-arrive_proper : (s : State) (mk : MachineKey) (form : Register) (held : Option Machine) → SettingsHold s → AreSound s.rows → IsShortForm form
-    → machine_of s.rows.machines mk.0 ≡ held → IsProper s (arrive s mk form held)
-arrive_proper s mk form None hold sound short found = enter_proper s mk form None hold sound short found
-arrive_proper s mk form (Some m) hold sound short found =
-    proper_if s (repeats s form.node m) _ _ (λ again. proper_only s _) (λ new. enter_proper s mk form (Some m) hold sound short found)
+enter_proper : (s : State) (mk : MachineKey) (form : Register) (words : Option (List ℕ)) (held : Option Machine) → SettingsHold s → AreSound s.rows → IsShortForm form
+    → machine_of s.rows.machines mk.0 ≡ held → is_taken s.rows.machines mk form.node ≡ false → IsProper s (enter s mk form words held)
+enter_proper s mk form words held hold sound short found free =
+    proper_if s (nat_lt 0 (length form.auth)) (by_key s mk form held) (unkeyed s mk form words held)
+    (λ _. by_key_proper s mk form held hold sound short found free)
+    (λ _. unkeyed_proper s mk form words held sound short found free)
 
-pub register_proper : (s : State) (mk : MachineKey) (form : Register) → SettingsHold s → AreSound s.rows → IsShortForm form → IsProper s (register s mk form)
-register_proper s mk form hold sound short =
-    proper_if s (is_logout s form.expiry) _ _
-    (λ _. logout_proper s mk form.node (machine_of s.rows.machines mk.0) sound refl)
-    (λ _. arrive_proper s mk form (machine_of s.rows.machines mk.0) hold sound short refl)
+unrepeated_proper : (s : State) (mk : MachineKey) (form : Register) (words : Option (List ℕ)) (held : Option Machine) → SettingsHold s → AreSound s.rows → IsShortForm form
+    → machine_of s.rows.machines mk.0 ≡ held → IsProper s (unrepeated s mk form words held)
+unrepeated_proper s mk form words held hold sound short found =
+    proper_refuse s (is_taken s.rows.machines mk form.node) NodeKeyTaken (λ _. enter s mk form words held) tt
+    (λ free. enter_proper s mk form words held hold sound short found free)
+
+arrive_proper : (s : State) (mk : MachineKey) (form : Register) (words : Option (List ℕ)) (held : Option Machine) → SettingsHold s → AreSound s.rows → IsShortForm form
+    → machine_of s.rows.machines mk.0 ≡ held → IsProper s (arrive s mk form words held)
+arrive_proper s mk form words None hold sound short found = unrepeated_proper s mk form words None hold sound short found
+arrive_proper s mk form words (Some m) hold sound short found =
+    proper_if s (repeats s form.node m) (Ok (repeated s m)) (unrepeated s mk form words (Some m))
+    (λ again. proper_only s _) (λ new. unrepeated_proper s mk form words (Some m) hold sound short found)
+
+pub register_proper : (s : State) (mk : MachineKey) (form : Register) (words : Option (List ℕ)) → SettingsHold s → AreSound s.rows → IsShortForm form → IsProper s (register s mk form words)
+register_proper s mk form words hold sound short =
+    let held = machine_of s.rows.machines mk.0 in
+    proper_if s (is_logout s form.expiry) (logout s form.node held) (arrive s mk form words held)
+    (λ _. logout_proper s mk form.node held sound refl)
+    (λ _. arrive_proper s mk form words held hold sound short refl)

@@ -20,7 +20,7 @@ use Rattle.desk_state.specs.declared.reply.Answer.TheVariants.{Gone}
 use Rattle.desk_state.specs.declared.reply.Refusal.TheVariants.{Full}
 use Rattle.desk_state.specs.declared.reply.Scarce.TheVariants as scarce
 use Rattle.machine_asks.specs.Seed.{seed, is_past_seed, seed_change, seed_user, seed_key}
-use Rattle.machine_asks.proofs.Proper.{IsProper, proper_changes, proper_if, proper_only, proper_refuse}
+use Rattle.machine_asks.proofs.Proper.{IsProper, passed, proper_changes, proper_if, proper_only, proper_refuse}
 
 no_users : (t : Rows) (text : List ℕ) → is_past_seed t text ≡ false → (t.users ≡ []) × (starts_with nat_eq text (codes "tnkey-") ≡ false)
 no_users t text h = (empty t.users (neither _ _ h).0, (neither _ _ h).1) where
@@ -59,11 +59,6 @@ seeded t text sound first user_room key_room =
         tags = omega arith;
       };
     }) (omega arith) (omega arith) (let b = lt_of _ _ kr.1 in omega arith)
-
--- what isn't refused passes
-passed : (b : Bool) → not b ≡ false → b ≡ true
-passed true h = refl
-passed false h = absurd (cc)
 
 pub seed_proper : (s : State) (text : List ℕ) → AreSound s.rows → IsProper s (seed s text)
 seed_proper s text sound =
