@@ -68,12 +68,7 @@ fn let_in(
     })
 }
 
-fn admitted(
-    alloc: Global,
-    at: &Snapshot<'_>,
-    entry: &Pending,
-    user: u32,
-) -> Result<Decision, Stop>
+fn admitted(alloc: Global, at: &Snapshot<'_>, entry: &Pending, user: u32) -> Result<Decision, Stop>
     ensures value { Gives (λ d. d) result (spec.admitted at.now entry.now user) }
 {
     if is_taken(at.tables.machines(), &entry.machine, &entry.node) {

@@ -38,11 +38,7 @@ pub(crate) fn expiry_of(at: &Snapshot<'_>, asked: Option<Moment>, tags: &[Tag]) 
 }
 
 /// The tags of the first list, and then those of the second.
-pub(crate) fn joined(
-    alloc: Global,
-    first: &[Tag],
-    second: &[Tag],
-) -> Result<Items<Tag>, NoMemory>
+pub(crate) fn joined(alloc: Global, first: &[Tag], second: &[Tag]) -> Result<Items<Tag>, NoMemory>
     ensures value { IfOk result (λ made. made ≡ first.now ++ second.now) }
 {
     let mut made = Items::from_slice(alloc, first)?;

@@ -43,11 +43,7 @@ pub(crate) fn machine_row(
     }
 }
 
-fn with_used_key(
-    alloc: Global,
-    row: Machine,
-    key: Option<&AuthKey>,
-) -> Result<Items<Row>, NoMemory>
+fn with_used_key(alloc: Global, row: Machine, key: Option<&AuthKey>) -> Result<Items<Row>, NoMemory>
     ensures value { IfOk result (λ puts. puts ≡ spec.puts_of row (option_copied key.entry)) }
 {
     let mut puts = Items::new(alloc);
@@ -60,7 +56,10 @@ fn with_used_key(
     Ok(puts)
 }
 
-pub(crate) fn pending_gone(alloc: Global, pending: Option<&Pending>) -> Result<Items<RowKey>, NoMemory>
+pub(crate) fn pending_gone(
+    alloc: Global,
+    pending: Option<&Pending>,
+) -> Result<Items<RowKey>, NoMemory>
     ensures value { IfOk result (λ gone. gone ≡ spec.pending_gone (option_copied pending.entry)) }
 {
     let mut gone = Items::new(alloc);

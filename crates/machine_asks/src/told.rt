@@ -9,17 +9,16 @@ use std::alloc::Global;
 use tail_base::{Duplicate, Items, NoMemory, Text};
 use wire_json::{HostUpdate, Update};
 
-fn told_host(
-    alloc: Global,
-    was: &Text,
-    host: &Option<HostUpdate>,
-) -> Result<Text, NoMemory>
+fn told_host(alloc: Global, was: &Text, host: &Option<HostUpdate>) -> Result<Text, NoMemory>
     ensures value { IfOk result (λ text. text ≡ spec.told_host was.now host.now) }
 {
     match host {
-        Some(HostUpdate {
-            name: Some(name), ..
-        }) => name.copy(alloc),
+        Some(
+            HostUpdate {
+                name: Some(name),
+                ..
+            },
+        ) => name.copy(alloc),
         _ => was.copy(alloc),
     }
 }
