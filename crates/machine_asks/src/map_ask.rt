@@ -1,5 +1,5 @@
 //! A machine asks for its map, and may tell of itself.
-ghost use Rattle.std.specs.Prelude.{◌≡◌, ◌∷◌, ◌++◌, [], IfOk, IfSome, None, OnOk, if◌then◌else◌};
+ghost use Rattle.std.specs.Prelude.{◌≡◌, ◌∷◌, ◌++◌, [], IfOk, IfSome, Contains, None, OnOk, if◌then◌else◌};
 ghost use Rattle.std.specs.Option.{option_copied};
 ghost use Rattle.desk_state.specs.Rulings.{IsSoundDecision};
 ghost use Rattle.desk_state.specs.State.{is_live};
@@ -16,7 +16,7 @@ use crate::told::{same_told, told_row};
 use crate::who_asks::asking;
 use desk_state::{Answer, Decision, Snapshot, Stop, is_live};
 use map_delta::{first_response, plain_map};
-use net_rows::{Change, Machine};
+use net_rows::{Change, Machine, Tables};
 use std::alloc::Global;
 use tail_base::{Duplicate, Items, MachineKey, NoMemory, NodeKey};
 use wire_json::Update;
@@ -52,6 +52,24 @@ fn map_for(alloc: Global, at: &Snapshot<'_>, row: &Machine) -> Result<Answer, No
     Ok(Answer::Map(first_response(alloc, view, None, None)))
 }
 
+/// The map of a machine in other tables.
+fn map_in(
+    alloc: Global,
+    at: &Snapshot<'_>,
+    tables: &Tables,
+    row: &Machine,
+) -> Result<Answer, NoMemory>
+    ensures value { IfOk result (λ a. a ≡ spec.map_for (record at.now { rows = tables.now.rows }) row.now) }
+{
+    let changed = Snapshot {
+        settings: at.settings,
+        tables,
+        presence: at.presence,
+        time: at.time,
+    };
+    map_for(alloc, &changed, row)
+}
+
 /// The map of a machine after a change.
 fn changed_map(
     alloc: Global,
@@ -63,13 +81,7 @@ fn changed_map(
     ensures value { IfOk result (λ a. a ≡ spec.map_for (spec.after_change at.now change.now) row.now) }
 {
     let tables = at.tables.after(alloc, change)?;
-    let changed = Snapshot {
-        settings: at.settings,
-        tables: &tables,
-        presence: at.presence,
-        time: at.time,
-    };
-    map_for(alloc, &changed, row)
+    map_in(alloc, at, &tables, row)
 }
 
 fn mapped_after(
@@ -93,6 +105,40 @@ fn mapped_after(
     })
 }
 
+fn mapped(
+    alloc: Global,
+    at: &Snapshot<'_>,
+    row: &Machine,
+    update: Option<&Update>,
+) -> Result<Decision, NoMemory>
+    requires inside { Contains at.now.rows.machines row.now }
+    requires short { IfSome (option_copied update) IsShortUpdate }
+    ensures value { IfOk result (λ d. d ≡ spec.mapped at.now row.now (option_copied update.entry)) }
+{
+    keep_rules(at);
+    match update {
+        None => Ok(Decision::Only(map_for(alloc, at, row)?)),
+        Some(update) => {
+            let told = told_row(alloc, row, update)?;
+            mapped_after(alloc, at, row, told)
+        }
+    }
+}
+
+fn one_map_of(
+    alloc: Global,
+    at: &Snapshot<'_>,
+    machine: &MachineKey,
+    node: &NodeKey,
+    update: Option<&Update>,
+) -> Result<Decision, Stop>
+    requires short { IfSome (option_copied update) IsShortUpdate }
+    ensures value { Gives (λ d. d) result (spec.one_map at.now machine.now node.now (option_copied update.entry)) }
+{
+    let row = asking(at, machine, node)?;
+    Ok(mapped(alloc, at, row, update)?)
+}
+
 /// What comes of a machine's wish for its map: the whole map, computed afresh, after what it tells of
 /// itself. The machine has to be one with these keys, and live.
 pub fn one_map(
@@ -102,17 +148,10 @@ pub fn one_map(
     node: &NodeKey,
     update: Option<&Update>,
 ) -> Result<Decision, Stop>
-    requires short { IfSome update (λ told. IsShortUpdate told.now) }
+    requires short { IfSome (option_copied update) IsShortUpdate }
     ensures value { Gives (λ d. d) result (spec.one_map at.now machine.now node.now (option_copied update.entry)) }
     ensures sound { IsSoundDecision at.now.rows result }
 {
     keep_rules(at);
-    let row = asking(at, machine, node)?;
-    match update {
-        None => Ok(Decision::Only(map_for(alloc, at, row)?)),
-        Some(update) => {
-            let told = told_row(alloc, row, update)?;
-            Ok(mapped_after(alloc, at, row, told)?)
-        }
-    }
+    one_map_of(alloc, at, machine, node, update)
 }
