@@ -7,3 +7,4 @@ pub mod Seeds
 pub mod Updates
 pub mod Admissions
 pub mod Repeats
+pub mod Sameness
