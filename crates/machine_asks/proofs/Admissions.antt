@@ -1,17 +1,16 @@
 -- Each admission is refused by rules alone, and keeps the rules of the tables.
-use Rattle.std.proofs.Common.{◌≡◌, ◌≤◌, ℕ, Bool, false, List, Option, Some, None, Result, Ok, ap, ◌∙◌, refl, nat_lt, arith, length}
+use Rattle.std.proofs.Common.{◌≡◌, ℕ, List, Some, None, Ok, ap, ◌∙◌, refl, nat_lt, arith, length}
 use Rattle.std.specs.Prelude.{Contains}
 use Rattle.std.specs.Str.{bytes_eq}
 use Rattle.tail_base.specs.Logins.{login_of}
 use Rattle.net_rows.specs.Rows.{machine_of, pending_with}
-use Rattle.net_rows.specs.Shelf.{HasRow}
 use Rattle.net_rows.specs.Sound.{AreSound}
 use Rattle.net_rows.specs.declared.pending.Pending.{Pending}
 use Rattle.net_rows.specs.declared.rows.Rows.{Rows}
 use Rattle.net_rows.specs.declared.user.User.{User}
 use Rattle.net_rows.proofs.Members.{find_member}
 use Rattle.desk_state.specs.State.{State}
-use Rattle.desk_state.specs.Steps.{◌>>=◌, or_refuse, refuse_if}
+use Rattle.desk_state.specs.Steps.{or_refuse, refuse_if}
 use Rattle.desk_state.specs.Users.{tags_defined, user_named, user_of}
 use Rattle.desk_state.specs.declared.reply.Refusal.TheVariants.{NodeKeyTaken, PendingUnknown, TagUndefined, UnknownUser}
 use Rattle.desk_state.proofs.StepLemmas.{AreRuled, bind_ok, bind_ruled, ok_ruled, or_refuse_ok, or_ruled, refuse_ruled}

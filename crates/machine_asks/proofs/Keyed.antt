@@ -1,5 +1,5 @@
 -- A registration by a pre-auth key keeps the rules of the tables.
-use Rattle.std.proofs.Common.{◌≡◌, ◌≤◌, ◌+◌, ◌++◌, ℕ, Bool, false, not, ◌&&◌, List, length, Option, Some, None, Result, Ok, nat_lt, ap, ◌∙◌, arith}
+use Rattle.std.proofs.Common.{◌≡◌, ◌++◌, ℕ, false, not, ◌&&◌, List, length, Option, Some, Ok, nat_lt, ap, ◌∙◌, arith}
 use Rattle.std.proofs.Common.{length-append}
 use Rattle.std.specs.Prelude.{Contains}
 use Rattle.std.specs.Str.{bytes_eq}
@@ -12,14 +12,13 @@ use Rattle.net_rows.proofs.Members.{find_member}
 use Rattle.wire_json.specs.Short.{IsShortForm}
 use Rattle.wire_json.specs.declared.register.Register.{Register}
 use Rattle.desk_state.specs.State.{State, is_ahead}
-use Rattle.desk_state.specs.Steps.{◌>>=◌, refuse_if, or_refuse}
-use Rattle.desk_state.specs.Tags.{sorted_once}
+use Rattle.desk_state.specs.Steps.{refuse_if, or_refuse}
 use Rattle.desk_state.specs.Users.{tags_defined}
 use Rattle.desk_state.specs.declared.reply.Refusal.TheVariants.{KeyUnknown, KeyExpired, KeyUsed, TagUndefined}
 use Rattle.desk_state.proofs.StepLemmas.{AreRuled, bind_ok, bind_ruled, ok_ruled, or_refuse_ok, or_ruled, refuse_ruled}
 use Rattle.desk_state.proofs.TagLemmas.{length-sorted_once}
-use Rattle.machine_asks.specs.ByKey.{admitted, by_key, keyed, usable_key}
-use Rattle.machine_asks.specs.Rows.{is_taken, machine_row, place_for, registered, row_change}
+use Rattle.machine_asks.specs.ByKey.{by_key, keyed, usable_key}
+use Rattle.machine_asks.specs.Rows.{is_taken, place_for}
 use Rattle.machine_asks.specs.declared.place.Place.{Place}
 use Rattle.machine_asks.specs.Holds.{SettingsHold}
 use Rattle.machine_asks.proofs.Proper.{IsProper, proper_bind, proper_changes}

@@ -6,3 +6,5 @@ pub mod Registrations
 pub mod Seeds
 pub mod Updates
 pub mod Admissions
+pub mod Repeats
+pub mod Sameness

@@ -1,5 +1,5 @@
 -- Decisions that are refused by rules alone, and that keep the rules of the tables.
-use Rattle.std.proofs.Common.{◌≡◌, ℕ, Bool, true, false, not, List, Option, Some, None, Result, Ok, Err, if◌then◌else◌, refl, sym, subst}
+use Rattle.std.proofs.Common.{◌≡◌, ℕ, Bool, true, false, not, List, Option, Some, None, Result, Ok, Err, if◌then◌else◌, refl, subst}
 use Rattle.net_addr.specs.Bits.{IsBlock}
 use Rattle.net_rows.specs.Settings.{AreSettings}
 use Rattle.net_rows.specs.declared.settings.SettingsFields.{SettingsFields}

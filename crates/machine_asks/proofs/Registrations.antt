@@ -1,11 +1,11 @@
 -- Each registration is refused by rules alone, and keeps the rules of the tables.
-use Rattle.std.proofs.Common.{◌≡◌, ℕ, Bool, true, false, List, Option, Some, None, Result, Ok, Err, refl, nat_lt, length}
+use Rattle.std.proofs.Common.{◌≡◌, ℕ, false, List, Option, Some, None, Ok, Err, refl, nat_lt, length}
 use Rattle.std.specs.Prelude.{Contains}
 use Rattle.std.specs.Str.{bytes_eq}
 use Rattle.tail_base.specs.declared.key.MachineKey.{MachineKey}
 use Rattle.tail_base.specs.declared.key.NodeKey.{NodeKey}
 use Rattle.net_rows.specs.Rows.{after, machine_of}
-use Rattle.net_rows.specs.Sound.{AreSound, MachineKeeps}
+use Rattle.net_rows.specs.Sound.{AreSound}
 use Rattle.net_rows.specs.declared.machine.Machine.{Machine}
 use Rattle.net_rows.proofs.SoundRemove.{sound_without_machine}
 use Rattle.wire_json.specs.Short.{IsShortForm}

@@ -1,5 +1,5 @@
 -- A machine's row that is made, renewed or changed keeps the rules of the tables.
-use Rattle.std.proofs.Common.{◌≡◌, ◌≢◌, ◌<◌, ◌≤◌, ◌+◌, ℕ, Bool, true, false, not, ◌&&◌, List, [], ◌∷◌, Option, Some, None, Result, Ok, Err, inl, inr, sym, ap, ◌∙◌, refl, subst, nat_lt, arith, length}
+use Rattle.std.proofs.Common.{◌≡◌, ◌≢◌, ◌<◌, ◌≤◌, ◌+◌, ℕ, true, false, not, ◌&&◌, List, [], Option, Some, None, Ok, inl, inr, sym, ap, ◌∙◌, refl, subst, nat_lt, arith, length}
 use Rattle.std.specs.Prelude.{Contains, IfSome}
 use Rattle.std.specs.Str.{bytes_eq}
 use Rattle.tail_base.specs.declared.key.MachineKey.{MachineKey}
@@ -25,11 +25,11 @@ use Rattle.allot.specs.Names.{free_name}
 use Rattle.allot.proofs.AddressLaws.{address_fresh, v4_inside, v6_inside}
 use Rattle.allot.proofs.NameLaws.{name_fresh}
 use Rattle.desk_state.specs.State.{State}
-use Rattle.desk_state.specs.Steps.{◌>>=◌, refuse_if, or_refuse}
+use Rattle.desk_state.specs.Steps.{refuse_if, or_refuse}
 use Rattle.desk_state.specs.declared.reply.Refusal.TheVariants.{Full, AddressesSpent}
 use Rattle.desk_state.specs.declared.reply.Scarce.TheVariants as scarce
 use Rattle.desk_state.proofs.StepLemmas.{AreRuled, bind_ok, bind_ruled, ok_ruled, or_refuse_ok, or_ruled, refuse_ruled, unless_ok}
-use Rattle.machine_asks.specs.Rows.{is_taken, kept_place, machine_row, new_place, pending_gone, place_for, row_change, row_replaced}
+use Rattle.machine_asks.specs.Rows.{is_taken, kept_place, machine_row, new_place, place_for, row_change, row_replaced}
 use Rattle.machine_asks.specs.declared.entrant.Entrant.{Entrant}
 use Rattle.machine_asks.specs.declared.place.Place.{Place}
 use Rattle.machine_asks.specs.Holds.{SettingsHold}

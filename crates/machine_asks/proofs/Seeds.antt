@@ -1,5 +1,5 @@
 -- A seed keeps the rules of the tables.
-use Rattle.std.proofs.Common.{◌≡◌, ◌≤◌, ◌+◌, ◌||◌, ℕ, Bool, true, false, not, List, [], ◌∷◌, None, Ok, inl, inr, refl, nat_lt, arith, length, codes, nat_eq}
+use Rattle.std.proofs.Common.{◌≡◌, ◌+◌, ◌||◌, ℕ, Bool, true, false, not, List, [], ◌∷◌, inl, refl, nat_lt, arith, length, codes, nat_eq}
 use Rattle.std.specs.Prelude.{Contains}
 use Rattle.std.specs.List.{starts_with}
 use Rattle.net_rows.specs.Damage.{names_key}
@@ -11,7 +11,7 @@ use Rattle.net_rows.specs.Sound.{AreSound}
 use Rattle.net_rows.specs.declared.change.Kind.TheVariants as kind
 use Rattle.net_rows.specs.declared.rows.Rows.{Rows}
 use Rattle.net_rows.specs.declared.user.User.{User}
-use Rattle.net_rows.proofs.Bools.{both, lt_of, true_unless}
+use Rattle.net_rows.proofs.Bools.{both, lt_of}
 use Rattle.net_rows.proofs.Members.{no_member}
 use Rattle.net_rows.proofs.PutLemmas.{put_there}
 use Rattle.net_rows.proofs.SoundPut.{sound_user, sound_key}

@@ -1,5 +1,5 @@
 -- What a machine tells of itself keeps the rules of the tables.
-use Rattle.std.proofs.Common.{◌≡◌, ◌≤◌, ℕ, Bool, true, false, not, List, Option, Some, None, Result, Ok, refl, arith, length}
+use Rattle.std.proofs.Common.{◌≡◌, ◌≤◌, ℕ, not, List, Option, Some, None, Ok, refl, length}
 use Rattle.std.specs.Prelude.{Contains, IfSome}
 use Rattle.std.specs.Str.{bytes_eq}
 use Rattle.tail_base.specs.declared.key.MachineKey.{MachineKey}
@@ -12,12 +12,12 @@ use Rattle.wire_json.specs.Short.{IsShortHost, IsShortUpdate}
 use Rattle.wire_json.specs.declared.update.HostUpdate.{HostUpdate}
 use Rattle.wire_json.specs.declared.update.Update.{Update}
 use Rattle.desk_state.specs.State.{State, is_live}
-use Rattle.desk_state.specs.Steps.{◌>>=◌, or_refuse, refuse_if}
+use Rattle.desk_state.specs.Steps.{or_refuse, refuse_if}
 use Rattle.desk_state.specs.declared.reply.Answer.TheVariants.{Updated}
 use Rattle.desk_state.specs.declared.reply.Refusal.TheVariants.{NotLive, UnknownMachine}
 use Rattle.desk_state.proofs.StepLemmas.{AreRuled, bind_ok, bind_ruled, ok_ruled, or_refuse_ok, or_ruled, refuse_ruled}
 use Rattle.machine_asks.specs.Asking.{asking}
-use Rattle.machine_asks.specs.OneMap.{map_for, mapped, mapped_after, one_map}
+use Rattle.machine_asks.specs.OneMap.{map_for, mapped, one_map}
 use Rattle.machine_asks.specs.Rows.{row_replaced}
 use Rattle.machine_asks.specs.Update.{given_or, same_told, told_host, told_row, told_routes, update, updated}
 use Rattle.machine_asks.proofs.Proper.{IsProper, proper_bind, proper_changes, proper_choice, proper_only}

@@ -1,11 +1,10 @@
 -- A pending entry that is made keeps the rules of the tables.
-use Rattle.std.proofs.Common.{◌≡◌, ◌≢◌, ◌<◌, ◌≤◌, ◌+◌, ℕ, Bool, true, false, not, List, [], ◌∷◌, Option, Some, None, Result, Ok, inl, inr, sym, ◌∙◌, refl, nat_lt, arith, length, codes, take}
+use Rattle.std.proofs.Common.{◌≡◌, ◌≢◌, ◌<◌, ◌+◌, ℕ, true, false, not, List, Option, Some, None, Ok, inl, sym, ◌∙◌, refl, nat_lt, arith, length, codes, take}
 use Rattle.std.specs.Prelude.{Contains}
 use Rattle.std.specs.Str.{bytes_eq}
 use Rattle.tail_base.specs.declared.key.MachineKey.{MachineKey}
 use Rattle.net_rows.specs.Limits.{counter_limit, pending_limit}
 use Rattle.net_rows.specs.Rows.{after, pending_of}
-use Rattle.net_rows.specs.Shelf.{IsOwn, without}
 use Rattle.net_rows.specs.Sound.{AreSound, FitsPending}
 use Rattle.net_rows.specs.declared.pending.Pending.{Pending}
 use Rattle.net_rows.specs.declared.rows.Rows.{Rows}
@@ -17,7 +16,6 @@ use Rattle.net_rows.proofs.SoundRemove.{sound_without_pending}
 use Rattle.wire_json.specs.Short.{IsShortForm}
 use Rattle.wire_json.specs.declared.register.Register.{Register}
 use Rattle.desk_state.specs.State.{State}
-use Rattle.desk_state.specs.Texts.{row_text}
 use Rattle.desk_state.specs.declared.reply.Refusal.TheVariants.{EntropyFault, Full}
 use Rattle.desk_state.specs.declared.reply.Scarce.TheVariants as scarce
 use Rattle.desk_state.proofs.TextLemmas.{fresh_pending_text, row_text_names}

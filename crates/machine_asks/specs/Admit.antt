@@ -16,7 +16,6 @@ use Rattle.desk_state.specs.declared.reply.Refusal.TheVariants.{NodeKeyTaken, Pe
 use Rattle.machine_asks.specs.Rows.{expiry_of, is_taken, machine_row, place_for, row_change}
 use Rattle.machine_asks.specs.Waiting.{is_overdue}
 use Rattle.machine_asks.specs.declared.entrant.Entrant.{Entrant}
-use Rattle.machine_asks.specs.declared.place.Place.{Place}
 
 -- the entry of that text whose time hasn't passed
 abbrev pub timely_entry : State → List ℕ → Result Pending Refusal

@@ -9,3 +9,4 @@ pub mod Register
 pub mod Update
 pub mod OneMap
 pub mod Admit
+pub mod Laws

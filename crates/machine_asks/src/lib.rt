@@ -5,6 +5,7 @@ mod admit_ask;
 mod by_key;
 mod entrant;
 mod holds;
+mod laws;
 mod logout;
 mod map_ask;
 mod place;
@@ -17,6 +18,9 @@ mod waiting;
 mod who_asks;
 
 pub use admit_ask::admit;
+pub use laws::{
+    kept_rows_stay, repeats_are_answered, repeats_change_nothing, rows_that_stay_are_kept,
+};
 pub use map_ask::one_map;
 pub use register_ask::register;
 pub use seed_ask::seed;

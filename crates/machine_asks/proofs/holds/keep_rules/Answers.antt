@@ -1,6 +1,5 @@
-use Rattle.std.proofs.Common.{◌≡◌, ap, sym}
+use Rattle.std.proofs.Common.{◌≡◌, ap}
 use Rattle.desk_state.specs.State.{State}
-use Rattle.machine_asks.specs.Holds.{SettingsHold}
 use Rattle.machine_asks.proofs.Proper.{holds_of}
 use Rattle.machine_asks.proofs.holds.keep_rules.Goals as goal
 

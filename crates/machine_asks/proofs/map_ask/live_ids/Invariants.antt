@@ -1,5 +1,4 @@
-use Rattle.std.proofs.Common.{◌≡◌, ◌∷◌, drop}
-use Rattle.std.specs.Prelude.{map, filter}
+use Rattle.std.proofs.Common.{◌≡◌, drop}
 use Rattle.net_rows.specs.declared.machine.Machine.{Machine}
 use Rattle.desk_state.specs.State.{is_live}
 use Rattle.machine_asks.specs.OneMap.{live_ids}
