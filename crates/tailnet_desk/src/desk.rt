@@ -2,6 +2,7 @@
 ghost use Rattle.std.specs.Prelude.{◌≡◌, ◌≤◌, ◌<◌, ℕ, List, Option, Some, None, IfOk, IfErr, IfSome, OnOk, IsErrOf, length, map};
 ghost use Rattle.io_edge.specs.Edge.{IsWhereTold, Rose, StillTells};
 ghost use Rattle.net_rows.specs.Damage.{damage};
+ghost use Rattle.net_rows.specs.Held.{Suffices};
 ghost use Rattle.net_rows.specs.Rows.{after};
 ghost use Rattle.desk_state.specs.Asks.{IsShort};
 ghost use Rattle.desk_state.specs.Rulings.{IsSoundDecision};
@@ -79,10 +80,16 @@ fn decide(
     match ask {
         Ask::Seed { text } => seed(alloc, at, text),
         Ask::Register { machine, form } => register(alloc, at, machine, form, words),
-        Ask::Update { machine, node, update: told } => update(alloc, at, machine, node, told),
-        Ask::OneMap { machine, node, update: told } => {
-            one_map(alloc, at, machine, node, told.as_ref())
-        }
+        Ask::Update {
+            machine,
+            node,
+            update: told,
+        } => update(alloc, at, machine, node, told),
+        Ask::OneMap {
+            machine,
+            node,
+            update: told,
+        } => { one_map(alloc, at, machine, node, told.as_ref()) }
         Ask::AddUser { name } => add_user(alloc, at, name),
         Ask::Users => users(alloc, at),
         Ask::DropUser { login } => drop_user(alloc, at, login),
@@ -123,6 +130,42 @@ fn go_offline(presence: &mut Shelf<MachinePresence>, ids: &[u32], now: Moment)
             presence: Presence::OfflineSince(now),
         });
     }
+}
+
+/// Makes room for a change of rows and for machines that go offline. Both stay as they are.
+fn make_room(
+    tables: &mut Tables,
+    presence: &mut Shelf<MachinePresence>,
+    change: &Change,
+    offline: usize,
+) -> Result<(), NoMemory>
+    ensures rows { tables.new.rows ≡ tables.old.rows }
+    ensures presence { presence.new.0 ≡ presence.old.0 }
+    ensures reserved { OnOk result (Suffices tables.new.spare change.now.puts) }
+    ensures room { OnOk result (offline ≤ presence.new.1) }
+{
+    tables.reserve(change)?;
+    presence.reserve(offline)
+}
+
+/// Makes a change that is kept: rows change, machines that are gone have no presence any more, and
+/// these are offline from now on. It takes no memory.
+fn settle(
+    tables: &mut Tables,
+    presence: &mut Shelf<MachinePresence>,
+    change: Change,
+    offline: &[u32],
+    now: Moment,
+)
+    requires reserved { Suffices tables.old.spare change.puts }
+    requires sound { damage (after tables.old.rows change) ≡ None }
+    requires room { length offline.now ≤ presence.old.1 }
+    ensures rows { tables.new.rows ≡ after tables.old.rows change }
+    ensures presence { presence.new.0 ≡ all_offline now (forgotten presence.old.0 change.gone) offline.now }
+{
+    forget(presence, change.gone.as_slice());
+    tables.apply(change);
+    go_offline(presence, offline, now);
 }
 
 impl<K: Keeper> Desk<K> {
@@ -175,14 +218,18 @@ impl<K: Keeper> Desk<K> {
         ensures carried { Carried self.old.state change offline answer result self.new.state (K.faults self.old.keeper) (K.faults self.new.keeper) }
         ensures later { K.faults self.old.keeper ≤ K.faults self.new.keeper }
     {
-        if self.tables.reserve(&change).is_err() || self.presence.reserve(offline.len()).is_err() {
+        if make_room(&mut self.tables, &mut self.presence, &change, offline.len()).is_err() {
             return Reply::Refused(Refusal::NoMemory);
         }
         match self.keeper.commit(alloc, &change) {
             Ok(()) => {
-                forget(&mut self.presence, change.gone.as_slice());
-                self.tables.apply(change);
-                go_offline(&mut self.presence, offline.as_slice(), self.time);
+                settle(
+                    &mut self.tables,
+                    &mut self.presence,
+                    change,
+                    offline.as_slice(),
+                    self.time,
+                );
                 Reply::Done(answer)
             }
             Err(EdgeFault::Failed) => Reply::Refused(Refusal::KeeperFault),

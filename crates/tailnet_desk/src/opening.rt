@@ -6,9 +6,9 @@ ghost use Rattle.desk_state.specs.State.{offline_at};
 ghost use Rattle.tailnet_desk.specs.Opening.{approved_machine, damage_if, unserved};
 
 use desk_state::{MachinePresence, Presence};
+use moments::Moment;
 use net_rows::{Damage, Kind, Machine, Shelf, Tables};
 use std::alloc::Global;
-use moments::Moment;
 use tail_base::{Items, NoMemory};
 
 /// All machines of the tables, offline since this moment.

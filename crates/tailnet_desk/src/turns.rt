@@ -5,9 +5,9 @@ ghost use Rattle.tailnet_desk.specs.declared.entry.Event.TheVariants as event;
 
 use crate::desk::Desk;
 use desk_state::{Ask, Reply};
+use moments::Moment;
 use row_keeper::Keeper;
 use std::alloc::Global;
-use moments::Moment;
 
 /// What serves a caller's events in turn: a desk, or a seat at one.
 pub trait Turns {
