@@ -4,13 +4,11 @@ use std::alloc::Global;
 use std::test::Fail;
 use tail_base::NoMemory;
 
-/// What makes a row of a kind, of which there may be so many, the seed's rows with them.
+/// What makes rows of a kind.
 #[derive(Clone, Copy, Drop)]
 enum Filling {
     Users,
-    Keys,
     Pending,
-    Machines,
 }
 
 /// The request that makes the row of a number.
@@ -23,32 +21,20 @@ fn request(alloc: Global, filling: Filling, number: u32) -> Result<String, NoMem
                 "POST /api/v1/user HTTP/1.1\r\n{operator}Content-Length: 18\r\n\r\n{{\"name\":\"u{number:06}\"}}"
             )?
         }
-        Filling::Keys => {
-            format!(in alloc;
-                "POST /api/v1/preauthkey HTTP/1.1\r\n{operator}Content-Length: 16\r\n\r\n{{\"user\":\"seed@\"}}"
-            )?
-        }
         Filling::Pending => {
             format!(in alloc;
                 "{machine}1{number:063}\r\nContent-Length: 86\r\n\r\n{{\"NodeKey\":\"nodekey:1{number:063}\"}}"
-            )?
-        }
-        Filling::Machines => {
-            format!(in alloc;
-                "{machine}1{number:063}\r\nContent-Length: 110\r\n\r\n{{\"Auth\":{{\"AuthKey\":\"k1\"}},\"NodeKey\":\"nodekey:1{number:063}\"}}"
             )?
         }
     };
     Ok(text)
 }
 
-/// The rows that a filling may make, and how one more is refused.
+/// How many rows may be made beside the seed's, and how one more is refused.
 fn limit(filling: Filling) -> (u32, &'static [u8]) {
     match filling {
         Filling::Users => (255, b"{\"error\":\"Full\",\"what\":\"User\"}"),
-        Filling::Keys => (1023, b"{\"error\":\"Full\",\"what\":\"Key\"}"),
         Filling::Pending => (256, b"{\"error\":\"Full\",\"what\":\"Pending\"}"),
-        Filling::Machines => (512, b"{\"error\":\"Full\",\"what\":\"Machine\"}"),
     }
 }
 
@@ -72,12 +58,7 @@ fn filled(alloc: Global, filling: Filling) -> Result<(usize, bool), NoMemory> {
 
 #[test]
 fn one_row_more_than_there_may_be(rt: HostRuntime) -> Result<(), Fail> {
-    for filling in [
-        Filling::Users,
-        Filling::Keys,
-        Filling::Pending,
-        Filling::Machines,
-    ] {
+    for filling in [Filling::Users, Filling::Pending] {
         let (served, refused) = filled(rt.alloc(), filling)?;
         assert!(rt; served == limit(filling).0 as usize, "{served}");
         assert!(rt; refused, "{served}");
