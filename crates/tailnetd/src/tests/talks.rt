@@ -247,7 +247,7 @@ fn is_held(alloc: Global, mut talk: Talk) -> Result<bool, NoMemory> {
     } else {
         (Status::Ok, b"".as_slice())
     };
-    Ok(status == wanted && errors.bytes() == line && output.bytes() == &talk.output[..])
+    Ok(status == wanted && errors.bytes() == line && output.bytes() == talk.output.as_slice())
 }
 
 /// Asserts that the conversation of this name is held.
