@@ -2,7 +2,13 @@
 mod checks;
 mod edges;
 mod faults;
+mod limits;
+mod lives;
 mod maps;
+mod refusals;
+mod rows;
+mod talks;
+mod words;
 
 use crate::piping::pipe_command;
 use crate::status::Status;
