@@ -10,7 +10,7 @@ ghost use Rattle.desk_state.specs.State.{State, at_moment, all_offline, forgotte
 ghost use Rattle.desk_state.specs.Steps.{Gives};
 ghost use Rattle.tailnet_desk.specs.Step.{decision, changed};
 ghost use Rattle.tailnet_desk.specs.History.{IsCall};
-ghost use Rattle.tailnet_desk.specs.Carried.{Carried};
+ghost use Rattle.tailnet_desk.specs.Carried.{Carried, Kept, refusal_of, reply_of};
 ghost use Rattle.tailnet_desk.specs.Opening.{unserved};
 ghost use Rattle.tailnet_desk.specs.declared.entry.Event.TheVariants as event;
 
@@ -168,6 +168,32 @@ fn settle(
     go_offline(presence, offline, now);
 }
 
+/// An answer that isn't given is let go here, apart from what it would have answered.
+fn let_go(_answer: Answer) {}
+
+/// The refusal that a fault of the keeper is.
+fn refusal_of(fault: EdgeFault) -> Refusal
+    ensures value { result ≡ refusal_of fault }
+{
+    match fault {
+        EdgeFault::Failed => Refusal::KeeperFault,
+        EdgeFault::NoMemory => Refusal::NoMemory,
+    }
+}
+
+/// What is replied where a change was kept, or wasn't.
+fn reply_of(kept: Result<(), EdgeFault>, answer: Answer) -> Reply
+    ensures value { result ≡ reply_of kept answer }
+{
+    match kept {
+        Ok(()) => Reply::Done(answer),
+        Err(fault) => {
+            let_go(answer);
+            Reply::Refused(refusal_of(fault))
+        }
+    }
+}
+
 impl<K: Keeper> Desk<K> {
     /// A desk over the keeper's tables, in which no machine is online.
     ///
@@ -212,14 +238,15 @@ impl<K: Keeper> Desk<K> {
         }
     }
 
-    /// Keeps a change, and answers. It takes all memory before the one commit.
-    fn carry(&mut self, alloc: Global, change: Change, offline: Items<u32>, answer: Answer) -> Reply
+    /// Keeps a change. It takes all memory before the one commit.
+    fn keep(&mut self, alloc: Global, change: Change, offline: Items<u32>) -> Result<(), EdgeFault>
         requires sound { damage (after self.old.state.rows change) ≡ None }
-        ensures carried { Carried self.old.state change offline answer result self.new.state (K.faults self.old.keeper) (K.faults self.new.keeper) }
+        ensures kept { Kept self.old.state change offline result self.new.state (K.faults self.old.keeper) (K.faults self.new.keeper) }
         ensures later { K.faults self.old.keeper ≤ K.faults self.new.keeper }
     {
-        if make_room(&mut self.tables, &mut self.presence, &change, offline.len()).is_err() {
-            return Reply::Refused(Refusal::NoMemory);
+        let room = make_room(&mut self.tables, &mut self.presence, &change, offline.len());
+        if room.is_err() {
+            return Err(EdgeFault::NoMemory);
         }
         match self.keeper.commit(alloc, &change) {
             Ok(()) => {
@@ -230,11 +257,20 @@ impl<K: Keeper> Desk<K> {
                     offline.as_slice(),
                     self.time,
                 );
-                Reply::Done(answer)
+                Ok(())
             }
-            Err(EdgeFault::Failed) => Reply::Refused(Refusal::KeeperFault),
-            Err(EdgeFault::NoMemory) => Reply::Refused(Refusal::NoMemory),
+            Err(fault) => Err(fault),
         }
+    }
+
+    /// Keeps a change, and answers.
+    fn carry(&mut self, alloc: Global, change: Change, offline: Items<u32>, answer: Answer) -> Reply
+        requires sound { damage (after self.old.state.rows change) ≡ None }
+        ensures carried { Carried self.old.state change offline answer result self.new.state (K.faults self.old.keeper) (K.faults self.new.keeper) }
+        ensures later { K.faults self.old.keeper ≤ K.faults self.new.keeper }
+    {
+        let kept = self.keep(alloc, change, offline);
+        reply_of(kept, answer)
     }
 
     /// One event: its reply is the machine's, or want of memory, or a fault of the keeper. The lists and
