@@ -1,10 +1,5 @@
-//! What the asks of operators come to: making, listing and removing users, pre-auth keys and machines,
-//! and the sweep of rows that have outlived their time.
-//!
-//! Each function is given the state at the ask's moment and changes nothing: it answers with a
-//! decision, which says what would change of the rows, or with the rule that refuses the ask. A
-//! decision that changes rows keeps the rules of the tables, so that whoever keeps it need not test
-//! them again. Where the rows are as they were asked to be already, nothing changes.
+//! What the asks of operators come to: users, pre-auth keys, machines, and the sweep.
+//! A decision changes nothing yet, and where it changes rows, it keeps the rules of the tables.
 #![tactic(auto)]
 
 // Each function that may change rows reads the users as `_rules` first: the accessor's contract says

@@ -4,7 +4,6 @@ mod edges;
 mod faults;
 mod limits;
 mod lives;
-mod maps;
 mod refusals;
 mod rows;
 mod talks;

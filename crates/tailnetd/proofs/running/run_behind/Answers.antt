@@ -6,14 +6,14 @@ use Rattle.io_edge.specs.Edge.{IsWhereTold}
 use Rattle.moments.specs.Moments.{clamped}
 use Rattle.tailnetd.proofs.AnswerLemmas.{clamped_told}
 use Rattle.tailnetd.proofs.RunLemmas.{talked_run, faulted, kept_given, given_some, still_still, where_given, where_still}
-use Rattle.tailnetd.proofs.running.run.Goals as goal
+use Rattle.tailnetd.proofs.running.run_behind.Goals as goal
 
 pub returns-in-Ok-open : goal.returns-in-Ok-open
 returns-in-Ok-open g c =
     let fits : SFits w64 c.seconds.result = search rules in
     let at : c.clamp-moment.result ≡ clamped c.seconds.result = c.clamp-moment.ensures.value ∙ ap clamped (to_z-of_z w64 c.seconds.result fits) in
     let opened = c.in-Ok-open.ensures in
-    let talked = rw c.fields.ensures.value at c.talk-closed.ensures.talked in
+    let talked = rw (c.fields.ensures.value, c.requires.site) at c.talk-closed.ensures.talked in
     record {
       ran = talked_run c.talk-closed.result c.args.settings c.args.seed c.clamp-moment.result _ _ (g.C.Clock.answer c.seconds.new.self) c.in-Ok-open.desk.state _ _
           (subst (λ (z : ℤ). IsWhereTold z (option_map clamped (g.C.Clock.answer c.args.clock.now 0))) (sym at) (clamped_told _ _ c.seconds.ensures.took.first))
