@@ -141,7 +141,9 @@ fn answer_body(alloc: Global, text: &str) -> Result<Vec<u8>, NoMemory> {
         None => wide(alloc, text),
         Some(map) => {
             let map = wide(alloc, map)?;
-            let length = map.len() as u32;
+            let Ok(length) = u32::try_from(map.len()) else {
+                return Err(NoMemory);
+            };
             let mut bytes = Vec::from_slice(alloc, &length.to_le_bytes())?;
             bytes.extend_from_slice(&map)?;
             Ok(bytes)
