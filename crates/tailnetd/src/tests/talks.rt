@@ -253,24 +253,24 @@ fn is_held(alloc: Global, mut talk: Talk) -> Result<bool, NoMemory> {
 }
 
 /// Asserts that the conversation of this name is held.
-fn assert_held(rt: &impl Abort, alloc: Global, name: &str, talk: Talk) -> Result<(), NoMemory> {
-    assert!(rt; is_held(alloc, talk)?, "{name}");
+fn assert_held(rt: &impl Abort, alloc: Global, name: &Text, talk: Talk) -> Result<(), NoMemory> {
+    assert!(rt; is_held(alloc, talk)?, "{}", name.as_str());
     Ok(())
 }
 
 /// Asserts that each conversation of the table is held.
 pub(crate) fn assert_all_held(rt: &impl Abort, alloc: Global, table: &str) -> Result<(), NoMemory> {
-    let mut name = "";
+    let mut name = Text::new(alloc);
     let mut talk = new_talk(alloc)?;
     for line in table.lines() {
         match line.strip_prefix("= ") {
             Some(next) => {
-                assert_held(rt, alloc, name, talk)?;
-                name = next;
+                assert_held(rt, alloc, &name, talk)?;
+                name = Text::from_str(alloc, next)?;
                 talk = new_talk(alloc)?;
             }
             None => add_line(alloc, &mut talk, line)?,
         }
     }
-    assert_held(rt, alloc, name, talk)
+    assert_held(rt, alloc, &name, talk)
 }
