@@ -1,3 +1,8 @@
+pub mod Actions
+pub mod AdminWants
+pub mod Faults
+pub mod MachineWants
+pub mod Refusals
 pub mod Replies
 pub mod Wanted
-pub mod Statuses
+pub mod Wants

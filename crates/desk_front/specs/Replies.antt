@@ -1,57 +1,53 @@
 -- The bytes of a reply: its status and its body.
-use Rattle.std.specs.Prelude.{ℕ, List, ◌++◌, Bool, codes, decimal}
+use Rattle.std.specs.Prelude.{ℕ, List, [], Bool, true, false, codes}
 use Rattle.http_front.specs.AnswerBytes.{answer}
-use Rattle.wire_json.specs.Registered.{registered_text}
-use Rattle.tailnet_desk.specs.declared.reply.Answer.{Answer}
-use Rattle.tailnet_desk.specs.declared.reply.Answer.TheVariants.{Registered, Gone}
-use Rattle.tailnet_desk.specs.declared.reply.Refusal.{Refusal}
-use Rattle.tailnet_desk.specs.declared.reply.Refusal.TheVariants.{KeyUnknown, KeyExpired, KeyUsed, NodeKeyTaken, Full, AddressesSpent, KeeperFault, NoMemory}
-use Rattle.tailnet_desk.specs.declared.reply.Reply.{Reply}
-use Rattle.tailnet_desk.specs.declared.reply.Reply.TheVariants.{Done, Refused}
-use Rattle.tailnet_desk.specs.declared.reply.Scarce.{Scarce}
-use Rattle.tailnet_desk.specs.declared.reply.Scarce.TheVariants as scarce
+use Rattle.admin_wire.specs.Keys.{key_text, keys_text}
+use Rattle.admin_wire.specs.Nodes.{node_text, nodes_text}
+use Rattle.admin_wire.specs.Swept.{swept_text}
+use Rattle.admin_wire.specs.Users.{user_text, users_text}
+use Rattle.admin_wire.specs.Waiting.{waiting_text}
+use Rattle.map_delta.specs.Frames.{frame_of}
+use Rattle.wire_text.specs.Registered.{registered_text, login_at_text}
+use Rattle.desk_state.specs.declared.ask.Ask.{Ask}
+use Rattle.desk_state.specs.declared.ask.Ask.TheVariants as ask
+use Rattle.desk_state.specs.declared.reply.Answer.{Answer}
+use Rattle.desk_state.specs.declared.reply.Answer.TheVariants.{Registered, LoginAt, Updated, Map, User, Users, Key, Keys, Nodes, Waiting, Node, Swept, Gone}
+use Rattle.desk_state.specs.declared.reply.Reply.{Reply}
+use Rattle.desk_state.specs.declared.reply.Reply.TheVariants.{Done, Refused}
+use Rattle.desk_front.specs.Refusals.{refusal_body, refusal_status}
+use Rattle.desk_front.specs.declared.site.Site.{Site}
 
--- the body that names a fault
-abbrev pub error_body : List ℕ → List ℕ
-error_body name = codes "{\"error\":\"" ++ name ++ codes "\"}"
+-- a machine asks it, and not an operator
+abbrev pub is_machine_ask : Ask → Bool
+is_machine_ask (ask.Register machine form) = true
+is_machine_ask (ask.Update machine node told) = true
+is_machine_ask (ask.OneMap machine node told) = true
+is_machine_ask other = false
 
-abbrev pub scarce_name : Scarce → List ℕ
-scarce_name scarce.User = codes "User"
-scarce_name scarce.Key = codes "Key"
-scarce_name scarce.Machine = codes "Machine"
+abbrev pub reply_status : Bool → Reply → ℕ
+reply_status is_machine (Done answer) = 200
+reply_status is_machine (Refused refusal) = refusal_status is_machine refusal
 
-abbrev pub refusal_status : Refusal → ℕ
-refusal_status KeyUnknown = 401
-refusal_status KeyExpired = 401
-refusal_status KeyUsed = 401
-refusal_status NodeKeyTaken = 409
-refusal_status (Full kind) = 507
-refusal_status (AddressesSpent family) = 507
-refusal_status KeeperFault = 500
-refusal_status NoMemory = 503
+-- the body of an answer, with the URL at which the server is reached
+abbrev pub answer_body : List ℕ → Answer → List ℕ
+answer_body url (Registered profile expired) = registered_text profile expired
+answer_body url (LoginAt pending) = login_at_text url pending
+answer_body url Updated = []
+answer_body url (Map response) = frame_of response
+answer_body url (User user) = user_text user
+answer_body url (Users users) = users_text users
+answer_body url (Key key) = key_text key
+answer_body url (Keys keys) = keys_text keys
+answer_body url (Nodes nodes) = nodes_text nodes
+answer_body url (Waiting waiting) = waiting_text waiting
+answer_body url (Node node) = node_text node
+answer_body url (Swept machines pending) = swept_text machines pending
+answer_body url Gone = codes "{}"
 
-abbrev pub refusal_body : Refusal → List ℕ
-refusal_body KeyUnknown = error_body (codes "KeyUnknown")
-refusal_body KeyExpired = error_body (codes "KeyExpired")
-refusal_body KeyUsed = error_body (codes "KeyUsed")
-refusal_body NodeKeyTaken = error_body (codes "NodeKeyTaken")
-refusal_body (Full kind) = codes "{\"error\":\"Full\",\"what\":\"" ++ scarce_name kind ++ codes "\"}"
-refusal_body (AddressesSpent family) = codes "{\"error\":\"AddressesSpent\",\"family\":" ++ decimal family ++ codes "}"
-refusal_body KeeperFault = error_body (codes "KeeperFault")
-refusal_body NoMemory = error_body (codes "NoMemory")
+abbrev pub reply_body : List ℕ → Reply → List ℕ
+reply_body url (Done a) = answer_body url a
+reply_body url (Refused refusal) = refusal_body refusal
 
-abbrev pub reply_status : Reply → ℕ
-reply_status (Done answer) = 200
-reply_status (Refused refusal) = refusal_status refusal
-
-abbrev pub answer_body : Answer → List ℕ
-answer_body (Registered profile expired) = registered_text profile expired
-answer_body Gone = codes "{}"
-
-abbrev pub reply_body : Reply → List ℕ
-reply_body (Done a) = answer_body a
-reply_body (Refused refusal) = refusal_body refusal
-
--- the bytes of a reply, after which the connection ends or goes on
-unfoldable pub reply_bytes : Reply → Bool → List ℕ
-reply_bytes reply close = answer (reply_status reply) (reply_body reply) close
+-- the bytes of a reply to an ask, after which the connection ends or goes on
+unfoldable pub reply_bytes : Site → Ask → Reply → Bool → List ℕ
+reply_bytes site ask reply close = answer (reply_status (is_machine_ask ask) reply) (reply_body site.server_url reply) close

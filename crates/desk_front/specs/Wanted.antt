@@ -1,41 +1,43 @@
--- What a request asks.
-use Rattle.std.specs.Prelude.{ℕ, List, not, Option, None, Some, Result, Ok, Err, option_and_then, codes, if◌then◌else◌, replicate}
-use Rattle.std.specs.Str.{bytes_eq}
-use Rattle.tail_base.specs.Keys.{key_of_text}
-use Rattle.tail_base.specs.declared.key.MachineKey.{MachineKey}
+-- What a request wants: the path first, then the method, then the machine's key or the operator's token, then the body.
+use Rattle.std.specs.Prelude.{ℕ, List, Option, None, Some, codes, if◌then◌else◌}
 use Rattle.http_front.specs.declared.request.Request.{Request}
-use Rattle.wire_json.specs.Register.{register_of_body}
-use Rattle.wire_json.specs.declared.fault.WireFault.{WireFault}
-use Rattle.wire_json.specs.declared.register.Register.{Register}
-use Rattle.tailnet_desk.specs.declared.ask.Ask.TheVariants as ask
-use Rattle.desk_front.specs.Replies.{error_body}
+use Rattle.net_rows.specs.declared.settings.SettingsFields.{SettingsFields}
+use Rattle.path_routes.specs.Finds.{found_in, owner_in}
+use Rattle.path_routes.specs.declared.found.Found.{Found}
+use Rattle.desk_front.specs.Actions.{action_of, is_machine_route}
+use Rattle.desk_front.specs.AdminWants.{admin_wants, is_authorized}
+use Rattle.desk_front.specs.Faults.{fault_answer}
+use Rattle.desk_front.specs.MachineWants.{header_key, machine_wants}
+use Rattle.desk_front.specs.declared.action.Action.{Action}
+use Rattle.desk_front.specs.declared.site.Site.{Site}
 use Rattle.desk_front.specs.declared.want.Wanted.{Wanted}
-use Rattle.desk_front.specs.declared.want.Wanted.TheVariants as wants
 
-abbrev pub unless_zero : List ℕ → Option MachineKey
-unless_zero key = if bytes_eq key (replicate 32 0) then None else Some (record { 0 = key })
+-- what the front is told by settings
+abbrev pub site_of : SettingsFields → Site
+site_of settings = record { token = settings.token; server_url = settings.server_url }
 
--- the machine key of a header's value, if it isn't zero
-abbrev pub machine_key : List ℕ → Option MachineKey
-machine_key value = option_and_then unless_zero (key_of_text (codes "mkey:") value)
+-- an operator has to give the token
+abbrev pub operator_wants : Site → Request → Found → Action → Wanted
+operator_wants site r found a =
+    if is_authorized site.token r.token then admin_wants a found.id (owner_in r.path found.route) r.body
+    else fault_answer 401 (codes "BadToken")
 
--- the fixed answer that names a fault
-abbrev pub fault_answer : ℕ → List ℕ → Wanted
-fault_answer status name = wants.Answer status (error_body name)
+-- what is wanted by this action at this path
+abbrev pub caller_wants : Site → Request → Found → Action → Wanted
+caller_wants site r found a =
+    if is_machine_route found.route then machine_wants a (header_key r.machine) r.body
+    else operator_wants site r found a
 
--- the registration that a body states, for a machine; a fault of the body is answered
-abbrev pub registration : MachineKey → Result Register WireFault → Wanted
-registration machine (Ok form) = wants.Ask (ask.Register machine form)
-registration machine (Err fault) = fault_answer 400 (codes "NotJson")
+-- the path takes the method, or doesn't
+abbrev pub acted : Site → Request → Found → Option Action → Wanted
+acted site r found None = fault_answer 405 (codes "BadMethod")
+acted site r found (Some a) = caller_wants site r found a
 
--- a machine's request: its key first, then the body
-abbrev pub machine_wants : Option MachineKey → List ℕ → Wanted
-machine_wants None body = fault_answer 400 (codes "NotJson")
-machine_wants (Some machine) body = registration machine (register_of_body body)
+-- the path leads somewhere, or doesn't
+abbrev pub routed : Site → Request → Option Found → Wanted
+routed site r None = fault_answer 404 (codes "NoPath")
+routed site r (Some found) = acted site r found (action_of found.route r.method)
 
--- what a request asks, or its fixed answer: the path first, then the method, the machine key and the body
-unfoldable pub wanted_of : Request → Wanted
-wanted_of r =
-    if not (bytes_eq r.path (codes "/machine/register")) then fault_answer 404 (codes "NoPath")
-    else if not (bytes_eq r.method (codes "POST")) then fault_answer 405 (codes "BadMethod")
-    else machine_wants (option_and_then machine_key r.machine) r.body
+-- what a request wants of the desk, or its fixed answer
+unfoldable pub wanted_of : Site → Request → Wanted
+wanted_of site r = routed site r (found_in r.path)

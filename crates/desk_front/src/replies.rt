@@ -1,111 +1,59 @@
 //! The bytes of a reply.
 ghost use Rattle.std.specs.Prelude.{◌≡◌, IfOk};
 ghost use Rattle.http.specs.StatusCode.{IsStatusCode};
-ghost use Rattle.tailnet_desk.specs.declared.reply.Refusal.{Refusal};
-ghost use Rattle.desk_front.specs.Replies.{answer_body, error_body, refusal_body, refusal_status, reply_body, reply_bytes, reply_status, scarce_name};
+ghost use Rattle.desk_front.specs.Replies.{is_machine_ask, reply_body, reply_bytes, reply_status};
 
+use crate::bodies::{answer_body, bytes_of};
+use crate::refusals::{refusal_body, refusal_status};
+use crate::site::Site;
+use desk_state::{Ask, Reply};
 use http_front::plain_answer;
 use std::alloc::Global;
 use tail_base::{NoMemory, Text};
-use tailnet_desk::{Answer, Refusal, Reply, Scarce};
-use wire_json::registered_text;
 
-fn scarce_name(kind: Scarce) -> &'static str
-    ensures value { result.now ≡ scarce_name kind }
+/// Whether a machine asks it, and not an operator.
+fn is_machine_ask(ask: &Ask) -> bool
+    ensures value { result ≡ is_machine_ask ask.now }
 {
-    match kind {
-        Scarce::User => "User",
-        Scarce::Key => "Key",
-        Scarce::Machine => "Machine",
+    match ask {
+        Ask::Register { .. } => true,
+        Ask::Update { .. } => true,
+        Ask::OneMap { .. } => true,
+        _ => false,
     }
 }
 
-/// The body that names a fault.
-pub(crate) fn error_body(alloc: Global, name: &str) -> Result<Text, NoMemory>
-    ensures value { IfOk result (λ text. text ≡ error_body name.now) }
-{
-    let mut text = Text::from_str(alloc, "{\"error\":\"")?;
-    text.push(name)?;
-    text.push("\"}")?;
-    Ok(text)
-}
-
-fn refusal_body(alloc: Global, refusal: &Refusal) -> Result<Text, NoMemory>
-    ensures value { IfOk result (λ text. text ≡ refusal_body refusal.now) }
-{
-    match refusal {
-        Refusal::KeyUnknown => error_body(alloc, "KeyUnknown"),
-        Refusal::KeyExpired => error_body(alloc, "KeyExpired"),
-        Refusal::KeyUsed => error_body(alloc, "KeyUsed"),
-        Refusal::NodeKeyTaken => error_body(alloc, "NodeKeyTaken"),
-        Refusal::Full(kind) => full_body(alloc, *kind),
-        Refusal::AddressesSpent { family } => spent_body(alloc, *family),
-        Refusal::KeeperFault => error_body(alloc, "KeeperFault"),
-        Refusal::NoMemory => error_body(alloc, "NoMemory"),
-    }
-}
-
-fn full_body(alloc: Global, kind: Scarce) -> Result<Text, NoMemory>
-    ensures value { IfOk result (λ text. text ≡ refusal_body (Refusal.Full kind)) }
-{
-    let mut text = Text::from_str(alloc, "{\"error\":\"Full\",\"what\":\"")?;
-    text.push(scarce_name(kind))?;
-    text.push("\"}")?;
-    Ok(text)
-}
-
-fn spent_body(alloc: Global, family: u8) -> Result<Text, NoMemory>
-    ensures value { IfOk result (λ text. text ≡ refusal_body (Refusal.AddressesSpent family)) }
-{
-    let mut digits = itoa::Buffer::new();
-    let mut text = Text::from_str(alloc, "{\"error\":\"AddressesSpent\",\"family\":")?;
-    text.push(digits.format(family))?;
-    text.push("}")?;
-    Ok(text)
-}
-
-fn refusal_status(refusal: &Refusal) -> u16
-    ensures value { result ≡ refusal_status refusal.now }
-{
-    match refusal {
-        Refusal::KeyUnknown => 401,
-        Refusal::KeyExpired => 401,
-        Refusal::KeyUsed => 401,
-        Refusal::NodeKeyTaken => 409,
-        Refusal::Full(_) => 507,
-        Refusal::AddressesSpent { .. } => 507,
-        Refusal::KeeperFault => 500,
-        Refusal::NoMemory => 503,
-    }
-}
-
-fn reply_status(reply: &Reply) -> u16
-    ensures value { result ≡ reply_status reply.now }
+fn reply_status(is_machine: bool, reply: &Reply) -> u16
+    ensures value { result ≡ reply_status is_machine reply.now }
     ensures status { IsStatusCode result }
 {
     match reply {
         Reply::Done(_) => 200,
-        Reply::Refused(refusal) => refusal_status(refusal),
+        Reply::Refused(refusal) => refusal_status(is_machine, refusal),
     }
 }
 
-fn reply_body(alloc: Global, reply: &Reply) -> Result<Text, NoMemory>
-    ensures value { IfOk result (λ text. text ≡ reply_body reply.now) }
+fn reply_body(alloc: Global, server_url: &Text, reply: &Reply) -> Result<Vec<u8>, NoMemory>
+    ensures value { IfOk result (λ made. made.items ≡ reply_body server_url.now reply.now) }
 {
     match reply {
-        Reply::Done(Answer::Registered { profile, expired }) => {
-            registered_text(alloc, profile, *expired)
-        }
-        Reply::Done(Answer::Gone) => Text::from_str(alloc, "{}"),
-        Reply::Refused(refusal) => refusal_body(alloc, refusal),
+        Reply::Done(answer) => answer_body(alloc, server_url, answer),
+        Reply::Refused(refusal) => bytes_of(alloc, &refusal_body(alloc, refusal)?),
     }
 }
 
-/// The bytes of the answer to a reply; `close` says whether the connection ends after it.
+/// The bytes of the answer to a reply to an ask; `close` says whether the connection ends after it.
 #[tactic(auto, unfolding(crate::specs::Replies::reply_bytes))]
-pub fn reply_answer(alloc: Global, reply: &Reply, close: bool) -> Result<Vec<u8>, NoMemory>
-    ensures value { IfOk result (λ made. made.items ≡ reply_bytes reply.now close) }
+pub(crate) fn reply_answer(
+    alloc: Global,
+    site: &Site,
+    ask: &Ask,
+    reply: &Reply,
+    close: bool,
+) -> Result<Vec<u8>, NoMemory>
+    ensures value { IfOk result (λ made. made.items ≡ reply_bytes site.now ask.now reply.now close) }
 {
-    let body = reply_body(alloc, reply)?;
-    plain_answer(alloc, reply_status(reply), body.as_slice(), close)
+    let body = reply_body(alloc, &site.server_url, reply)?;
+    let status = reply_status(is_machine_ask(ask), reply);
+    plain_answer(alloc, status, &body, close)
 }

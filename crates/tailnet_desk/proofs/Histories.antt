@@ -1,11 +1,11 @@
 -- Chains of turns, and the legal histories that they are.
 use Rattle.std.proofs.Common.{List, [], ◌∷◌, ◌++◌, refl, ap, sym, ◌∙◌, subst}
-use Rattle.tailnet_desk.specs.State.{State}
+use Rattle.desk_state.specs.State.{State}
 use Rattle.tailnet_desk.specs.History.{Legal, replay}
 use Rattle.tailnet_desk.specs.Chains.{Turned, Chain, Point, Deals, IsHistory}
 use Rattle.tailnet_desk.specs.declared.entry.Event.{Event}
 use Rattle.tailnet_desk.specs.declared.entry.Entry.{Entry}
-use Rattle.tailnet_desk.specs.declared.reply.Reply.{Reply}
+use Rattle.desk_state.specs.declared.reply.Reply.{Reply}
 
 pub Chain-append : {S : Type 0} (turn : S → Event → Reply → S → Type 0) (s : S) (xs ys : List Turned) (m t : S) → Chain turn s xs m → Chain turn m ys t → Chain turn s (xs ++ ys) t
 Chain-append {S} turn s [] ys m t p q = subst (λ (u : S). Chain turn u ys t) (sym p) q

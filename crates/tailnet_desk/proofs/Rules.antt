@@ -1,124 +1,112 @@
--- A decision is never refused for want of memory or for a fault of the keeper.
-use Rattle.std.proofs.Common.{◌≡◌, ℕ, Bool, true, false, not, ◌&&◌, List, Option, Some, None, Result, Ok, Err, if◌then◌else◌, sym, refl, ap, subst, arith}
-use Rattle.net_addr.specs.Bits.{Address}
-use Rattle.tail_base.specs.declared.key.MachineKey.{MachineKey}
-use Rattle.net_rows.specs.Room.{has_room}
-use Rattle.net_rows.specs.Rows.{machine_of, key_of}
-use Rattle.net_rows.specs.declared.change.Kind.TheVariants as kind
-use Rattle.net_rows.specs.declared.key.AuthKey.{AuthKey}
-use Rattle.net_rows.specs.declared.machine.Machine.{Machine}
-use Rattle.allot.specs.Addresses.{free_address}
-use Rattle.wire_json.specs.declared.register.Register.{Register}
-use Rattle.tailnet_desk.specs.Carried.{IsRuling}
-use Rattle.tailnet_desk.specs.History.{IsCall}
-use Rattle.tailnet_desk.specs.Profiles.{profile_of}
-use Rattle.tailnet_desk.specs.Register.{register_as, by_key, place_for, kept_place, usable_key, repeats, is_taken, admitted}
-use Rattle.tailnet_desk.specs.Seed.{seed, is_past_seed}
-use Rattle.tailnet_desk.specs.State.{State, at_moment, is_ahead}
-use Rattle.tailnet_desk.specs.Step.{decision, decided, moment_of, outcome}
-use Rattle.tailnet_desk.specs.Steps.{◌>>=◌, refuse_if, or_refuse}
-use Rattle.tailnet_desk.specs.declared.ask.Ask.{Ask}
-use Rattle.tailnet_desk.specs.declared.ask.Ask.TheVariants as ask
-use Rattle.tailnet_desk.specs.declared.decision.Decision.TheVariants.{Only}
+-- A refusal by a rule is the step's reply.
+use Rattle.std.proofs.Common.{◌≡◌, ◌∙◌, ℕ, ℤ, List, Option, Result, Ok, Err, refl, sym, ap, arith}
+use Rattle.moments.specs.Moments.{later_of}
+use Rattle.net_rows.specs.declared.rows.Rows.{Rows}
+use Rattle.net_rows.specs.declared.settings.SettingsFields.{SettingsFields}
+use Rattle.desk_state.specs.declared.ask.Ask.{Ask}
+use Rattle.desk_state.specs.declared.decision.Decision.{Decision}
+use Rattle.desk_state.specs.declared.decision.Decision.TheVariants.{Only}
+use Rattle.desk_state.specs.declared.decision.Stop.{Stop}
+use Rattle.desk_state.specs.declared.decision.Stop.TheVariants as stop
+use Rattle.desk_state.specs.declared.presence.MachinePresence.{MachinePresence}
+use Rattle.desk_state.specs.Steps.{Gives}
+use Rattle.tailnet_desk.specs.declared.entry.Event.TheVariants as event
+use Rattle.io_edge.specs.declared.faults.EdgeFault.{EdgeFault}
+use Rattle.io_edge.specs.declared.faults.EdgeFault.TheVariants as edge
+use Rattle.net_rows.specs.declared.change.Change.{Change}
+use Rattle.desk_state.specs.declared.reply.Answer.{Answer}
+use Rattle.tailnet_desk.specs.Carried.{Carried, Kept, reply_of}
+use Rattle.desk_state.specs.Rulings.{IsRuling, IsSoundDecision}
+use Rattle.desk_state.specs.State.{State, at_moment}
+use Rattle.desk_state.specs.declared.reply.Reply.TheVariants.{Done, Refused}
+use Rattle.desk_state.specs.declared.reply.Refusal.{Refusal}
+use Rattle.desk_state.specs.declared.reply.Refusal.TheVariants.{UnknownUser, NameTaken, BadName, UnknownMachine, KeyUnknown, KeyExpired, KeyUsed, TagUndefined, NodeKeyTaken, NotLive, Full, AddressesSpent, UserHasMachines, PendingUnknown, KeeperFault, EntropyFault, NoMemory}
+use Rattle.tailnet_desk.specs.History.{IsCall, IsReply, state_after}
+use Rattle.tailnet_desk.specs.Step.{decided, decision, moment_of, outcome, step}
 use Rattle.tailnet_desk.specs.declared.entry.Event.{Event}
-use Rattle.tailnet_desk.specs.declared.register.Place.{Place}
-use Rattle.tailnet_desk.specs.declared.reply.Answer.TheVariants.{Registered, Gone}
-use Rattle.tailnet_desk.specs.declared.reply.Reply.TheVariants.{Refused}
-use Rattle.tailnet_desk.specs.declared.reply.Refusal.{Refusal}
-use Rattle.tailnet_desk.specs.declared.reply.Refusal.TheVariants.{Full, KeyUnknown, KeyExpired, KeyUsed, NodeKeyTaken, AddressesSpent, KeeperFault, NoMemory}
-use Rattle.tailnet_desk.specs.declared.reply.Scarce.TheVariants as scarce
 
--- where it is refused, it is by a rule
-pub record AreRuled {A : Type 0} (r : Result A Refusal) : Type 0 where
-  pub ruling : (refusal : Refusal) → r ≡ Err refusal → IsRuling refusal
+ruled_reply : (s : State) (e : Event) (before now : ℕ) (r : Refusal) → IsRuling r → Refused r ≡ (step s e).reply → IsReply s e before now (Refused r)
+ruled_reply s e before now UnknownUser h is = is
+ruled_reply s e before now NameTaken h is = is
+ruled_reply s e before now BadName h is = is
+ruled_reply s e before now UnknownMachine h is = is
+ruled_reply s e before now KeyUnknown h is = is
+ruled_reply s e before now KeyExpired h is = is
+ruled_reply s e before now KeyUsed h is = is
+ruled_reply s e before now TagUndefined h is = is
+ruled_reply s e before now NodeKeyTaken h is = is
+ruled_reply s e before now NotLive h is = is
+ruled_reply s e before now (Full kind) h is = is
+ruled_reply s e before now (AddressesSpent family) h is = is
+ruled_reply s e before now UserHasMachines h is = is
+ruled_reply s e before now PendingUnknown h is = is
+ruled_reply s e before now KeeperFault h is = absurd h
+ruled_reply s e before now EntropyFault h is = is
+ruled_reply s e before now NoMemory h is = absurd h
 
-ok_ruled : {A : Type 0} (x : A) → AreRuled {A = A} (Ok x)
-ok_ruled x = record { ruling = λ refusal e. absurd (cc) }
+ruled_state : (s t : State) (e : Event) (r : Refusal) → IsRuling r → t ≡ (step s e).state → t ≡ state_after s e (Refused r)
+ruled_state s t e UnknownUser h is = is
+ruled_state s t e NameTaken h is = is
+ruled_state s t e BadName h is = is
+ruled_state s t e UnknownMachine h is = is
+ruled_state s t e KeyUnknown h is = is
+ruled_state s t e KeyExpired h is = is
+ruled_state s t e KeyUsed h is = is
+ruled_state s t e TagUndefined h is = is
+ruled_state s t e NodeKeyTaken h is = is
+ruled_state s t e NotLive h is = is
+ruled_state s t e (Full kind) h is = is
+ruled_state s t e (AddressesSpent family) h is = is
+ruled_state s t e UserHasMachines h is = is
+ruled_state s t e PendingUnknown h is = is
+ruled_state s t e KeeperFault h is = absurd h
+ruled_state s t e EntropyFault h is = is
+ruled_state s t e NoMemory h is = absurd h
 
-err_ruled : {A : Type 0} (r : Refusal) → IsRuling r → AreRuled {A = A} (Err r)
-err_ruled r h = record { ruling = λ refusal e. let same : r ≡ refusal = cc in subst IsRuling same h }
-
-bind_ruled : {A B : Type 0} (r : Result A Refusal) (f : A → Result B Refusal) → AreRuled r → ((x : A) → AreRuled (f x)) → AreRuled (r >>= f)
-bind_ruled (Ok x) f h k = k x
-bind_ruled {A} (Err e) f h k = err_ruled e (h.ruling e refl)
-
-refuse_ruled : (b : Bool) (r : Refusal) → IsRuling r → AreRuled (refuse_if b r)
-refuse_ruled true r h = err_ruled r h
-refuse_ruled false r h = ok_ruled tt
-
-or_ruled : {A : Type 0} (o : Option A) (r : Refusal) → IsRuling r → AreRuled (or_refuse o r)
-or_ruled (Some x) r h = ok_ruled x
-or_ruled None r h = err_ruled r h
-
-either_ruled : {A : Type 0} (b : Bool) (r u : Result A Refusal) → AreRuled r → AreRuled u → AreRuled (if b then r else u)
-either_ruled true r u h k = h
-either_ruled false r u h k = k
-
-key_ruled : (s : State) (text : List ℕ) → AreRuled (usable_key s text)
-key_ruled s text =
-    bind_ruled (or_refuse (key_of s.rows.keys text) KeyUnknown) _ (or_ruled (key_of s.rows.keys text) KeyUnknown tt) (λ (key : AuthKey).
-    bind_ruled (refuse_if (not (is_ahead s.now key.expiry)) KeyExpired) _ (refuse_ruled (not (is_ahead s.now key.expiry)) KeyExpired tt) (λ _.
-    bind_ruled (refuse_if (key.used && not key.reusable) KeyUsed) _ (refuse_ruled (key.used && not key.reusable) KeyUsed tt) (λ _. ok_ruled key)))
-
-place_ruled : (s : State) (held : Option Machine) → AreRuled (place_for s held)
-place_ruled s (Some m) = ok_ruled (kept_place s m)
-place_ruled s None =
-    bind_ruled (refuse_if (not (has_room s.rows kind.Machine)) (Full scarce.Machine)) _ (refuse_ruled (not (has_room s.rows kind.Machine)) (Full scarce.Machine) tt) (λ _.
-    bind_ruled (or_refuse (free_address s.settings.prefix_v4 s.rows.machines) (AddressesSpent 4)) _ (or_ruled (free_address s.settings.prefix_v4 s.rows.machines) (AddressesSpent 4) tt) (λ (v4 : Address).
-    bind_ruled (or_refuse (free_address s.settings.prefix_v6 s.rows.machines) (AddressesSpent 6)) _ (or_ruled (free_address s.settings.prefix_v6 s.rows.machines) (AddressesSpent 6) tt) (λ (v6 : Address). ok_ruled _)))
-
-by_key_ruled : (s : State) (mk : MachineKey) (form : Register) (held : Option Machine) → AreRuled (by_key s mk form held)
-by_key_ruled s mk form held =
-    bind_ruled (refuse_if (is_taken s.rows.machines mk form.node) NodeKeyTaken) _ (refuse_ruled (is_taken s.rows.machines mk form.node) NodeKeyTaken tt) (λ _.
-    bind_ruled (usable_key s form.auth) _ (key_ruled s form.auth) (λ (key : AuthKey).
-    bind_ruled (place_for s held) _ (place_ruled s held) (λ (place : Place). ok_ruled (admitted s mk form key place))))
-
-register_ruled : (s : State) (mk : MachineKey) (form : Register) (held : Option Machine) → AreRuled (register_as s mk form held)
-register_ruled s mk form None = by_key_ruled s mk form None
-register_ruled s mk form (Some m) =
-    either_ruled (repeats s form.node m) (Ok (Only (Registered (profile_of s.rows.users m.user) false))) (by_key s mk form (Some m)) (ok_ruled _) (by_key_ruled s mk form (Some m))
-
-seed_ruled : (s : State) (text : List ℕ) → AreRuled (seed s text)
-seed_ruled s text =
-    either_ruled (is_past_seed s.rows text) (Ok (Only Gone)) _ (ok_ruled _)
-    (bind_ruled (refuse_if (not (has_room s.rows kind.User)) (Full scarce.User)) _ (refuse_ruled (not (has_room s.rows kind.User)) (Full scarce.User) tt) (λ _.
-    bind_ruled (refuse_if (not (has_room s.rows kind.Key)) (Full scarce.Key)) _ (refuse_ruled (not (has_room s.rows kind.Key)) (Full scarce.Key) tt) (λ _. ok_ruled _)))
-
-pub decision_ruled : (s : State) (x : Ask) → AreRuled (decision s x)
-decision_ruled s (ask.Seed text) = seed_ruled s text
-decision_ruled s (ask.Register mk form) = register_ruled s mk form (machine_of s.rows.machines mk.0)
-
--- a ruling is the step's reply
+-- a decision that refuses by a rule is one call, and leaves all but the time
 pub ruling_call : (s : State) (e : Event) (count : ℕ) (r : Refusal) → IsRuling r → decided s e ≡ Err r → IsCall s count e (Refused r) (at_moment s (moment_of e)) count
-ruling_call s e count KeyUnknown h d = record {
-  reply_is = ap (λ x. (outcome (at_moment s (moment_of e)) x).reply) (sym d);
-  state = ap (λ x. (outcome (at_moment s (moment_of e)) x).state) (sym d);
+ruling_call s e count r h d = record {
+  reply_is = ruled_reply s e count count r h (ap (λ x. (outcome (at_moment s (moment_of e)) x).reply) (sym d));
+  state = ruled_state s (at_moment s (moment_of e)) e r h (ap (λ x. (outcome (at_moment s (moment_of e)) x).state) (sym d));
   later = omega arith;
 }
-ruling_call s e count KeyExpired h d = record {
-  reply_is = ap (λ x. (outcome (at_moment s (moment_of e)) x).reply) (sym d);
-  state = ap (λ x. (outcome (at_moment s (moment_of e)) x).state) (sym d);
-  later = omega arith;
-}
-ruling_call s e count KeyUsed h d = record {
-  reply_is = ap (λ x. (outcome (at_moment s (moment_of e)) x).reply) (sym d);
-  state = ap (λ x. (outcome (at_moment s (moment_of e)) x).state) (sym d);
-  later = omega arith;
-}
-ruling_call s e count NodeKeyTaken h d = record {
-  reply_is = ap (λ x. (outcome (at_moment s (moment_of e)) x).reply) (sym d);
-  state = ap (λ x. (outcome (at_moment s (moment_of e)) x).state) (sym d);
-  later = omega arith;
-}
-ruling_call s e count (Full scarce) h d = record {
-  reply_is = ap (λ x. (outcome (at_moment s (moment_of e)) x).reply) (sym d);
-  state = ap (λ x. (outcome (at_moment s (moment_of e)) x).state) (sym d);
-  later = omega arith;
-}
-ruling_call s e count (AddressesSpent family) h d = record {
-  reply_is = ap (λ x. (outcome (at_moment s (moment_of e)) x).reply) (sym d);
-  state = ap (λ x. (outcome (at_moment s (moment_of e)) x).state) (sym d);
-  later = omega arith;
-}
-ruling_call s e count KeeperFault h d = absurd h
-ruling_call s e count NoMemory h d = absurd h
+
+-- a change that was kept or left, with what is replied of it
+pub carried_of : (s : State) (c : Change) (o : List ℕ) (a : Answer) (kept : Result (Unit {0}) EdgeFault) (t : State) (before now : ℕ)
+    → Kept s c o kept t before now → Carried s c o a (reply_of kept a) t before now
+carried_of s c o a (Ok done) t before now h = (refl, h)
+carried_of s c o a (Err edge.NoMemory) t before now h = h
+carried_of s c o a (Err edge.Failed) t before now h = h
+
+-- a state in its parts
+abbrev pub state_with : SettingsFields → Rows → List MachinePresence → ℤ → State
+state_with f t p n = record { settings = f; rows = t; presence = p; now = n }
+
+-- its time is brought forward
+pub at_later : (f : SettingsFields) (t : Rows) (p : List MachinePresence) (was now m : ℤ) (s : State)
+    → now ≡ later_of was m → state_with f t p was ≡ s → state_with f t p now ≡ at_moment s m
+at_later f t p was now m s later same = ap (λ n. state_with f t p n) later ∙ ap (λ (u : State). at_moment u m) same
+
+-- the decision refused
+pub refused_call : (s at : State) (x : Ask) (m : ℤ) (words : Option (List ℕ)) (count now : ℕ) (f : Stop) (r reply : Refusal)
+    → now ≡ count → at ≡ at_moment s m → f ≡ stop.Refused r → reply ≡ r → Gives {A = Decision} (λ d. d) (Err f) (decision at x words) → IsSoundDecision at.rows (Err f)
+    → IsCall s count (event.Ask x m words) (Refused reply) at now
+refused_call s at x m words count now f r reply still is fault same g sound =
+    let h : IsRuling r = rw fault at sound in
+    let d : decision at x words ≡ Err r = rw fault at g in
+    let e : decided s (event.Ask x m words) ≡ Err r = rw is at d in
+    rw (same, is, still) (ruling_call s (event.Ask x m words) count r h e)
+
+-- the decision changes no row
+pub only_call : (s at : State) (x : Ask) (m : ℤ) (words : Option (List ℕ)) (count now : ℕ) (f : Decision) (a reply : Answer)
+    → now ≡ count → at ≡ at_moment s m → f ≡ Only a → reply ≡ a → Gives {A = Decision} (λ d. d) (Ok f) (decision at x words)
+    → IsCall s count (event.Ask x m words) (Done reply) at now
+only_call s at x m words count now f a reply still is only same g =
+    let d : decision at x words ≡ Ok (Only a) = rw only at g in
+    let e : decided s (event.Ask x m words) ≡ Ok (Only a) = rw is at d in
+    let call : IsCall s count (event.Ask x m words) (Done a) (at_moment s m) count = record {
+      reply_is = ap (λ y. (outcome (at_moment s m) y).reply) (sym e);
+      state = ap (λ y. (outcome (at_moment s m) y).state) (sym e);
+      later = omega arith;
+    } in
+    rw (same, is, still) call

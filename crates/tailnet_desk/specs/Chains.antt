@@ -1,10 +1,10 @@
 -- Events and their replies, one after another.
 use Rattle.std.specs.Prelude.{◌≡◌, ℕ, List, [], ◌∷◌, map}
-use Rattle.tailnet_desk.specs.State.{State}
+use Rattle.desk_state.specs.State.{State}
 use Rattle.tailnet_desk.specs.History.{IsCall, Legal, replay, count_at_end}
 use Rattle.tailnet_desk.specs.declared.entry.Event.{Event}
 use Rattle.tailnet_desk.specs.declared.entry.Entry.{Entry}
-use Rattle.tailnet_desk.specs.declared.reply.Reply.{Reply}
+use Rattle.desk_state.specs.declared.reply.Reply.{Reply}
 
 -- an event and its reply
 pub record Turned : Type 0 where

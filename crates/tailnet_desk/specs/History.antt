@@ -1,16 +1,16 @@
 -- Legal histories.
 use Rattle.std.specs.Prelude.{◌≡◌, ◌≤◌, ℕ, List, [], ◌∷◌, Result, Ok, Err}
 use Rattle.io_edge.specs.Edge.{Rose}
-use Rattle.tailnet_desk.specs.State.{State, at_moment}
+use Rattle.desk_state.specs.State.{State, at_moment}
 use Rattle.tailnet_desk.specs.Step.{step, decided, moment_of}
 use Rattle.tailnet_desk.specs.declared.entry.Event.{Event}
 use Rattle.tailnet_desk.specs.declared.entry.Entry.{Entry}
-use Rattle.tailnet_desk.specs.declared.reply.Reply.{Reply}
-use Rattle.tailnet_desk.specs.declared.reply.Reply.TheVariants.{Refused}
-use Rattle.tailnet_desk.specs.declared.reply.Refusal.{Refusal}
-use Rattle.tailnet_desk.specs.declared.reply.Refusal.TheVariants.{NoMemory, KeeperFault}
-use Rattle.tailnet_desk.specs.declared.decision.Decision.{Decision}
-use Rattle.tailnet_desk.specs.declared.decision.Decision.TheVariants.{Only, Changes}
+use Rattle.desk_state.specs.declared.reply.Reply.{Reply}
+use Rattle.desk_state.specs.declared.reply.Reply.TheVariants.{Refused}
+use Rattle.desk_state.specs.declared.reply.Refusal.{Refusal}
+use Rattle.desk_state.specs.declared.reply.Refusal.TheVariants.{NoMemory, KeeperFault}
+use Rattle.desk_state.specs.declared.decision.Decision.{Decision}
+use Rattle.desk_state.specs.declared.decision.Decision.TheVariants.{Only, Changes}
 
 -- rows change
 abbrev pub ChangesRows : Result Decision Refusal → Type 0

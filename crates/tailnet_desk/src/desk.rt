@@ -2,26 +2,30 @@
 ghost use Rattle.std.specs.Prelude.{◌≡◌, ◌≤◌, ◌<◌, ℕ, List, Option, Some, None, IfOk, IfErr, IfSome, OnOk, IsErrOf, length, map};
 ghost use Rattle.io_edge.specs.Edge.{IsWhereTold, Rose, StillTells};
 ghost use Rattle.net_rows.specs.Damage.{damage};
+ghost use Rattle.net_rows.specs.Held.{Suffices};
 ghost use Rattle.net_rows.specs.Rows.{after};
-ghost use Rattle.tailnet_desk.specs.State.{State, at_moment, all_offline, offline_at, opening};
-ghost use Rattle.tailnet_desk.specs.Steps.{Gives};
+ghost use Rattle.desk_state.specs.Asks.{IsShort};
+ghost use Rattle.desk_state.specs.Rulings.{IsSoundDecision};
+ghost use Rattle.desk_state.specs.State.{State, at_moment, all_offline, forgotten, offline_at, opening};
+ghost use Rattle.desk_state.specs.Steps.{Gives};
 ghost use Rattle.tailnet_desk.specs.Step.{decision, changed};
 ghost use Rattle.tailnet_desk.specs.History.{IsCall};
-ghost use Rattle.tailnet_desk.specs.Carried.{Carried, IsSoundDecision};
+ghost use Rattle.tailnet_desk.specs.Carried.{Carried, Kept, refusal_of, reply_of};
 ghost use Rattle.tailnet_desk.specs.Opening.{unserved};
 ghost use Rattle.tailnet_desk.specs.declared.entry.Event.TheVariants as event;
 
-use crate::ask::Ask;
-use crate::decision::{Decision, Stop};
-use crate::life::Snapshot;
 use crate::opening::{all_offline_of, unserved};
-use crate::presence::{MachinePresence, Presence};
-use crate::register::register;
-use crate::reply::{Answer, Refusal, Reply};
-use crate::seed::seed;
+use admin_asks::{
+    add_key, add_user, drop_node, drop_user, expire_key, expire_node, keys, nodes, rename,
+    set_tags, sweep, users, waiting,
+};
+use desk_state::{
+    Answer, Ask, Decision, MachinePresence, Presence, Refusal, Reply, Snapshot, Stop,
+};
 use io_edge::EdgeFault;
+use machine_asks::{admit, one_map, register, seed, update};
 use moments::Moment;
-use net_rows::{Change, Damage, Kind, Settings, Shelf, Tables};
+use net_rows::{Change, Damage, Kind, RowKey, Settings, Shelf, Tables};
 use row_keeper::{Keeper, LoadFault};
 use std::alloc::Global;
 use std::marker::Model;
@@ -40,7 +44,7 @@ pub struct Desk<K: Keeper> {
 
 impl<K: Keeper> Model for Desk<K> {
     ghost use Rattle.io_edge.specs.Edge.{IsWhereTold};
-    ghost use Rattle.tailnet_desk.specs.State.{State};
+    ghost use Rattle.desk_state.specs.State.{State};
     ghost use Rattle.tailnet_desk.specs.Seated.{Seated};
 
     ghost Value = { Seated K };
@@ -62,26 +66,57 @@ pub enum OpenFault {
     NoMemory,
 }
 
-/// What an ask comes to, by its own rules.
-fn decision_of(alloc: Global, at: &Snapshot<'_>, ask: &Ask) -> Result<Decision, Stop>
-    ensures value { Gives (λ d. d) result (decision at.now ask.now) }
+/// What an ask comes to, by its own rules. A change of rows keeps the rules of the tables.
+fn decide(
+    alloc: Global,
+    at: &Snapshot<'_>,
+    ask: &Ask,
+    words: Option<[u64; 4]>,
+) -> Result<Decision, Stop>
+    requires short { IsShort ask.now }
+    ensures value { Gives (λ d. d) result (decision at.now ask.now words) }
+    ensures sound { IsSoundDecision at.now.rows result }
 {
     match ask {
         Ask::Seed { text } => seed(alloc, at, text),
-        Ask::Register { machine, form } => register(alloc, at, machine, form),
+        Ask::Register { machine, form } => register(alloc, at, machine, form, words),
+        Ask::Update {
+            machine,
+            node,
+            update: told,
+        } => update(alloc, at, machine, node, told),
+        Ask::OneMap {
+            machine,
+            node,
+            update: told,
+        } => { one_map(alloc, at, machine, node, told.as_ref()) }
+        Ask::AddUser { name } => add_user(alloc, at, name),
+        Ask::Users => users(alloc, at),
+        Ask::DropUser { login } => drop_user(alloc, at, login),
+        Ask::AddKey { form } => add_key(alloc, at, form, words),
+        Ask::Keys => keys(alloc, at),
+        Ask::ExpireKey { id } => expire_key(alloc, at, *id),
+        Ask::Nodes => nodes(alloc, at),
+        Ask::Waiting => waiting(alloc, at),
+        Ask::Admit { pending, login } => admit(alloc, at, pending, login),
+        Ask::ExpireNode { id, at: expiry } => expire_node(alloc, at, *id, *expiry),
+        Ask::Rename { id, name } => rename(alloc, at, *id, name),
+        Ask::SetTags { id, tags } => set_tags(alloc, at, *id, tags.as_slice()),
+        Ask::DropNode { id } => drop_node(alloc, at, *id),
+        Ask::Sweep => sweep(alloc, at),
     }
 }
 
-/// What an ask comes to. A change of rows keeps the rules of the tables.
-fn decide(alloc: Global, at: &Snapshot<'_>, ask: &Ask) -> Result<Decision, Stop>
-    ensures value { Gives (λ d. d) result (decision at.now ask.now) }
-    ensures sound { IsSoundDecision at.now.rows result }
+/// The machines whose rows go have no presence any more. It takes no memory.
+fn forget(presence: &mut Shelf<MachinePresence>, gone: &[RowKey])
+    ensures presence { presence.new.0 ≡ forgotten presence.old.0 gone.now }
+    ensures spare { presence.old.1 ≤ presence.new.1 }
 {
-    let fields = at.settings.fields();
-    let _v4 = fields.prefix_v4.base();
-    let _v6 = fields.prefix_v6.base();
-    let _rules = at.tables.users();
-    decision_of(alloc, at, ask)
+    for key in gone {
+        if let RowKey::Machine(id) = key {
+            presence.remove(*id);
+        }
+    }
 }
 
 /// The machines with these ids are offline from this moment on. It takes no memory.
@@ -94,6 +129,68 @@ fn go_offline(presence: &mut Shelf<MachinePresence>, ids: &[u32], now: Moment)
             id: *id,
             presence: Presence::OfflineSince(now),
         });
+    }
+}
+
+/// Makes room for a change of rows and for machines that go offline. Both stay as they are.
+fn make_room(
+    tables: &mut Tables,
+    presence: &mut Shelf<MachinePresence>,
+    change: &Change,
+    offline: usize,
+) -> Result<(), NoMemory>
+    ensures rows { tables.new.rows ≡ tables.old.rows }
+    ensures presence { presence.new.0 ≡ presence.old.0 }
+    ensures reserved { OnOk result (Suffices tables.new.spare change.now.puts) }
+    ensures room { OnOk result (offline ≤ presence.new.1) }
+{
+    tables.reserve(change)?;
+    presence.reserve(offline)
+}
+
+/// Makes a change that is kept: rows change, machines that are gone have no presence any more, and
+/// these are offline from now on. It takes no memory.
+fn settle(
+    tables: &mut Tables,
+    presence: &mut Shelf<MachinePresence>,
+    change: Change,
+    offline: &[u32],
+    now: Moment,
+)
+    requires reserved { Suffices tables.old.spare change.puts }
+    requires sound { damage (after tables.old.rows change) ≡ None }
+    requires room { length offline.now ≤ presence.old.1 }
+    ensures rows { tables.new.rows ≡ after tables.old.rows change }
+    ensures presence { presence.new.0 ≡ all_offline now (forgotten presence.old.0 change.gone) offline.now }
+{
+    forget(presence, change.gone.as_slice());
+    tables.apply(change);
+    go_offline(presence, offline, now);
+}
+
+/// An answer that isn't given is let go here, apart from what it would have answered.
+fn let_go(_answer: Answer) {}
+
+/// The refusal that a fault of the keeper is.
+fn refusal_of(fault: EdgeFault) -> Refusal
+    ensures value { result ≡ refusal_of fault }
+{
+    match fault {
+        EdgeFault::Failed => Refusal::KeeperFault,
+        EdgeFault::NoMemory => Refusal::NoMemory,
+    }
+}
+
+/// What is replied where a change was kept, or wasn't.
+fn reply_of(kept: Result<(), EdgeFault>, answer: Answer) -> Reply
+    ensures value { result ≡ reply_of kept answer }
+{
+    match kept {
+        Ok(()) => Reply::Done(answer),
+        Err(fault) => {
+            let_go(answer);
+            Reply::Refused(refusal_of(fault))
+        }
     }
 }
 
@@ -141,27 +238,43 @@ impl<K: Keeper> Desk<K> {
         }
     }
 
-    /// Keeps a change, and answers. It takes all memory before the one commit.
+    /// Keeps a change. It takes all memory before the one commit.
+    fn keep(&mut self, alloc: Global, change: Change, offline: Items<u32>) -> Result<(), EdgeFault>
+        requires sound { damage (after self.old.state.rows change) ≡ None }
+        ensures kept { Kept self.old.state change offline result self.new.state (K.faults self.old.keeper) (K.faults self.new.keeper) }
+        ensures later { K.faults self.old.keeper ≤ K.faults self.new.keeper }
+    {
+        let room = make_room(&mut self.tables, &mut self.presence, &change, offline.len());
+        if room.is_err() {
+            return Err(EdgeFault::NoMemory);
+        }
+        match self.keeper.commit(alloc, &change) {
+            Ok(()) => {
+                settle(
+                    &mut self.tables,
+                    &mut self.presence,
+                    change,
+                    offline.as_slice(),
+                    self.time,
+                );
+                Ok(())
+            }
+            Err(fault) => Err(fault),
+        }
+    }
+
+    /// Keeps a change, and answers.
     fn carry(&mut self, alloc: Global, change: Change, offline: Items<u32>, answer: Answer) -> Reply
         requires sound { damage (after self.old.state.rows change) ≡ None }
         ensures carried { Carried self.old.state change offline answer result self.new.state (K.faults self.old.keeper) (K.faults self.new.keeper) }
         ensures later { K.faults self.old.keeper ≤ K.faults self.new.keeper }
     {
-        if self.tables.reserve(&change).is_err() || self.presence.reserve(offline.len()).is_err() {
-            return Reply::Refused(Refusal::NoMemory);
-        }
-        match self.keeper.commit(alloc, &change) {
-            Ok(()) => {
-                self.tables.apply(change);
-                go_offline(&mut self.presence, offline.as_slice(), self.time);
-                Reply::Done(answer)
-            }
-            Err(EdgeFault::Failed) => Reply::Refused(Refusal::KeeperFault),
-            Err(EdgeFault::NoMemory) => Reply::Refused(Refusal::NoMemory),
-        }
+        let kept = self.keep(alloc, change, offline);
+        reply_of(kept, answer)
     }
 
-    /// One event: its reply is the machine's, or want of memory, or a fault of the keeper.
+    /// One event: its reply is the machine's, or want of memory, or a fault of the keeper. The lists and
+    /// texts of the ask are within the limits of rows.
     pub fn ask(
         &mut self,
         alloc: Global,
@@ -169,6 +282,7 @@ impl<K: Keeper> Desk<K> {
         moment: Moment,
         words: Option<[u64; 4]>,
     ) -> Reply
+        requires short { IsShort ask.now }
         ensures call { IsCall self.old.state (K.faults self.old.keeper) (event.Ask ask.now moment words) result self.new.state (K.faults self.new.keeper) }
     {
         self.time = self.time.or_later(moment);
@@ -178,7 +292,7 @@ impl<K: Keeper> Desk<K> {
             presence: self.presence.as_slice(),
             time: self.time,
         };
-        match decide(alloc, &at, ask) {
+        match decide(alloc, &at, ask, words) {
             Err(Stop::Memory) => Reply::Refused(Refusal::NoMemory),
             Err(Stop::Refused(refusal)) => Reply::Refused(refusal),
             Ok(Decision::Only(answer)) => Reply::Done(answer),

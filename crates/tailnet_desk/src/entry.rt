@@ -1,6 +1,5 @@
 //! Events, and what stands of them in a history.
-use crate::ask::Ask;
-use crate::reply::Reply;
+use desk_state::{Ask, Reply};
 use moments::Moment;
 
 /// One call of the desk: what is asked, the moment, and fresh random words where they were drawn.

@@ -2,10 +2,10 @@
 ghost use Rattle.std.specs.Prelude.{◌≡◌, IfOk, map, Option, Some, None, length, nat_lt};
 ghost use Rattle.std.specs.List.{find};
 ghost use Rattle.std.specs.Option.{option_copied, option_map};
-ghost use Rattle.tailnet_desk.specs.State.{offline_at};
+ghost use Rattle.desk_state.specs.State.{offline_at};
 ghost use Rattle.tailnet_desk.specs.Opening.{approved_machine, damage_if, unserved};
 
-use crate::presence::{MachinePresence, Presence};
+use desk_state::{MachinePresence, Presence};
 use moments::Moment;
 use net_rows::{Damage, Kind, Machine, Shelf, Tables};
 use std::alloc::Global;

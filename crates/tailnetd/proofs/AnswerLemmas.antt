@@ -6,16 +6,17 @@ use Rattle.io_edge.specs.Edge.{IsWhereTold, Rose}
 use Rattle.io_edge.specs.Stream as stream
 use Rattle.http_front.specs.AnswerBytes.{answer}
 use Rattle.http_front.specs.declared.request.Request.{Request}
-use Rattle.tailnet_desk.specs.Asks.{needs_words}
+use Rattle.desk_state.specs.Asks.{needs_words}
 use Rattle.tailnet_desk.specs.Chains.{Turned, Chain}
-use Rattle.tailnet_desk.specs.declared.ask.Ask.{Ask}
+use Rattle.desk_state.specs.declared.ask.Ask.{Ask}
 use Rattle.tailnet_desk.specs.declared.entry.Event.{Event}
 use Rattle.tailnet_desk.specs.declared.entry.Event.TheVariants as event
-use Rattle.tailnet_desk.specs.declared.reply.Reply.{Reply}
+use Rattle.desk_state.specs.declared.reply.Reply.{Reply}
 use Rattle.desk_front.specs.Replies.{reply_bytes}
 use Rattle.desk_front.specs.Wanted.{wanted_of}
 use Rattle.desk_front.specs.declared.want.Wanted.{Wanted}
 use Rattle.desk_front.specs.declared.want.Wanted.TheVariants as wants
+use Rattle.desk_front.specs.declared.site.Site.{Site}
 use Rattle.tailnetd.specs.Outside.{Giving, Took, Drew, ask_of, words_of, from_number, MomentsTold}
 use Rattle.tailnetd.specs.Asked.{IsAsked, IsClosing, Follows}
 use Rattle.tailnetd.specs.Exchanges.{Answered, Exchange, IsExchange, IsOutcome, IsAnswered, IsUnanswered, ended_by}
@@ -70,11 +71,11 @@ drew_none false (Some word) old new n m d e = absurd d
 drew_none true words old new n m d e = absurd (cc)
 
 -- an ask was one turn
-pub asked_once : {T S : Type 0} (turn : S → Event → Reply → S → Type 0) (outcome : Result T Closed) (ask : Ask) (close : Bool) (m moment : ℤ) (words : Option (List ℕ)) (reply : Reply) (old new : Giving) (s t : S)
+pub asked_once : {T S : Type 0} (turn : S → Event → Reply → S → Type 0) (site : Site) (outcome : Result T Closed) (ask : Ask) (close : Bool) (m moment : ℤ) (words : Option (List ℕ)) (reply : Reply) (old new : Giving) (s t : S)
     → moment ≡ clamped m → Drew (needs_words ask) words old.words new.words old.word_faults new.word_faults → stream.Took old.answers new.answers m
     → turn s (event.Ask ask moment words) reply t
-    → Sent outcome old.held new.held old.write_faults new.write_faults (reply_bytes reply close) → IsAsked turn outcome ask close old new s t
-asked_once turn outcome ask close m moment words reply old new s t at drew took leads sent = record {
+    → Sent outcome old.held new.held old.write_faults new.write_faults (reply_bytes site ask reply close) → IsAsked turn site outcome ask close old new s t
+asked_once turn site outcome ask close m moment words reply old new s t at drew took leads sent = record {
   turned = record { event = event.Ask ask moment words; reply = reply };
   ask_is = refl;
   words_are = drew_none (needs_words ask) words old.words new.words old.word_faults new.word_faults drew;
@@ -110,11 +111,11 @@ pub follows_early : (T : Type 0) (done : T) → Follows {T = T} (Ok done) (Err E
 follows_early T done = record { is = λ written bytes before now h. (h, refl) }
 
 -- an exchange without a turn
-pub answered_fixed : {T S : Type 0} (turn : S → Event → Reply → S → Type 0) (sent outcome : Result T Closed) (request : Request) (last : Bool) (bytes : List ℕ) (ended : Option Closed) (old new : Giving) (s : S)
-    → IsExchange last (record { request = request; turns = []; bytes = bytes; ended = ended })
+pub answered_fixed : {T S : Type 0} (turn : S → Event → Reply → S → Type 0) (site : Site) (sent outcome : Result T Closed) (request : Request) (last : Bool) (bytes : List ℕ) (ended : Option Closed) (old new : Giving) (s : S)
+    → IsExchange site last (record { request = request; turns = []; bytes = bytes; ended = ended })
     → ((k : ℕ) → new.answers k ≡ old.answers k) → ((k : ℕ) → new.words k ≡ old.words k) → old.word_faults ≤ new.word_faults
-    → Sent sent old.held new.held old.write_faults new.write_faults bytes → Follows sent outcome ended → Answered turn outcome request last old new s s
-answered_fixed turn sent outcome request last bytes ended old new s is a w f wrote follows = record {
+    → Sent sent old.held new.held old.write_faults new.write_faults bytes → Follows sent outcome ended → Answered turn site outcome request last old new s s
+answered_fixed turn site sent outcome request last bytes ended old new s is a w f wrote follows = record {
   exchange = record { request = request; turns = []; bytes = bytes; ended = ended };
   request_is = refl;
   is = is;
@@ -128,12 +129,12 @@ answered_fixed turn sent outcome request last bytes ended old new s is a w f wro
 }
 
 -- an exchange of one turn
-pub answered_ask : {T S : Type 0} (turn : S → Event → Reply → S → Type 0) (sent outcome : Result T Closed) (request : Request) (last : Bool) (ask : Ask) (old new : Giving) (s t : S)
-    → wanted_of request ≡ wants.Ask ask → IsAsked turn sent ask (request.close || last) old new s t → Follows sent outcome (ended_by (request.close || last)) → Answered turn outcome request last old new s t
-answered_ask turn sent outcome request last ask old new s t wants_it asked follows =
+pub answered_ask : {T S : Type 0} (turn : S → Event → Reply → S → Type 0) (site : Site) (sent outcome : Result T Closed) (request : Request) (last : Bool) (ask : Ask) (old new : Giving) (s t : S)
+    → wanted_of site request ≡ wants.Ask ask → IsAsked turn site sent ask (request.close || last) old new s t → Follows sent outcome (ended_by (request.close || last)) → Answered turn site outcome request last old new s t
+answered_ask turn site sent outcome request last ask old new s t wants_it asked follows =
     let close = request.close || last in
     record {
-      exchange = record { request = request; turns = asked.turned ∷ []; bytes = reply_bytes asked.turned.reply close; ended = ended_by close };
+      exchange = record { request = request; turns = asked.turned ∷ []; bytes = reply_bytes site ask asked.turned.reply close; ended = ended_by close };
       request_is = refl;
       is = inr (rw wants_it (asked.turned, refl, asked.ask_is, asked.words_are, refl, refl));
       chain = (t, asked.leads, refl);
@@ -154,21 +155,21 @@ or_true true = refl
 or_true false = refl
 
 -- want of memory before any event
-pub exchange_unanswered : (request : Request) (last close : Bool) (bytes : List ℕ) → close ≡ (request.close || last) → bytes ≡ answer 503 (codes "{\"error\":\"NoMemory\"}") close
-    → IsExchange last (record { request = request; turns = []; bytes = bytes; ended = ended_by close })
-exchange_unanswered request last close bytes e is = inl (refl, is ∙ ap (λ (b : Bool). answer 503 (codes "{\"error\":\"NoMemory\"}") b) e, ap ended_by e)
+pub exchange_unanswered : (site : Site) (request : Request) (last close : Bool) (bytes : List ℕ) → close ≡ (request.close || last) → bytes ≡ answer 503 (codes "{\"error\":\"NoMemory\"}") close
+    → IsExchange site last (record { request = request; turns = []; bytes = bytes; ended = ended_by close })
+exchange_unanswered site request last close bytes e is = inl (refl, is ∙ ap (λ (b : Bool). answer 503 (codes "{\"error\":\"NoMemory\"}") b) e, ap ended_by e)
 
 -- a fixed answer that leaves the connection as the request wants it
-pub exchange_fixed : (request : Request) (last close : Bool) (status : ℕ) (body : List ℕ) → close ≡ (request.close || last) → wants.Answer status body ≡ wanted_of request → (status == 400) ≡ false
-    → IsExchange last (record { request = request; turns = []; bytes = answer status body close; ended = ended_by close })
-exchange_fixed request last close status body e w test =
+pub exchange_fixed : (site : Site) (request : Request) (last close : Bool) (status : ℕ) (body : List ℕ) → close ≡ (request.close || last) → wants.Answer status body ≡ wanted_of site request → (status == 400) ≡ false
+    → IsExchange site last (record { request = request; turns = []; bytes = answer status body close; ended = ended_by close })
+exchange_fixed site request last close status body e w test =
     let closing : close ≡ ((request.close || last) || (status == 400)) = e ∙ sym (ap (λ (b : Bool). (request.close || last) || b) test ∙ or_false (request.close || last)) in
     let ending : ended_by close ≡ (if status == 400 then Some Early else ended_by (request.close || last)) = ap ended_by e ∙ sym (ap (λ (b : Bool). if b then Some Early else ended_by (request.close || last)) test) in
     inr (rw (← w) (refl, ap (λ (b : Bool). answer status body b) closing, ending))
 
 -- the answer to a faulty request ends the connection
-pub exchange_faulty : (request : Request) (last : Bool) (status : ℕ) (body : List ℕ) → status ≡ 400 → wants.Answer status body ≡ wanted_of request
-    → IsExchange last (record { request = request; turns = []; bytes = answer 400 body true; ended = Some Early })
-exchange_faulty request last status body is w =
-    let w400 : wants.Answer 400 body ≡ wanted_of request = rw is at w in
+pub exchange_faulty : (site : Site) (request : Request) (last : Bool) (status : ℕ) (body : List ℕ) → status ≡ 400 → wants.Answer status body ≡ wanted_of site request
+    → IsExchange site last (record { request = request; turns = []; bytes = answer 400 body true; ended = Some Early })
+exchange_faulty site request last status body is w =
+    let w400 : wants.Answer 400 body ≡ wanted_of site request = rw is at w in
     inr (rw (← w400) (refl, ap (λ (b : Bool). answer 400 body b) (sym (or_true (request.close || last))), refl))

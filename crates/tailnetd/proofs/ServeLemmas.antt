@@ -12,7 +12,8 @@ use Rattle.http_front.proofs.Streams.{IsWhole-append, Leads-append}
 use Rattle.tailnet_desk.specs.Chains.{Turned, Chain}
 use Rattle.tailnet_desk.proofs.Histories.{Chain-append}
 use Rattle.tailnet_desk.specs.declared.entry.Event.{Event}
-use Rattle.tailnet_desk.specs.declared.reply.Reply.{Reply}
+use Rattle.desk_state.specs.declared.reply.Reply.{Reply}
+use Rattle.desk_front.specs.declared.site.Site.{Site}
 use Rattle.tailnetd.specs.Outside.{Giving, Took}
 use Rattle.tailnetd.specs.Asked.{IsRefused, IsRefusedBy}
 use Rattle.tailnetd.specs.Exchanges.{Exchange, IsExchange, AreExchanges, Answered, IsOutcome, requests_of, turns_of, answers_of, end_of, bad_answer}
@@ -24,9 +25,9 @@ use Rattle.tailnetd.specs.declared.closed.Closed.{Closed}
 use Rattle.tailnetd.specs.declared.closed.Closed.TheVariants.{End, Early, ReadFault, WriteFault, NoMemory}
 
 -- nothing was served, and nothing written
-pub serves_none : {S : Type 0} (turn : S → Event → Reply → S → Type 0) (closed : Closed) (limit : ℕ) (held read : List ℕ) (old new : Told) (s : S) → new.giving ≡ old.giving → old.left ≡ and_then_left read new.left → old.read_faults ≤ new.read_faults
-    → Ends closed [] (held ++ read) [] [] old new → Serves turn closed limit held old new s s
-serves_none turn closed limit held read old new s same came later ends =
+pub serves_none : {S : Type 0} (turn : S → Event → Reply → S → Type 0) (site : Site) (closed : Closed) (limit : ℕ) (held read : List ℕ) (old new : Told) (s : S) → new.giving ≡ old.giving → old.left ≡ and_then_left read new.left → old.read_faults ≤ new.read_faults
+    → Ends closed [] (held ++ read) [] [] old new → Serves turn site closed limit held old new s s
+serves_none turn site closed limit held read old new s same came later ends =
     let quiet : (f : Giving) → f ≡ old.giving → Took old.giving f [] = λ f e. subst (λ (x : Giving). Took old.giving x []) (sym e) (took_none old.giving old.giving (λ k. refl) (λ k. refl) (omega arith)) in
     record {
       exchanges = [];
@@ -56,11 +57,11 @@ refused_ends WriteFault rest status written old new tail h = h
 refused_ends NoMemory rest status written old new tail h = tt
 
 -- nothing was served, and a refused head was answered
-pub serves_refused : {S : Type 0} (turn : S → Event → Reply → S → Type 0) (closed : Closed) (limit : ℕ) (held new_held : List ℕ) (status : ℕ) (old new : Told) (s : S)
+pub serves_refused : {S : Type 0} (turn : S → Event → Reply → S → Type 0) (site : Site) (closed : Closed) (limit : ℕ) (held new_held : List ℕ) (status : ℕ) (old new : Told) (s : S)
     → Takes old.left new.left held new_held (taken.Bad status) → old.read_faults ≤ new.read_faults
     → ((k : ℕ) → new.giving.answers k ≡ old.giving.answers k) → ((k : ℕ) → new.giving.words k ≡ old.giving.words k) → old.giving.word_faults ≤ new.giving.word_faults
-    → IsRefused old.giving.held new.giving.held old.giving.write_faults new.giving.write_faults (bad_answer status) closed → Serves turn closed limit held old new s s
-serves_refused turn closed limit held new_held status old new s took later answers words faults refused = record {
+    → IsRefused old.giving.held new.giving.held old.giving.write_faults new.giving.write_faults (bad_answer status) closed → Serves turn site closed limit held old new s s
+serves_refused turn site closed limit held new_held status old new s took later answers words faults refused = record {
   exchanges = [];
   read = took.read;
   rest = held ++ took.read;
@@ -92,11 +93,11 @@ last_ends T WriteFault x rest written old new h = h
 last_ends T NoMemory x rest written old new h = tt
 
 -- the last request was served
-pub served_last : {T S : Type 0} (turn : S → Event → Reply → S → Type 0) (outcome : Result T Closed) (request : Request) (last : Bool) (held new_held : List ℕ) (old new : Told) (s t : S)
-    → Takes old.left new.left held new_held (taken.Request request) → old.read_faults ≤ new.read_faults → Answered turn outcome request last old.giving new.giving s t
-    → IfErr outcome (λ closed. (limit : ℕ) → 0 < limit → last ≡ (limit == 1) → Serves turn closed limit held old new s t)
-served_last turn (Ok done) request last held new_held old new s t took later answered = tt
-served_last {T} turn (Err closed) request last held new_held old new s t took later answered = λ limit some is_last.
+pub served_last : {T S : Type 0} (turn : S → Event → Reply → S → Type 0) (site : Site) (outcome : Result T Closed) (request : Request) (last : Bool) (held new_held : List ℕ) (old new : Told) (s t : S)
+    → Takes old.left new.left held new_held (taken.Request request) → old.read_faults ≤ new.read_faults → Answered turn site outcome request last old.giving new.giving s t
+    → IfErr outcome (λ closed. (limit : ℕ) → 0 < limit → last ≡ (limit == 1) → Serves turn site closed limit held old new s t)
+served_last turn site (Ok done) request last held new_held old new s t took later answered = tt
+served_last {T} turn site (Err closed) request last held new_held old new s t took later answered = λ limit some is_last.
     let x = answered.exchange in
     let whole : IsWhole (held ++ took.read) x.request new_held = rw answered.request_is took.answers in
     record {
@@ -107,7 +108,7 @@ served_last {T} turn (Err closed) request last held new_held old new s t took la
       written = answered.written;
       from_source = took.moved;
       bytes_read = (new_held, whole, refl);
-      each = (some, subst (λ (b : Bool). IsExchange b x) is_last answered.is, λ never. absurd (never refl), tt);
+      each = (some, subst (λ (b : Bool). IsExchange site b x) is_last answered.is, λ never. absurd (never refl), tt);
       chain = rw append-nil answered.chain;
       took = rw append-nil answered.took;
       extra_is = inl refl;
@@ -119,10 +120,10 @@ served_last {T} turn (Err closed) request last held new_held old new s t took la
     }
 
 -- a request was served, and the connection goes on
-pub goes_one : {T S : Type 0} (turn : S → Event → Reply → S → Type 0) (outcome : Result T Closed) (request : Request) (last : Bool) (held new_held : List ℕ) (old new : Told) (s t : S)
-    → Takes old.left new.left held new_held (taken.Request request) → old.read_faults ≤ new.read_faults → Answered turn outcome request last old.giving new.giving s t → OnOk outcome (last ≡ false)
-    → OnOk outcome (Goes turn last held new_held old new s t)
-goes_one turn (Ok done) request last held new_held old new s t took later answered more = record {
+pub goes_one : {T S : Type 0} (turn : S → Event → Reply → S → Type 0) (site : Site) (outcome : Result T Closed) (request : Request) (last : Bool) (held new_held : List ℕ) (old new : Told) (s t : S)
+    → Takes old.left new.left held new_held (taken.Request request) → old.read_faults ≤ new.read_faults → Answered turn site outcome request last old.giving new.giving s t → OnOk outcome (last ≡ false)
+    → OnOk outcome (Goes turn site last held new_held old new s t)
+goes_one turn site (Ok done) request last held new_held old new s t took later answered more = record {
   more = more;
   exchange = answered.exchange;
   read = took.read;
@@ -136,7 +137,7 @@ goes_one turn (Ok done) request last held new_held old new s t took later answer
   reads_later = later;
   writes_later = answered.later;
 }
-goes_one turn (Err closed) request last held new_held old new s t took later answered more = tt
+goes_one turn site (Err closed) request last held new_held old new s t took later answered more = tt
 
 ends_more : (closed : Closed) (x : Exchange) (xs : List Exchange) (rest extra written : List ℕ) (old mid new : Told) → x.ended ≡ None → old.read_faults ≤ mid.read_faults → old.giving.write_faults ≤ mid.giving.write_faults
     → Ends closed xs rest extra written mid new → Ends closed (x ∷ xs) rest extra (x.bytes ++ written) old new
@@ -147,9 +148,9 @@ ends_more WriteFault x xs rest extra written old mid new still r w e = rose_late
 ends_more NoMemory x xs rest extra written old mid new still r w e = tt
 
 -- one exchange, and then the rest of the connection
-pub serves_more : {S : Type 0} (turn : S → Event → Reply → S → Type 0) (closed : Closed) (limit more : ℕ) (last : Bool) (held mid_held : List ℕ) (old mid new : Told) (s u t : S) → limit ≡ more - 1 → 0 < more → last ≡ (more == 1)
-    → Goes turn last held mid_held old mid s u → Serves turn closed limit mid_held mid new u t → Serves turn closed more held old new s t
-serves_more turn closed limit more last held mid_held old mid new s u t is some is_last goes serves =
+pub serves_more : {S : Type 0} (turn : S → Event → Reply → S → Type 0) (site : Site) (closed : Closed) (limit more : ℕ) (last : Bool) (held mid_held : List ℕ) (old mid new : Told) (s u t : S) → limit ≡ more - 1 → 0 < more → last ≡ (more == 1)
+    → Goes turn site last held mid_held old mid s u → Serves turn site closed limit mid_held mid new u t → Serves turn site closed more held old new s t
+serves_more turn site closed limit more last held mid_held old mid new s u t is some is_last goes serves =
     let x = goes.exchange in
     let xs = serves.exchanges in
     let whole : IsWhole (held ++ (goes.read ++ serves.read)) x.request (mid_held ++ serves.read) =
@@ -162,7 +163,7 @@ serves_more turn closed limit more last held mid_held old mid new s u t is some 
       written = x.bytes ++ serves.written;
       from_source = goes.from_source ∙ ap (λ o. and_then_left goes.read o) serves.from_source ∙ left_more new.left goes.read serves.read;
       bytes_read = (mid_held ++ serves.read, whole, serves.bytes_read);
-      each = (some, subst (λ (b : Bool). IsExchange b x) is_last goes.is, λ _. goes.open_still, subst (λ (n : ℕ). AreExchanges n xs) is serves.each);
+      each = (some, subst (λ (b : Bool). IsExchange site b x) is_last goes.is, λ _. goes.open_still, subst (λ (n : ℕ). AreExchanges site n xs) is serves.each);
       chain = Chain-append turn s x.turns (turns_of xs) u t goes.chain serves.chain;
       took = took-append old.giving mid.giving new.giving x.turns (turns_of xs) goes.took serves.took;
       extra_is = serves.extra_is;

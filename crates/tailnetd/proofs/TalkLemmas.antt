@@ -7,8 +7,9 @@ use Rattle.tailnet_desk.specs.Chains.{Turned, Chain, Point, Deals}
 use Rattle.tailnet_desk.proofs.Histories.{Chain-append, Chain-map}
 use Rattle.tailnet_desk.specs.declared.entry.Event.{Event}
 use Rattle.tailnet_desk.specs.declared.entry.Event.TheVariants as event
-use Rattle.tailnet_desk.specs.declared.ask.Ask.TheVariants as ask
-use Rattle.tailnet_desk.specs.declared.reply.Reply.{Reply}
+use Rattle.desk_state.specs.declared.ask.Ask.TheVariants as ask
+use Rattle.desk_state.specs.declared.reply.Reply.{Reply}
+use Rattle.desk_front.specs.declared.site.Site.{Site}
 use Rattle.tailnetd.specs.Exchanges.{turns_of}
 use Rattle.tailnetd.specs.Outside.{Giving, Took, MomentsTold, from_number}
 use Rattle.tailnetd.specs.Serve.{Serves, Told, Ends}
@@ -28,9 +29,9 @@ ends_from WriteFault xs rest extra written mid new f e = e
 ends_from NoMemory xs rest extra written mid new f e = e
 
 -- the same answers of the clock, told otherwise
-abbrev pub serves_from : {S : Type 0} (turn : S → Event → Reply → S → Type 0) (closed : Closed) (limit : ℕ) (held : List ℕ) (mid new : Told) (s t : S) (f : ℕ → Option ℤ) → ((k : ℕ) → mid.giving.answers k ≡ f k) → Serves turn closed limit held mid new s t
-    → Serves turn closed limit held (with_answers mid f) new s t
-serves_from turn closed limit held mid new s t f same serves =
+abbrev pub serves_from : {S : Type 0} (turn : S → Event → Reply → S → Type 0) (site : Site) (closed : Closed) (limit : ℕ) (held : List ℕ) (mid new : Told) (s t : S) (f : ℕ → Option ℤ) → ((k : ℕ) → mid.giving.answers k ≡ f k) → Serves turn site closed limit held mid new s t
+    → Serves turn site closed limit held (with_answers mid f) new s t
+serves_from turn site closed limit held mid new s t f same serves =
     let ts = turns_of serves.exchanges in
     record {
       exchanges = serves.exchanges;
@@ -52,9 +53,9 @@ serves_from turn closed limit held mid new s t f same serves =
     }
 
 -- the same connection, its turns seen otherwise
-pub serves_map : {S R : Type 0} (turn : S → Event → Reply → S → Type 0) (turn' : R → Event → Reply → R → Type 0) (f : S → R) → ((s : S) (e : Event) (reply : Reply) (t : S) → turn s e reply t → turn' (f s) e reply (f t))
-    → (closed : Closed) (limit : ℕ) (held : List ℕ) (old new : Told) (s t : S) → Serves turn closed limit held old new s t → Serves turn' closed limit held old new (f s) (f t)
-serves_map turn turn' f each closed limit held old new s t serves = record {
+pub serves_map : {S R : Type 0} (turn : S → Event → Reply → S → Type 0) (turn' : R → Event → Reply → R → Type 0) (site : Site) (f : S → R) → ((s : S) (e : Event) (reply : Reply) (t : S) → turn s e reply t → turn' (f s) e reply (f t))
+    → (closed : Closed) (limit : ℕ) (held : List ℕ) (old new : Told) (s t : S) → Serves turn site closed limit held old new s t → Serves turn' site closed limit held old new (f s) (f t)
+serves_map turn turn' site f each closed limit held old new s t serves = record {
   exchanges = serves.exchanges;
   read = serves.read;
   rest = serves.rest;
@@ -74,9 +75,9 @@ serves_map turn turn' f each closed limit held old new s t serves = record {
 }
 
 -- a connection without a seed
-pub talked_unseeded : (closed : Closed) (requests : ℕ) (old new : Told) (p q : Point) → Serves Deals closed requests [] old new p q → Talked closed requests None old new p q
-talked_unseeded closed requests old new p q serves =
-    let served = serves_from Deals closed requests [] old new p q (from_number 0 old.giving.answers) (λ k. ap old.giving.answers (sym (add-zero k))) serves in
+pub talked_unseeded : (site : Site) (closed : Closed) (requests : ℕ) (old new : Told) (p q : Point) → Serves Deals site closed requests [] old new p q → Talked site closed requests None old new p q
+talked_unseeded site closed requests old new p q serves =
+    let served = serves_from Deals site closed requests [] old new p q (from_number 0 old.giving.answers) (λ k. ap old.giving.answers (sym (add-zero k))) serves in
     record {
       seeding = [];
       seeding_is = refl;
@@ -87,12 +88,12 @@ talked_unseeded closed requests old new p q serves =
     }
 
 -- a seed, and then a connection
-pub talked_seeded : (closed : Closed) (requests : ℕ) (text : List ℕ) (old mid new : Told) (p r q : Point) → mid ≡ with_answers old mid.giving.answers → IsSeedTurn text old.giving.answers mid.giving.answers p r → Serves Deals closed requests [] mid new r q
-    → Talked closed requests (Some text) old new p q
-talked_seeded closed requests text old mid new p r q same seed serves =
-    let from = serves_from Deals closed requests [] mid new r q (from_number 1 old.giving.answers) seed.rest serves in
-    let served : Serves Deals closed requests [] (after_answers 1 old) new r q =
-    subst (λ (t : Told). Serves Deals closed requests [] (with_answers t (from_number 1 old.giving.answers)) new r q) same from in
+pub talked_seeded : (site : Site) (closed : Closed) (requests : ℕ) (text : List ℕ) (old mid new : Told) (p r q : Point) → mid ≡ with_answers old mid.giving.answers → IsSeedTurn text old.giving.answers mid.giving.answers p r → Serves Deals site closed requests [] mid new r q
+    → Talked site closed requests (Some text) old new p q
+talked_seeded site closed requests text old mid new p r q same seed serves =
+    let from = serves_from Deals site closed requests [] mid new r q (from_number 1 old.giving.answers) seed.rest serves in
+    let served : Serves Deals site closed requests [] (after_answers 1 old) new r q =
+    subst (λ (t : Told). Serves Deals site closed requests [] (with_answers t (from_number 1 old.giving.answers)) new r q) same from in
     record {
       seeding = seed.turned ∷ [];
       seeding_is = (seed.turned, refl, seed.ask_is, seed.words_are);

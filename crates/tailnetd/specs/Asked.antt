@@ -1,12 +1,13 @@
 -- One event, and the answer to its reply.
 use Rattle.std.specs.Prelude.{◌≡◌, ◌≤◌, ℕ, Bool, true, false, Option, None, List, ◌∷◌, [], Result, Ok, Err}
 use Rattle.io_edge.specs.Edge.{Rose, and_held}
-use Rattle.tailnet_desk.specs.Asks.{needs_words}
+use Rattle.desk_state.specs.Asks.{needs_words}
 use Rattle.tailnet_desk.specs.Chains.{Turned, Chain}
-use Rattle.tailnet_desk.specs.declared.ask.Ask.{Ask}
+use Rattle.desk_state.specs.declared.ask.Ask.{Ask}
 use Rattle.tailnet_desk.specs.declared.entry.Event.{Event}
-use Rattle.tailnet_desk.specs.declared.reply.Reply.{Reply}
+use Rattle.desk_state.specs.declared.reply.Reply.{Reply}
 use Rattle.desk_front.specs.Replies.{reply_bytes}
+use Rattle.desk_front.specs.declared.site.Site.{Site}
 use Rattle.tailnetd.specs.Exchanges.{IsOutcome}
 use Rattle.tailnetd.specs.Outside.{Giving, Took, ask_of, words_of}
 use Rattle.tailnetd.specs.Pieces.{IsPrefix, Sent, IsSent}
@@ -14,13 +15,13 @@ use Rattle.tailnetd.specs.declared.closed.Closed.{Closed}
 use Rattle.tailnetd.specs.declared.closed.Closed.TheVariants.{End, Early, WriteFault, NoMemory}
 
 -- the ask was one turn, and the answer to its reply was written
-pub record IsAsked {T S : Type 0} (turn : S → Event → Reply → S → Type 0) (outcome : Result T Closed) (ask : Ask) (close : Bool) (old new : Giving) (s t : S) : Type 0 where
+pub record IsAsked {T S : Type 0} (turn : S → Event → Reply → S → Type 0) (site : Site) (outcome : Result T Closed) (ask : Ask) (close : Bool) (old new : Giving) (s t : S) : Type 0 where
   pub turned : Turned
   pub ask_is : ask_of turned.event ≡ ask
   pub words_are : needs_words ask ≡ false → words_of turned.event ≡ None
   pub leads : turn s turned.event turned.reply t
   pub took : Took old new (turned ∷ [])
-  pub sent : Sent outcome old.held new.held old.write_faults new.write_faults (reply_bytes turned.reply close)
+  pub sent : Sent outcome old.held new.held old.write_faults new.write_faults (reply_bytes site ask turned.reply close)
 
 -- the connection ends exactly where it is to close
 abbrev pub IsClosing : {T : Type 0} → Bool → Result T Closed → Type 0

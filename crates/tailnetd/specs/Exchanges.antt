@@ -5,14 +5,16 @@ use Rattle.std.specs.Option.{option_or}
 use Rattle.io_edge.specs.Edge.{Rose, and_held}
 use Rattle.http_front.specs.AnswerBytes.{answer}
 use Rattle.http_front.specs.declared.request.Request.{Request}
-use Rattle.tailnet_desk.specs.Asks.{needs_words}
+use Rattle.desk_state.specs.Asks.{needs_words}
 use Rattle.tailnet_desk.specs.Chains.{Turned, Chain}
 use Rattle.tailnet_desk.specs.declared.entry.Event.{Event}
-use Rattle.tailnet_desk.specs.declared.reply.Reply.{Reply}
-use Rattle.desk_front.specs.Replies.{error_body, reply_bytes}
+use Rattle.desk_state.specs.declared.reply.Reply.{Reply}
+use Rattle.desk_front.specs.Faults.{error_body}
+use Rattle.desk_front.specs.Replies.{reply_bytes}
 use Rattle.desk_front.specs.Wanted.{wanted_of}
 use Rattle.desk_front.specs.declared.want.Wanted.{Wanted}
 use Rattle.desk_front.specs.declared.want.Wanted.TheVariants as wants
+use Rattle.desk_front.specs.declared.site.Site.{Site}
 use Rattle.tailnetd.specs.Outside.{Giving, Took, ask_of, words_of}
 use Rattle.tailnetd.specs.Pieces.{IsPrefix}
 use Rattle.tailnetd.specs.declared.closed.Closed.{Closed}
@@ -34,24 +36,24 @@ IsUnanswered close turns bytes ended =
     (turns ≡ []) × (bytes ≡ answer 503 (codes "{\"error\":\"NoMemory\"}") close) × (ended ≡ ended_by close)
 
 -- A fixed answer has no turn; a 400 ends the connection. What is asked is one turn, and its reply is answered.
-abbrev pub IsAnswered : Bool → Wanted → List Turned → List ℕ → Option Closed → Type 0
-IsAnswered close (wants.Answer status body) turns bytes ended =
+abbrev pub IsAnswered : Site → Bool → Wanted → List Turned → List ℕ → Option Closed → Type 0
+IsAnswered site close (wants.Answer status body) turns bytes ended =
     (turns ≡ []) × (bytes ≡ answer status body (close || status == 400))
     × (ended ≡ (if status == 400 then Some Early else ended_by close))
-IsAnswered close (wants.Ask ask) turns bytes ended =
+IsAnswered site close (wants.Ask ask) turns bytes ended =
     (t : Turned) × (turns ≡ t ∷ []) × (ask_of t.event ≡ ask) × (needs_words ask ≡ false → words_of t.event ≡ None)
-    × (bytes ≡ reply_bytes t.reply close) × (ended ≡ ended_by close)
+    × (bytes ≡ reply_bytes site ask t.reply close) × (ended ≡ ended_by close)
 
 -- The turns and the bytes are those of the request, which is the last that is served or not.
-abbrev pub IsExchange : Bool → Exchange → Type 0
-IsExchange last x =
+abbrev pub IsExchange : Site → Bool → Exchange → Type 0
+IsExchange site last x =
     IsUnanswered (x.request.close || last) x.turns x.bytes x.ended
-    ⊎ IsAnswered (x.request.close || last) (wanted_of x.request) x.turns x.bytes x.ended
+    ⊎ IsAnswered site (x.request.close || last) (wanted_of site x.request) x.turns x.bytes x.ended
 
 -- So many requests are served at most; only the last of them may have ended the connection.
-abbrev pub AreExchanges : ℕ → List Exchange → Type 0
-AreExchanges limit [] = Unit {0}
-AreExchanges limit (x ∷ xs) = (0 < limit) × IsExchange (limit == 1) x × (xs ≢ [] → x.ended ≡ None) × AreExchanges (limit - 1) xs
+abbrev pub AreExchanges : Site → ℕ → List Exchange → Type 0
+AreExchanges site limit [] = Unit {0}
+AreExchanges site limit (x ∷ xs) = (0 < limit) × IsExchange site (limit == 1) x × (xs ≢ [] → x.ended ≡ None) × AreExchanges site (limit - 1) xs
 
 abbrev pub requests_of : List Exchange → List Request
 requests_of xs = map (λ x. x.request) xs
@@ -77,10 +79,10 @@ IsOutcome (Err WriteFault) ended written bytes before now = Rose before now
 IsOutcome (Err NoMemory) ended written bytes before now = Unit {0}
 
 -- One request was served.
-pub record Answered {T S : Type 0} (turn : S → Event → Reply → S → Type 0) (outcome : Result T Closed) (request : Request) (last : Bool) (old new : Giving) (s t : S) : Type 0 where
+pub record Answered {T S : Type 0} (turn : S → Event → Reply → S → Type 0) (site : Site) (outcome : Result T Closed) (request : Request) (last : Bool) (old new : Giving) (s t : S) : Type 0 where
   pub exchange : Exchange
   pub request_is : exchange.request ≡ request
-  pub is : IsExchange last exchange
+  pub is : IsExchange site last exchange
   pub chain : Chain turn s exchange.turns t
   pub took : Took old new exchange.turns
   pub written : List ℕ

@@ -4,10 +4,10 @@ use Rattle.std.specs.Option.{option_map}
 use Rattle.moments.specs.Moments.{clamped}
 use Rattle.io_edge.specs.Edge.{IsWhereTold, Rose, RoseBy}
 use Rattle.io_edge.specs.Stream as stream
-use Rattle.tailnet_desk.specs.Asks.{needs_words}
+use Rattle.desk_state.specs.Asks.{needs_words}
 use Rattle.tailnet_desk.specs.Chains.{Turned}
 use Rattle.tailnet_desk.specs.Step.{moment_of}
-use Rattle.tailnet_desk.specs.declared.ask.Ask.{Ask}
+use Rattle.desk_state.specs.declared.ask.Ask.{Ask}
 use Rattle.tailnet_desk.specs.declared.entry.Event.{Event}
 use Rattle.tailnet_desk.specs.declared.entry.Event.TheVariants as event
 

@@ -7,9 +7,10 @@ use Rattle.net_rows.specs.declared.rows.Rows.{Rows}
 use Rattle.net_rows.specs.declared.settings.SettingsFields.{SettingsFields}
 use Rattle.tailnet_desk.specs.Chains.{Turned, Point, Deals, IsHistory}
 use Rattle.tailnet_desk.specs.Opening.{unserved}
-use Rattle.tailnet_desk.specs.State.{opening}
+use Rattle.desk_state.specs.State.{opening}
 use Rattle.tailnet_desk.specs.declared.desk.OpenFault.{OpenFault}
 use Rattle.tailnet_desk.specs.declared.desk.OpenFault.TheVariants as fault
+use Rattle.desk_front.specs.Wanted.{site_of}
 use Rattle.tailnetd.specs.Exchanges.{turns_of}
 use Rattle.tailnetd.specs.Outside.{MomentsTold, from_number}
 use Rattle.tailnetd.specs.Talk.{IsSeeding, after_answers}
@@ -48,7 +49,7 @@ pub record Conversation (closed : Closed) (settings : SettingsFields) (seed : Op
   pub seeding_is : IsSeeding seed seeding
   pub seeding_moments : MomentsTold (from_number 1 old.told.giving.answers) seeding
   pub seeded : Point
-  pub serves : Serves Deals closed settings.requests [] (after_answers (1 + length seeding) old.told) new.told seeded final
+  pub serves : Serves Deals (site_of settings) closed settings.requests [] (after_answers (1 + length seeding) old.told) new.told seeded final
   -- a legal history from the opening state: the seed, and the turns of the served requests
   pub history : IsHistory (record { state = opening settings rows moment; count = count }) (seeding ++ turns_of serves.exchanges) final
   pub final_rows : IsWhereTold final.state.rows new.rows

@@ -4,7 +4,8 @@ use Rattle.io_edge.specs.Edge.{Rose, and_then_left, and_held, IsWhereTold}
 use Rattle.http_front.specs.Requests.{IsWhole, Leads, IsTail, IsUnfinished, cut, bad}
 use Rattle.tailnet_desk.specs.Chains.{Turned, Chain}
 use Rattle.tailnet_desk.specs.declared.entry.Event.{Event}
-use Rattle.tailnet_desk.specs.declared.reply.Reply.{Reply}
+use Rattle.desk_state.specs.declared.reply.Reply.{Reply}
+use Rattle.desk_front.specs.declared.site.Site.{Site}
 use Rattle.tailnetd.specs.Outside.{Giving, Took}
 use Rattle.tailnetd.specs.Pieces.{IsPrefix}
 use Rattle.tailnetd.specs.Exchanges.{Exchange, IsExchange, AreExchanges, requests_of, turns_of, answers_of, end_of, bad_answer}
@@ -44,7 +45,7 @@ Ends WriteFault xs rest extra written old new = Rose old.giving.write_faults new
 Ends NoMemory xs rest extra written old new = Unit {0}
 
 -- A connection over turns, with what was held back of the bytes before it.
-pub record Serves {S : Type 0} (turn : S → Event → Reply → S → Type 0) (closed : Closed) (limit : ℕ) (held : List ℕ) (old new : Told) (s t : S) : Type 0 where
+pub record Serves {S : Type 0} (turn : S → Event → Reply → S → Type 0) (site : Site) (closed : Closed) (limit : ℕ) (held : List ℕ) (old new : Told) (s t : S) : Type 0 where
   pub exchanges : List Exchange
   pub read : List ℕ
   pub rest : List ℕ
@@ -52,7 +53,7 @@ pub record Serves {S : Type 0} (turn : S → Event → Reply → S → Type 0) (
   pub written : List ℕ
   pub from_source : old.left ≡ and_then_left read new.left
   pub bytes_read : Leads (held ++ read) (requests_of exchanges) rest
-  pub each : AreExchanges limit exchanges
+  pub each : AreExchanges site limit exchanges
   pub chain : Chain turn s (turns_of exchanges) t
   pub took : Took old.giving new.giving (turns_of exchanges)
   pub extra_is : IsExtra rest extra
@@ -63,13 +64,13 @@ pub record Serves {S : Type 0} (turn : S → Event → Reply → S → Type 0) (
   pub ending : Ends closed exchanges rest extra written old new
 
 -- One whole exchange, after which the connection goes on; it wasn't the last that may be served.
-pub record Goes {S : Type 0} (turn : S → Event → Reply → S → Type 0) (last : Bool) (held new_held : List ℕ) (old new : Told) (s t : S) : Type 0 where
+pub record Goes {S : Type 0} (turn : S → Event → Reply → S → Type 0) (site : Site) (last : Bool) (held new_held : List ℕ) (old new : Told) (s t : S) : Type 0 where
   pub more : last ≡ false
   pub exchange : Exchange
   pub read : List ℕ
   pub from_source : old.left ≡ and_then_left read new.left
   pub bytes_read : IsWhole (held ++ read) exchange.request new_held
-  pub is : IsExchange last exchange
+  pub is : IsExchange site last exchange
   pub open_still : exchange.ended ≡ None
   pub chain : Chain turn s exchange.turns t
   pub took : Took old.giving new.giving exchange.turns

@@ -4,10 +4,11 @@ use Rattle.std.specs.Option.{option_map}
 use Rattle.moments.specs.Moments.{clamped}
 use Rattle.io_edge.specs.Edge.{IsWhereTold}
 use Rattle.tailnet_desk.specs.Chains.{Turned, Chain, Point, Deals}
-use Rattle.tailnet_desk.specs.State.{State}
+use Rattle.desk_state.specs.State.{State}
 use Rattle.tailnet_desk.specs.Seated.{Seated}
 use Rattle.tailnet_desk.specs.Step.{moment_of}
-use Rattle.tailnet_desk.specs.declared.ask.Ask.TheVariants as ask
+use Rattle.desk_state.specs.declared.ask.Ask.TheVariants as ask
+use Rattle.desk_front.specs.declared.site.Site.{Site}
 use Rattle.tailnetd.specs.Exchanges.{turns_of}
 use Rattle.tailnetd.specs.Outside.{Giving, MomentsTold, from_number, ask_of, words_of}
 use Rattle.tailnetd.specs.Serve.{Serves, Told}
@@ -46,10 +47,10 @@ pub record IsSeedTurn (text : List ℕ) (answers after : ℕ → Option ℤ) (p 
   pub rest : (k : ℕ) → after k ≡ answers (k + 1)
 
 -- The seed was handed in, and then a connection was served.
-pub record Talked (closed : Closed) (requests : ℕ) (seed : Option (List ℕ)) (old new : Told) (p q : Point) : Type 0 where
+pub record Talked (site : Site) (closed : Closed) (requests : ℕ) (seed : Option (List ℕ)) (old new : Told) (p q : Point) : Type 0 where
   pub seeding : List Turned
   pub seeding_is : IsSeeding seed seeding
   pub seeding_moments : MomentsTold old.giving.answers seeding
   pub seeded : Point
-  pub serves : Serves Deals closed requests [] (after_answers (length seeding) old) new seeded q
+  pub serves : Serves Deals site closed requests [] (after_answers (length seeding) old) new seeded q
   pub chain : Chain Deals p (seeding ++ turns_of serves.exchanges) q

@@ -2,7 +2,7 @@
 ghost use Rattle.std.specs.Prelude.{◌≡◌, Option, Some, Bool, true, false, codes, ◌||◌, ◌==◌, IfErr, OnOk, Result, Ok, Err, IsErr};
 ghost use Rattle.http.specs.StatusCode.{IsStatusCode};
 ghost use Rattle.http_front.specs.AnswerBytes.{answer};
-ghost use Rattle.tailnet_desk.specs.Asks.{needs_words as needs};
+ghost use Rattle.desk_state.specs.Asks.{IsShort, needs_words as needs};
 ghost use Rattle.tailnetd.specs.Asked.{Follows, IsAsked};
 ghost use Rattle.tailnetd.specs.Exchanges.{Answered, ended_by};
 ghost use Rattle.tailnetd.specs.declared.closed.Closed.TheVariants.{Early};
@@ -11,13 +11,14 @@ ghost use Rattle.tailnetd.specs.Pieces.{Sent};
 
 use crate::closed::Closed;
 use crate::writing::{send, send_reply};
-use desk_front::{Wanted, wanted};
+use desk_front::{Front, Wanted};
+use desk_state::{Ask, needs_words};
 use http_front::{Request, no_memory_answer, plain_answer};
 use io_edge::{Clock, Entropy, Sink};
 use moments::Moment;
 use std::alloc::Global;
 use tail_base::NoMemory;
-use tailnet_desk::{Ask, Turns, needs_words};
+use tailnet_desk::Turns;
 
 /// Draws random words, where the ask needs them. A draw that fails gives none.
 fn draw<N: Entropy>(entropy: &mut N, ask: &Ask) -> Option<[u64; 4]>
@@ -56,6 +57,7 @@ fn finish_early(sent: Result<(), Closed>) -> Result<(), Closed>
 /// One event of the desk and the answer to its reply.
 fn answer_ask<T: Turns, O: Sink, C: Clock, N: Entropy>(
     alloc: Global,
+    front: &Front,
     turns: &mut T,
     output: &mut O,
     clock: &mut C,
@@ -63,13 +65,14 @@ fn answer_ask<T: Turns, O: Sink, C: Clock, N: Entropy>(
     ask: &Ask,
     close: bool,
 ) -> Result<(), Closed>
+    requires short { IsShort ask.now }
     ensures asked { let at = giving O.holds O.write_faults C.answer N.word N.faults in
-        IsAsked T.turn result ask.now close (at output.old clock.old entropy.old) (at output.new clock.new entropy.new) turns.old turns.new }
+        IsAsked T.turn front.now result ask.now close (at output.old clock.old entropy.old) (at output.new clock.new entropy.new) turns.old turns.new }
 {
     let words = draw(entropy, ask);
     let moment = Moment::clamp(clock.seconds());
     let reply = turns.ask(alloc, ask, moment, words);
-    send_reply(alloc, output, &reply, close)
+    send_reply(alloc, front, output, ask, &reply, close)
 }
 
 /// Writes a fixed answer. Where there is no memory for it the connection ends.
@@ -100,6 +103,7 @@ fn closes(asked: bool, last: bool) -> bool
 /// Answers one request, which is the last that is served or not.
 pub(crate) fn answer_request<T: Turns, O: Sink, C: Clock, N: Entropy>(
     alloc: Global,
+    front: &Front,
     turns: &mut T,
     output: &mut O,
     clock: &mut C,
@@ -108,11 +112,11 @@ pub(crate) fn answer_request<T: Turns, O: Sink, C: Clock, N: Entropy>(
     last: bool,
 ) -> Result<(), Closed>
     ensures answered { let at = giving O.holds O.write_faults C.answer N.word N.faults in
-        Answered T.turn result request.now last (at output.old clock.old entropy.old) (at output.new clock.new entropy.new) turns.old turns.new }
+        Answered T.turn front.now result request.now last (at output.old clock.old entropy.old) (at output.new clock.new entropy.new) turns.old turns.new }
     ensures goes_on { OnOk result (last ≡ false) }
 {
     let close = closes(request.close, last);
-    match wanted(alloc, request) {
+    match front.wanted(alloc, request) {
         Err(NoMemory) => finish(send(output, no_memory_answer(close)), close),
         Ok(Wanted::Answer { status: 400, body }) => {
             finish_early(answer_fixed(alloc, output, 400, body.as_slice(), true))
@@ -124,7 +128,7 @@ pub(crate) fn answer_request<T: Turns, O: Sink, C: Clock, N: Entropy>(
             )
         }
         Ok(Wanted::Ask(ask)) => finish(
-            answer_ask(alloc, turns, output, clock, entropy, &ask, close),
+            answer_ask(alloc, front, turns, output, clock, entropy, &ask, close),
             close,
         ),
     }

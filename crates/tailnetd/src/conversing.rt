@@ -7,12 +7,14 @@ ghost use Rattle.tailnetd.specs.Talk.{IsSeedTurn, Talked, point_of};
 
 use crate::closed::Closed;
 use crate::serving::serve;
+use desk_front::Front;
+use desk_state::Ask;
 use io_edge::{Clock, Entropy, Sink, Source};
 use moments::Moment;
 use row_keeper::Keeper;
 use std::alloc::Global;
 use tail_base::Text;
-use tailnet_desk::{Ask, Desk};
+use tailnet_desk::Desk;
 
 /// Hands the seed to the desk. A refused seed is passed over.
 fn seed_desk<K: Keeper, C: Clock>(alloc: Global, desk: &mut Desk<K>, clock: &mut C, text: Text)
@@ -26,6 +28,7 @@ fn seed_desk<K: Keeper, C: Clock>(alloc: Global, desk: &mut Desk<K>, clock: &mut
 /// Serves a connection over the desk.
 fn serve_desk<K: Keeper, I: Source, O: Sink, C: Clock, N: Entropy>(
     alloc: Global,
+    front: &Front,
     requests: u32,
     desk: &mut Desk<K>,
     input: &mut I,
@@ -35,16 +38,17 @@ fn serve_desk<K: Keeper, I: Source, O: Sink, C: Clock, N: Entropy>(
 ) -> Closed
     requires some { 0 < requests }
     ensures serves { let at = giving O.holds O.write_faults C.answer N.word N.faults in
-        Serves Deals result requests []
+        Serves Deals front.now result requests []
         (told I.left I.read_faults input.old (at output.old clock.old entropy.old)) (told I.left I.read_faults input.new (at output.new clock.new entropy.new))
         (point_of K.faults desk.old) (point_of K.faults desk.new) }
 {
-    serve(alloc, requests, desk, input, output, clock, entropy)
+    serve(alloc, front, requests, desk, input, output, clock, entropy)
 }
 
 /// Hands the seed, if there is one, to the desk, and serves a connection over it.
 pub(crate) fn talk<K: Keeper, I: Source, O: Sink, C: Clock, N: Entropy>(
     alloc: Global,
+    front: &Front,
     requests: u32,
     seed: Option<Text>,
     desk: &mut Desk<K>,
@@ -55,15 +59,15 @@ pub(crate) fn talk<K: Keeper, I: Source, O: Sink, C: Clock, N: Entropy>(
 ) -> Closed
     requires some { 0 < requests }
     ensures talked { let at = giving O.holds O.write_faults C.answer N.word N.faults in
-        Talked result requests seed
+        Talked front.now result requests seed
         (told I.left I.read_faults input.old (at output.old clock.old entropy.old)) (told I.left I.read_faults input.new (at output.new clock.new entropy.new))
         (point_of K.faults desk.old) (point_of K.faults desk.new) }
 {
     match seed {
-        None => serve_desk(alloc, requests, desk, input, output, clock, entropy),
+        None => serve_desk(alloc, front, requests, desk, input, output, clock, entropy),
         Some(text) => {
             seed_desk(alloc, desk, clock, text);
-            serve_desk(alloc, requests, desk, input, output, clock, entropy)
+            serve_desk(alloc, front, requests, desk, input, output, clock, entropy)
         }
     }
 }

@@ -17,11 +17,14 @@ mod tests;
 mod top;
 mod writing;
 
+use crate::ended::Ended;
+use crate::noting::note;
 use crate::status::Status;
 use crate::top::tailnetd;
 use io_edge::{HostClock, HostEntropy, HostFiles, NoDoors, NoLink, NoPause, ReadSource, WriteSink};
 use net_rows::Tables;
 use row_keeper::MemoryOpener;
+use std::io::ErrorKind;
 use std::process::ExitCode;
 use std::{env, io};
 use tail_base::Items;
@@ -38,8 +41,14 @@ fn words_of(rt: &HostRuntime) -> io::Result<Vec<String>> {
 /// The program over the process's own streams, files, clock and random source, and tables in memory.
 fn main(rt: HostRuntime) -> ExitCode {
     let alloc = rt.alloc();
-    let Ok(words) = words_of(&rt) else {
-        return ExitCode::from(Status::Usage as u8);
+    let words = match words_of(&rt) {
+        Ok(words) => words,
+        Err(error) if error.kind() == ErrorKind::OutOfMemory => {
+            note(alloc, &mut WriteSink::new(rt.stderr()), &Ended::NoMemory);
+            return ExitCode::from(Status::NoMemory as u8);
+        }
+        // A word that isn't UTF-8 is no word of a command, and no words are none either.
+        Err(_) => Vec::new(alloc),
     };
     let mut opener = MemoryOpener::new(
         alloc,

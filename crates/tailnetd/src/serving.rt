@@ -8,6 +8,7 @@ ghost use Rattle.tailnetd.specs.Serve.{Goes, Serves, told};
 use crate::answering::answer_request;
 use crate::closed::Closed;
 use crate::writing::send_refusal;
+use desk_front::Front;
 use http_front::{Buffer, Taken, take_request};
 use io_edge::{Clock, Entropy, Sink, Source};
 use std::alloc::Global;
@@ -26,6 +27,7 @@ fn refuse<O: Sink>(alloc: Global, output: &mut O, status: u16) -> Closed
 /// Serves one request; after an answer that leaves the connection open it says `Ok`.
 fn serve_one<T: Turns, I: Source, O: Sink, C: Clock, N: Entropy>(
     alloc: Global,
+    front: &Front,
     turns: &mut T,
     input: &mut I,
     output: &mut O,
@@ -35,17 +37,17 @@ fn serve_one<T: Turns, I: Source, O: Sink, C: Clock, N: Entropy>(
     last: bool,
 ) -> Result<(), Closed>
     ensures goes { let at = giving O.holds O.write_faults C.answer N.word N.faults in
-        OnOk result (Goes T.turn last buffer.old buffer.new
+        OnOk result (Goes T.turn front.now last buffer.old buffer.new
         (told I.left I.read_faults input.old (at output.old clock.old entropy.old)) (told I.left I.read_faults input.new (at output.new clock.new entropy.new))
         turns.old turns.new) }
     ensures ends { let at = giving O.holds O.write_faults C.answer N.word N.faults in
-        IfErr result (λ closed. (limit : ℕ) → 0 < limit → last ≡ (limit == 1) → Serves T.turn closed limit buffer.old
+        IfErr result (λ closed. (limit : ℕ) → 0 < limit → last ≡ (limit == 1) → Serves T.turn front.now closed limit buffer.old
         (told I.left I.read_faults input.old (at output.old clock.old entropy.old)) (told I.left I.read_faults input.new (at output.new clock.new entropy.new))
         turns.old turns.new) }
 {
     match take_request(alloc, input, buffer) {
         Taken::Request(request) => {
-            answer_request(alloc, turns, output, clock, entropy, &request, last)
+            answer_request(alloc, front, turns, output, clock, entropy, &request, last)
         }
         Taken::End => Err(Closed::End),
         Taken::Cut => Err(Closed::Early),
@@ -59,6 +61,7 @@ fn serve_one<T: Turns, I: Source, O: Sink, C: Clock, N: Entropy>(
 /// may be. At least one may.
 pub(crate) fn serve<T: Turns, I: Source, O: Sink, C: Clock, N: Entropy>(
     alloc: Global,
+    front: &Front,
     requests: u32,
     turns: &mut T,
     input: &mut I,
@@ -68,7 +71,7 @@ pub(crate) fn serve<T: Turns, I: Source, O: Sink, C: Clock, N: Entropy>(
 ) -> Closed
     requires some { 0 < requests }
     ensures serves { let at = giving O.holds O.write_faults C.answer N.word N.faults in
-        Serves T.turn result requests []
+        Serves T.turn front.now result requests []
         (told I.left I.read_faults input.old (at output.old clock.old entropy.old)) (told I.left I.read_faults input.new (at output.new clock.new entropy.new))
         turns.old turns.new }
 {
@@ -79,6 +82,7 @@ pub(crate) fn serve<T: Turns, I: Source, O: Sink, C: Clock, N: Entropy>(
     loop {
         match serve_one(
             alloc,
+            front,
             turns,
             input,
             output,

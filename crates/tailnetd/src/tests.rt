@@ -2,6 +2,12 @@
 mod checks;
 mod edges;
 mod faults;
+mod limits;
+mod lives;
+mod refusals;
+mod rows;
+mod talks;
+mod words;
 
 use crate::piping::pipe_command;
 use crate::status::Status;

@@ -1,17 +1,17 @@
 //! Bytes written whole.
 ghost use Rattle.std.specs.Prelude.{◌≡◌, IfOk, is_err};
-ghost use Rattle.tailnet_desk.specs.declared.reply.Reply.{Reply};
+ghost use Rattle.desk_state.specs.declared.reply.Reply.{Reply};
 ghost use Rattle.desk_front.specs.Replies.{reply_bytes};
 ghost use Rattle.tailnetd.specs.Exchanges.{bad_answer};
 ghost use Rattle.tailnetd.specs.Pieces.{Sent, Wrote};
 
 use crate::closed::Closed;
-use desk_front::reply_answer;
+use desk_front::Front;
+use desk_state::{Ask, Refusal, Reply};
 use http_front::{no_memory_answer, plain_answer};
 use io_edge::{Failed, Sink};
 use std::alloc::Global;
 use tail_base::NoMemory;
-use tailnet_desk::{Refusal, Reply};
 
 /// Writes the bytes, or a front of them where a write failed.
 pub(crate) fn write_all<O: Sink>(output: &mut O, bytes: &[u8]) -> Result<(), Failed>
@@ -39,16 +39,18 @@ pub(crate) fn send<O: Sink>(output: &mut O, bytes: &[u8]) -> Result<(), Closed>
 #[tactic(auto, unfolding(desk_front::specs::Replies::reply_bytes))]
 pub(crate) fn send_reply<O: Sink>(
     alloc: Global,
+    front: &Front,
     output: &mut O,
+    ask: &Ask,
     reply: &Reply,
     close: bool,
 ) -> Result<(), Closed>
-    ensures sent { Sent result (O.holds output.old) (O.holds output.new) (O.write_faults output.old) (O.write_faults output.new) (reply_bytes reply.now close) }
+    ensures sent { Sent result (O.holds output.old) (O.holds output.new) (O.write_faults output.old) (O.write_faults output.new) (reply_bytes front.now ask.now reply.now close) }
 {
     if let Reply::Refused(Refusal::NoMemory) = reply {
         return send(output, no_memory_answer(close));
     }
-    match reply_answer(alloc, reply, close) {
+    match front.answer(alloc, ask, reply, close) {
         Ok(bytes) => send(output, &bytes),
         Err(NoMemory) => Err(Closed::NoMemory),
     }

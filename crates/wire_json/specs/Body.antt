@@ -4,10 +4,13 @@ use Rattle.std.specs.Str.{is_utf8}
 use Rattle.serde_json.specs.Data.{Data}
 use Rattle.serde_json.specs.Read.{read}
 use Rattle.serde_json.specs.Find.{get, as_null, as_object}
+use Rattle.wire_json.specs.Fields.{field_name}
+use Rattle.wire_json.specs.declared.field.Field.{Field}
 use Rattle.wire_json.specs.declared.fault.WireFault.{WireFault}
 use Rattle.wire_json.specs.declared.fault.WireFault.TheVariants as fault
 
 infixl 10 ◌>>=◌
+-- and then, unless there was a fault
 abbrev pub ◌>>=◌ : {A B : Type 0} → Result A WireFault → (A → Result B WireFault) → Result B WireFault
 (Ok x) >>= f = f x
 (Err e) >>= f = Err e
@@ -16,6 +19,7 @@ abbrev pub ◌>>=◌ : {A B : Type 0} → Result A WireFault → (A → Result B
 abbrev pub Fails : {Y : Type 0} → WireFault → Result Y WireFault → Type 0
 Fails fault.NoMemory read = Unit {0}
 Fails fault.NotJson read = read ≡ Err fault.NotJson
+Fails fault.Compressed read = read ≡ Err fault.Compressed
 Fails (fault.Missing f) read = read ≡ Err (fault.Missing f)
 Fails (fault.BadField f) read = read ≡ Err (fault.BadField f)
 
@@ -36,6 +40,10 @@ unless_null d = if is_some (as_null d) then None else Some d
 -- a member that is there and not null; of members with one key the last counts
 abbrev pub member_of : List ℕ → Data → Option Data
 member_of name d = option_and_then unless_null (get name d)
+
+-- a field of an object, where there is an object
+abbrev pub field_of : Field → Option Data → Option Data
+field_of f object = option_and_then (member_of (field_name f)) object
 
 -- the object that a read text is, if it is one
 unfoldable pub object_at : Option Data → Result Data WireFault

@@ -1,3 +1,9 @@
+pub mod AdminFields
 pub mod Body
+pub mod Fields
+pub mod MapRequest
+pub mod Readers
 pub mod Register
-pub mod Registered
+pub mod RoutePlaces
+pub mod Routes
+pub mod Short

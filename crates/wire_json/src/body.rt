@@ -1,78 +1,48 @@
-//! Members of a body's object.
+//! Bodies and their fields.
 ghost use Rattle.std.specs.Prelude.{◌≡◌, option_map};
 ghost use Rattle.serde_json.specs.View.{view};
-ghost use Rattle.wire_json.specs.Body.{member_of, Gives};
-ghost use Rattle.wire_json.specs.Register.{key_in_use, full_text, inner_text, absent};
+ghost use Rattle.wire_json.specs.Body.{Gives, body_value, field_of, object_at};
+ghost use Rattle.wire_json.specs.Readers.{object_of};
 
-use crate::fault::{Field, WireFault};
+use crate::fault::WireFault;
+use crate::field::Field;
 use serde_json::Value;
 use std::alloc::Global;
-use tail_base::{NodeKey, Text};
 
-/// A member that is there and not null.
-pub(crate) fn member<'a>(object: &'a Value, name: &str) -> Option<&'a Value>
-    ensures value { option_map (λ v. view v.now) result ≡ member_of name.now (view object.now) }
+/// The object that a body is: a JSON text in UTF-8 (RFC 8259) whose value is an object. Of members of one
+/// name the last counts.
+#[tactic(auto, unfolding(crate::specs::Body::object_at))]
+pub fn object_of_body(alloc: Global, body: &[u8]) -> Result<Value, WireFault>
+    ensures value { Gives (λ v. view v) result (object_at (body_value body.now)) }
 {
-    match object.get(name) {
+    match Value::from_slice(alloc, body) {
+        Ok(value) if value.is_object() => Ok(value),
+        Ok(_) => Err(WireFault::NotJson),
+        Err(error) if error.is_memory() => Err(WireFault::NoMemory),
+        Err(_) => Err(WireFault::NotJson),
+    }
+}
+
+/// The value of a field that is there and not null, in an object that may itself be absent.
+pub fn field_of<'a>(object: Option<&'a Value>, field: Field) -> Option<&'a Value>
+    ensures value { option_map (λ v. view v.now) result ≡ field_of field (option_map (λ v. view v.now) object.entry) }
+{
+    match object?.get(field.name()) {
         Some(value) if !value.is_null() => Some(value),
         _ => None,
     }
 }
 
-/// The node key that a member is.
-pub(crate) fn key_of(field: Field, value: Option<&Value>) -> Result<NodeKey, WireFault>
-    ensures value { Gives (λ k. k) result (key_in_use field (option_map (λ v. view v.now) value.entry)) }
-{
-    let Some(value) = value else {
-        return Err(WireFault::Missing(field));
-    };
-    let Some(text) = value.as_str() else {
-        return Err(WireFault::BadField(field));
-    };
-    match NodeKey::read(text.as_bytes()) {
-        Some(key) if !key.is_zero() => Ok(key),
-        _ => Err(WireFault::BadField(field)),
-    }
-}
-
-/// The text that a member is, which isn't empty.
-pub(crate) fn text_of(alloc: Global, field: Field, value: Option<&Value>) -> Result<Text, WireFault>
-    ensures value { Gives (λ t. t) result (full_text field (option_map (λ v. view v.now) value.entry)) }
-{
-    let Some(value) = value else {
-        return Err(WireFault::Missing(field));
-    };
-    match value.as_str() {
-        Some(text) if text.len() == 0 => Err(WireFault::Missing(field)),
-        Some(text) => Ok(Text::from_str(alloc, text)?),
-        None => Err(WireFault::BadField(field)),
-    }
-}
-
-/// The text of that name in the object that a member is.
-pub(crate) fn inner_text_of(
-    alloc: Global,
+/// The object that a field is, if it is there.
+pub(crate) fn object_of<'a>(
+    object: Option<&'a Value>,
     field: Field,
-    name: &str,
-    value: Option<&Value>,
-) -> Result<Text, WireFault>
-    ensures value { Gives (λ t. t) result (inner_text field name.now (option_map (λ v. view v.now) value.entry)) }
+) -> Result<Option<&'a Value>, WireFault>
+    ensures value { Gives (option_map (λ v. view v.now)) result (object_of field (option_map (λ v. view v.now) object.entry)) }
 {
-    let Some(value) = value else {
-        return Err(WireFault::Missing(field));
-    };
-    if !value.is_object() {
-        return Err(WireFault::BadField(field));
-    }
-    text_of(alloc, field, member(value, name))
-}
-
-/// Refuses a member that isn't read yet.
-pub(crate) fn unread(field: Field, value: Option<&Value>) -> Result<(), WireFault>
-    ensures value { Gives (λ _. tt) result (absent field (option_map (λ v. view v.now) value.entry)) }
-{
-    match value {
+    match field_of(object, field) {
+        Some(value) if value.is_object() => Ok(Some(value)),
         Some(_) => Err(WireFault::BadField(field)),
-        None => Ok(()),
+        None => Ok(None),
     }
 }

@@ -1,28 +1,20 @@
 //! What is wrong with a body.
 ghost use Rattle.std.specs.Prelude.{◌≡◌};
 
+use crate::field::Field;
 use std::alloc::AllocError;
 use tail_base::NoMemory;
 
-/// A member of a request's body, by its name in `tailcfg`.
-#[derive(Clone, Copy, Debug, PartialEq, Eq)]
-pub enum Field {
-    NodeKey,
-    Auth,
-    OldNodeKey,
-    Expiry,
-    Ephemeral,
-    Hostinfo,
-}
-
 /// The first fault of a body.
-#[derive(Clone, Copy, Debug, PartialEq, Eq)]
+#[derive(Clone, Copy, Debug, PartialEq, Eq, Drop)]
 pub enum WireFault {
     /// It is no JSON text, or its value is no object.
     NotJson,
-    /// A member that has to be there isn't.
+    /// A map request asks for compressed answers.
+    Compressed,
+    /// A field that has to be there isn't.
     Missing(Field),
-    /// A member has another form than its own.
+    /// A field has another form than its own, or is over its limit.
     BadField(Field),
     /// Memory was refused.
     NoMemory,

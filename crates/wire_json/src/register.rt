@@ -1,46 +1,78 @@
 //! Registrations.
+ghost use Rattle.std.specs.Prelude.{IfOk};
 ghost use Rattle.serde_json.specs.View.{view};
 ghost use Rattle.wire_json.specs.Body.{Gives};
 ghost use Rattle.wire_json.specs.Register.{register_at, register_of_body};
+ghost use Rattle.wire_json.specs.Short.{IsShortForm};
 
-use crate::body::{inner_text_of, key_of, member, unread};
-use crate::fault::{Field, WireFault};
+use crate::body::{object_of, object_of_body};
+use crate::fault::WireFault;
+use crate::field::Field;
+use crate::limits::{ASKED_TAG_LIMIT, HOST_LIMIT, ROUTE_LIMIT};
+use crate::readers::{
+    flag_of, node_key_of, short_text_of, some_node_key_of, some_time_of, text_of,
+};
+use crate::routes::sorted_routes;
+use crate::spelled::list_of;
+use moments::Moment;
+use net_addr::Prefix;
 use serde_json::Value;
 use std::alloc::Global;
-use tail_base::{NodeKey, Text};
+use tail_base::{Items, NodeKey, Tag, Text};
 
 /// What a machine sends to register (`tailcfg.RegisterRequest`), as far as it is read.
 #[derive(Drop)]
 pub struct Register {
     pub node: NodeKey,
-    /// The text of a pre-auth key.
+    /// The node key that this one takes the place of.
+    pub old: Option<NodeKey>,
+    /// The text of a pre-auth key; empty where there is none.
     pub auth: Text,
+    /// The expiry that it asks for; one that has passed logs the machine out.
+    pub expiry: Option<Moment>,
+    pub ephemeral: bool,
+    /// Its host name; empty where it has none.
+    pub host: Text,
+    /// The routes that it advertises, by family, base and length, each once.
+    pub routes: Items<Prefix>,
+    /// The tags that it asks for, as they were sent.
+    pub tags: Items<Tag>,
 }
 
 #[tactic(auto, unfolding(crate::specs::Register::register_at))]
 fn register_of(alloc: Global, body: &Value) -> Result<Register, WireFault>
     ensures value { Gives (λ r. r) result (register_at (view body.now)) }
+    ensures short { IfOk result IsShortForm }
 {
-    let node = key_of(Field::NodeKey, member(body, "NodeKey"))?;
-    let auth = inner_text_of(alloc, Field::Auth, "AuthKey", member(body, "Auth"))?;
-    unread(Field::OldNodeKey, member(body, "OldNodeKey"))?;
-    unread(Field::Expiry, member(body, "Expiry"))?;
-    unread(Field::Ephemeral, member(body, "Ephemeral"))?;
-    unread(Field::Hostinfo, member(body, "Hostinfo"))?;
-    Ok(Register { node, auth })
+    let node = node_key_of(Some(body), Field::NodeKey)?;
+    let old = some_node_key_of(Some(body), Field::OldNodeKey)?;
+    let authority = object_of(Some(body), Field::Auth)?;
+    let auth = text_of(alloc, authority, Field::AuthKey)?;
+    let expiry = some_time_of(Some(body), Field::Expiry)?;
+    let ephemeral = flag_of(Some(body), Field::Ephemeral)?;
+    let info = object_of(Some(body), Field::Hostinfo)?;
+    let host = short_text_of(alloc, info, Field::Hostname, HOST_LIMIT)?;
+    let routes: Items<Prefix> = list_of(alloc, info, Field::RoutableIps, ROUTE_LIMIT)?;
+    let tags = list_of(alloc, info, Field::RequestTags, ASKED_TAG_LIMIT)?;
+    Ok(Register {
+        node,
+        old,
+        auth,
+        expiry,
+        ephemeral,
+        host: host.unwrap_or(Text::new(alloc)),
+        routes: sorted_routes(alloc, routes.as_slice())?,
+        tags,
+    })
 }
 
-/// The registration that a body is, or its first fault in the order of the members `NodeKey`,
-/// `Auth`, and those that aren't read yet and have to be absent: `OldNodeKey`, `Expiry`,
-/// `Ephemeral`, `Hostinfo`. Members of other names aren't read.
-#[tactic(auto, unfolding(crate::specs::Body::object_at))]
+/// The registration that a body is, or its first fault: it is no JSON object, and then the fields in
+/// the order `NodeKey`, `OldNodeKey`, `Auth` with `AuthKey`, `Expiry`, `Ephemeral`, and `Hostinfo`
+/// with `Hostname`, `RoutableIPs` and `RequestTags`. Fields of other names aren't read.
 pub fn read_register(alloc: Global, body: &[u8]) -> Result<Register, WireFault>
     ensures value { Gives (λ r. r) result (register_of_body body.now) }
+    ensures short { IfOk result IsShortForm }
 {
-    match Value::from_slice(alloc, body) {
-        Ok(value) if value.is_object() => register_of(alloc, &value),
-        Ok(_) => Err(WireFault::NotJson),
-        Err(error) if error.is_memory() => Err(WireFault::NoMemory),
-        Err(_) => Err(WireFault::NotJson),
-    }
+    let value = object_of_body(alloc, body)?;
+    register_of(alloc, &value)
 }

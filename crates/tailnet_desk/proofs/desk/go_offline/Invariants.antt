@@ -1,5 +1,5 @@
 use Rattle.std.proofs.Common.{◌≡◌, ◌≤◌, drop, length}
-use Rattle.tailnet_desk.specs.State.{all_offline}
+use Rattle.desk_state.specs.State.{all_offline}
 use Rattle.tailnet_desk.proofs.desk.go_offline.Given as goal
 
 abbrev pub invariant-loop-id : goal.invariant-loop-id

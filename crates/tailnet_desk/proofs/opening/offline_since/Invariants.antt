@@ -1,6 +1,6 @@
 use Rattle.std.proofs.Common.{◌≡◌, take}
 use Rattle.std.specs.Prelude.{map}
-use Rattle.tailnet_desk.specs.State.{offline_at}
+use Rattle.desk_state.specs.State.{offline_at}
 use Rattle.tailnet_desk.proofs.opening.offline_since.Given as goal
 
 abbrev pub invariant-loop-machine : goal.invariant-loop-machine

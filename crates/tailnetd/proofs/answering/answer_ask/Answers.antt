@@ -9,6 +9,6 @@ pub returns : goal.returns
 returns g c =
     let fits : SFits w64 c.seconds.result = search rules in
     record {
-      asked = asked_once _ _ _ _ c.seconds.result c.clamp-moment.result c.draw-words.result c.ask-reply.result _ _ _ _
+      asked = asked_once _ c.args.front.now _ _ _ c.seconds.result c.clamp-moment.result c.draw-words.result c.ask-reply.result _ _ _ _
           (c.clamp-moment.ensures.value ∙ ap clamped (to_z-of_z w64 c.seconds.result fits)) c.draw-words.ensures.drew c.seconds.ensures.took c.ask-reply.ensures.turn c.send_reply.ensures.sent;
     }

@@ -1,5 +1,5 @@
 use Rattle.std.proofs.Common.{◌∙◌, ◌≡◌, ap, refl, rules, w64, sym, subst, ℤ, None}
-use Rattle.tailnet_desk.specs.declared.ask.Ask.TheVariants as ask
+use Rattle.desk_state.specs.declared.ask.Ask.TheVariants as ask
 use Rattle.tailnet_desk.specs.declared.entry.Event.TheVariants as event
 use mir.Val.{SFits}
 use Rattle.std.specs.Option.{option_map}

@@ -6,7 +6,7 @@ use Rattle.tailnetd.specs.declared.closed.Closed.TheVariants.{NoMemory}
 use Rattle.tailnetd.proofs.serving.serve.Goals as goal
 
 pub returns-in_default : goal.returns-in_default
-returns-in_default g c = record { serves = serves_none _ NoMemory _ [] [] _ _ _ refl (left_nothing _) (omega arith) tt }
+returns-in_default g c = record { serves = serves_none _ c.args.front.now NoMemory _ [] [] _ _ _ refl (left_nothing _) (omega arith) tt }
 
 pub loop-left-preserved : goal.loop-left-preserved
 loop-left-preserved g c =
@@ -15,5 +15,5 @@ loop-left-preserved g c =
     let some = c.loop-left.invariant.some in
     record {
       some = grind (arith, nat_tests);
-      rest = λ closed new t serves. c.loop-left.invariant.rest closed new t (serves_more _ closed (c.loop-left.left - 1) c.loop-left.left (c.loop-left.left == 1) _ _ _ _ new _ _ t refl some refl goes serves);
+      rest = λ closed new t serves. c.loop-left.invariant.rest closed new t (serves_more _ c.args.front.now closed (c.loop-left.left - 1) c.loop-left.left (c.loop-left.left == 1) _ _ _ _ new _ _ t refl some refl goes serves);
     }

@@ -12,7 +12,7 @@ invariant-loop-left g l =
     let first = told g.I.Source.left g.I.Source.read_faults l.fn.input (at l.fn.output l.fn.clock l.fn.entropy) in
     record {
       some : 0 < l.left;
-      rest : (closed : Closed) (new : Told) (t : _) → Serves g.T.Turns.turn closed l.left l.buffer now new l.turns t → Serves g.T.Turns.turn closed l.fn.requests [] first new l.fn.turns t;
+      rest : (closed : Closed) (new : Told) (t : _) → Serves g.T.Turns.turn l.front closed l.left l.buffer now new l.turns t → Serves g.T.Turns.turn l.front closed l.fn.requests [] first new l.fn.turns t;
     }
 
 abbrev pub decreases-loop-left : goal.decreases-loop-left

@@ -1,0 +1,5 @@
+mod KeyLaws
+mod NamedLaws
+mod NodeLaws
+mod SweepLaws
+mod UserLaws

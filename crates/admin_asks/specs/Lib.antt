@@ -1,0 +1,5 @@
+pub mod Keys
+pub mod Nodes
+pub mod Sweep
+pub mod Users
+pub mod Waiting

@@ -1,0 +1,86 @@
+-- Operators list machines, let them expire, rename, tag and remove them.
+use Rattle.std.specs.Prelude.{ℕ, ℤ, Bool, false, List, [], ◌∷◌, Option, Some, None, unwrap_or, Result, Ok, ◌==◌, not, ◌&&◌, if◌then◌else◌}
+use Rattle.std.specs.Cmp.Lexicographic.{pointwise}
+use Rattle.std.specs.List.{list_any}
+use Rattle.std.specs.Ordering.{int_eq}
+use Rattle.std.specs.Str.{bytes_eq}
+use Rattle.tail_base.specs.Labels.{label_of}
+use Rattle.net_rows.specs.Rows.{machine_with}
+use Rattle.net_rows.specs.declared.change.Change.{Change}
+use Rattle.net_rows.specs.declared.change.Row.TheVariants as row
+use Rattle.net_rows.specs.declared.change.RowKey.TheVariants as gone
+use Rattle.net_rows.specs.declared.machine.Machine.{Machine}
+use Rattle.net_rows.specs.declared.rows.Rows.{Rows}
+use Rattle.desk_state.specs.Lines.{node_line}
+use Rattle.desk_state.specs.State.{State}
+use Rattle.desk_state.specs.Steps.{◌>>=◌, or_refuse, refuse_if}
+use Rattle.desk_state.specs.Tags.{sorted_once}
+use Rattle.desk_state.specs.Users.{tags_defined}
+use Rattle.desk_state.specs.declared.decision.Decision.{Decision}
+use Rattle.desk_state.specs.declared.decision.Decision.TheVariants.{Only, Changes}
+use Rattle.desk_state.specs.declared.lines.NodeLine.{NodeLine}
+use Rattle.desk_state.specs.declared.reply.Answer.TheVariants as answer
+use Rattle.desk_state.specs.declared.reply.Refusal.{Refusal}
+use Rattle.desk_state.specs.declared.reply.Refusal.TheVariants.{UnknownMachine, BadName, NameTaken}
+
+-- the machines as an operator is shown them
+abbrev pub node_lines : State → List Machine → List NodeLine
+node_lines s [] = []
+node_lines s (m ∷ ms) = node_line s m ∷ node_lines s ms
+
+abbrev pub nodes : State → Result Decision Refusal
+nodes s = Ok (Only (answer.Nodes (node_lines s s.rows.machines)))
+
+-- the machine's row stays as it is
+abbrev pub same_node : State → Machine → Decision
+same_node s m = Only (answer.Node (node_line s m))
+
+-- the machine's row is this one from now on
+abbrev pub changed_node : State → Machine → Decision
+changed_node s m = Changes (record { puts = row.Machine m ∷ []; gone = []; next = s.rows.next }) [] (answer.Node (node_line s m))
+
+-- the expiry is this moment
+abbrev pub ends_at : Option ℤ → ℤ → Bool
+ends_at None end = false
+ends_at (Some moment) end = int_eq moment end
+
+abbrev pub expired_node : State → Machine → ℤ → Decision
+expired_node s m end = if ends_at m.expiry end then same_node s m else changed_node s (record m { expiry = Some end })
+
+-- where no moment is given, it is now
+abbrev pub expire_node : State → ℕ → Option ℤ → Result Decision Refusal
+expire_node s id expiry = do
+  machine ← or_refuse (machine_with s.rows.machines id) UnknownMachine
+  Ok (expired_node s machine (unwrap_or expiry s.now))
+
+-- a machine of another id has the name
+abbrev pub is_taken : List Machine → ℕ → List ℕ → Bool
+is_taken machines id name = list_any (λ m. bytes_eq m.name name && not (m.id == id)) machines
+
+abbrev pub renamed : State → Machine → List ℕ → Decision
+renamed s m name = if bytes_eq m.name name then same_node s m else changed_node s (record m { name = name })
+
+abbrev pub rename : State → ℕ → List ℕ → Result Decision Refusal
+rename s id name = do
+  machine ← or_refuse (machine_with s.rows.machines id) UnknownMachine
+  label ← or_refuse (label_of name) BadName
+  free ← refuse_if (is_taken s.rows.machines machine.id label) NameTaken
+  Ok (renamed s machine label)
+
+abbrev pub tagged : State → Machine → List (List ℕ) → Decision
+tagged s m tags = if pointwise bytes_eq m.tags tags then same_node s m else changed_node s (record m { tags = tags })
+
+abbrev pub set_tags : State → ℕ → List (List ℕ) → Result Decision Refusal
+set_tags s id tags = do
+  machine ← or_refuse (machine_with s.rows.machines id) UnknownMachine
+  defined ← tags_defined tags
+  Ok (tagged s machine (sorted_once tags))
+
+-- the machine's row goes
+abbrev pub node_gone : Rows → ℕ → Change
+node_gone t id = record { puts = []; gone = gone.Machine id ∷ []; next = t.next }
+
+abbrev pub drop_node : State → ℕ → Result Decision Refusal
+drop_node s id = do
+  machine ← or_refuse (machine_with s.rows.machines id) UnknownMachine
+  Ok (Changes (node_gone s.rows machine.id) [] answer.Gone)

@@ -1,0 +1,167 @@
+//! Operators make, list and end pre-auth keys.
+ghost use Rattle.std.specs.Prelude.{◌≡◌, ◌≤◌, IfOk, true, length};
+ghost use Rattle.net_rows.specs.Limits.{asked_tag_limit};
+ghost use Rattle.net_rows.specs.Room.{has_room};
+ghost use Rattle.net_rows.specs.declared.change.Kind.TheVariants as kind;
+ghost use Rattle.desk_state.specs.Rulings.{IsSoundDecision};
+ghost use Rattle.desk_state.specs.Steps.{Gives};
+ghost use Rattle.admin_asks.specs.Keys as spec;
+
+use desk_state::{
+    Answer, Decision, KeyForm, KeyLine, Refusal, Scarce, Snapshot, Stop, is_ahead, key_line,
+    row_text, tags_defined, user_named,
+};
+use net_rows::{AuthKey, Change, Counters, Kind, Row, Tables};
+use std::alloc::Global;
+use tail_base::{Duplicate, Items, NoMemory};
+
+fn new_key(
+    alloc: Global,
+    tables: &Tables,
+    form: &KeyForm,
+    user: u32,
+    words: &[u64],
+) -> Result<AuthKey, NoMemory>
+    ensures value { IfOk result (λ key. key ≡ spec.new_key tables.now.rows form.now user words.now) }
+{
+    let id = tables.next().key;
+    Ok(AuthKey {
+        id,
+        text: row_text(alloc, "tnkey-", id, words)?,
+        user,
+        reusable: form.reusable,
+        ephemeral: form.ephemeral,
+        used: false,
+        expiry: form.expiry,
+        tags: form.tags.copy(alloc)?,
+    })
+}
+
+fn key_change(alloc: Global, tables: &Tables, key: AuthKey) -> Result<Change, NoMemory>
+    requires room { has_room tables.now.rows kind.Key ≡ true }
+    ensures value { IfOk result (λ change. change ≡ spec.key_change tables.now.rows key) }
+{
+    let next = tables.next();
+    let mut puts = Items::new(alloc);
+    puts.push(Row::Key(key))?;
+    Ok(Change {
+        puts,
+        gone: Items::new(alloc),
+        next: Counters {
+            key: next.key + 1,
+            ..next
+        },
+    })
+}
+
+fn added_key(alloc: Global, tables: &Tables, key: AuthKey) -> Result<Decision, NoMemory>
+    requires room { has_room tables.now.rows kind.Key ≡ true }
+    ensures value { IfOk result (λ d. d ≡ spec.added_key tables.now.rows key) }
+{
+    let answer = Answer::Key(key_line(alloc, tables, key.copy(alloc)?)?);
+    Ok(Decision::Changes {
+        change: key_change(alloc, tables, key)?,
+        offline: Items::new(alloc),
+        answer,
+    })
+}
+
+fn adding_key(
+    alloc: Global,
+    at: &Snapshot<'_>,
+    form: &KeyForm,
+    words: Option<[u64; 4]>,
+) -> Result<Decision, Stop>
+    ensures value { Gives (λ d. d) result (spec.add_key at.now form.now words) }
+{
+    let user = user_named(alloc, at.tables, &form.login)?;
+    tags_defined(form.tags.as_slice())?;
+    if !at.tables.room(Kind::Key) {
+        return Err(Stop::Refused(Refusal::Full(Scarce::Key)));
+    }
+    let Some(words) = words else {
+        return Err(Stop::Refused(Refusal::EntropyFault));
+    };
+    let key = new_key(alloc, at.tables, form, user.id, words.as_slice())?;
+    Ok(added_key(alloc, at.tables, key)?)
+}
+
+/// A pre-auth key is made for a user as the form asks, with the next id and a text of its own: the
+/// id, and fresh random words.
+pub fn add_key(
+    alloc: Global,
+    at: &Snapshot<'_>,
+    form: &KeyForm,
+    words: Option<[u64; 4]>,
+) -> Result<Decision, Stop>
+    requires short { length form.now.tags ≤ asked_tag_limit }
+    ensures value { Gives (λ d. d) result (spec.add_key at.now form.now words) }
+    ensures sound { IsSoundDecision at.now.rows result }
+{
+    let _rules = at.tables.users();
+    adding_key(alloc, at, form, words)
+}
+
+fn key_lines(alloc: Global, tables: &Tables) -> Result<Items<KeyLine>, NoMemory>
+    ensures value { IfOk result (λ lines. lines ≡ spec.key_lines tables.now.rows.users tables.now.rows.keys) }
+{
+    let mut lines = Items::new(alloc);
+    for key in tables.keys() {
+        lines.push(key_line(alloc, tables, key.copy(alloc)?)?)?;
+    }
+    Ok(lines)
+}
+
+/// The pre-auth keys by id, each with the login of its user.
+pub fn keys(alloc: Global, at: &Snapshot<'_>) -> Result<Decision, Stop>
+    ensures value { Gives (λ d. d) result (spec.keys at.now) }
+    ensures sound { IsSoundDecision at.now.rows result }
+{
+    let lines = key_lines(alloc, at.tables)?;
+    Ok(Decision::Only(Answer::Keys(lines)))
+}
+
+fn ended_key(alloc: Global, at: &Snapshot<'_>, key: &AuthKey) -> Result<Change, NoMemory>
+    ensures value { IfOk result (λ change. change ≡ spec.ended_key at.now key.now) }
+{
+    let mut ended = key.copy(alloc)?;
+    ended.expiry = Some(at.time);
+    let mut puts = Items::new(alloc);
+    puts.push(Row::Key(ended))?;
+    Ok(Change {
+        puts,
+        gone: Items::new(alloc),
+        next: at.tables.next(),
+    })
+}
+
+fn expired_key(alloc: Global, at: &Snapshot<'_>, key: &AuthKey) -> Result<Decision, NoMemory>
+    ensures value { IfOk result (λ d. d ≡ spec.expired_key at.now key.now) }
+{
+    if !is_ahead(at.time, key.expiry) {
+        return Ok(Decision::Only(Answer::Gone));
+    }
+    Ok(Decision::Changes {
+        change: ended_key(alloc, at, key)?,
+        offline: Items::new(alloc),
+        answer: Answer::Gone,
+    })
+}
+
+fn expiring_key(alloc: Global, at: &Snapshot<'_>, id: u32) -> Result<Decision, Stop>
+    ensures value { Gives (λ d. d) result (spec.expire_key at.now id) }
+{
+    match at.tables.key(id) {
+        Some(key) => Ok(expired_key(alloc, at, key)?),
+        None => Err(Stop::Refused(Refusal::KeyUnknown)),
+    }
+}
+
+/// The life of the pre-auth key of an id ends now, unless it has ended already.
+pub fn expire_key(alloc: Global, at: &Snapshot<'_>, id: u32) -> Result<Decision, Stop>
+    ensures value { Gives (λ d. d) result (spec.expire_key at.now id) }
+    ensures sound { IsSoundDecision at.now.rows result }
+{
+    let _rules = at.tables.users();
+    expiring_key(alloc, at, id)
+}

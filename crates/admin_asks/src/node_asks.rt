@@ -1,0 +1,250 @@
+//! Operators list machines, let them expire, rename, tag and remove them.
+ghost use Rattle.std.specs.Prelude.{◌≡◌, ◌≤◌, IfOk, length};
+ghost use Rattle.std.specs.Cmp.Lexicographic.{pointwise};
+ghost use Rattle.std.specs.Str.{bytes_eq};
+ghost use Rattle.net_rows.specs.Limits.{tag_limit};
+ghost use Rattle.desk_state.specs.Rulings.{IsSoundDecision};
+ghost use Rattle.desk_state.specs.Steps.{Gives};
+ghost use Rattle.admin_asks.specs.Nodes as spec;
+
+use desk_state::{
+    Answer, Decision, NodeLine, Refusal, Snapshot, Stop, node_line, sorted_once, tags_defined,
+};
+use moments::Moment;
+use net_rows::{Change, Machine, Row, RowKey, Tables};
+use std::alloc::Global;
+use tail_base::{Duplicate, Items, Label, NoMemory, Tag, Text};
+
+fn node_lines(
+    alloc: Global,
+    at: &Snapshot<'_>,
+    machines: &[Machine],
+) -> Result<Items<NodeLine>, NoMemory>
+    ensures value { IfOk result (λ lines. lines ≡ spec.node_lines at.now machines.now) }
+{
+    let mut lines = Items::new(alloc);
+    for machine in machines {
+        lines.push(node_line(alloc, at, machine.copy(alloc)?)?)?;
+    }
+    Ok(lines)
+}
+
+/// The machines by id, whether they are live or not.
+pub fn nodes(alloc: Global, at: &Snapshot<'_>) -> Result<Decision, Stop>
+    ensures value { Gives (λ d. d) result (spec.nodes at.now) }
+    ensures sound { IsSoundDecision at.now.rows result }
+{
+    let lines = node_lines(alloc, at, at.tables.machines())?;
+    Ok(Decision::Only(Answer::Nodes(lines)))
+}
+
+/// The machine's row stays as it is.
+fn same_node(alloc: Global, at: &Snapshot<'_>, machine: &Machine) -> Result<Decision, NoMemory>
+    ensures value { IfOk result (λ d. d ≡ spec.same_node at.now machine.now) }
+{
+    let line = node_line(alloc, at, machine.copy(alloc)?)?;
+    Ok(Decision::Only(Answer::Node(line)))
+}
+
+/// The machine's row is this one from now on.
+fn changed_node(alloc: Global, at: &Snapshot<'_>, machine: Machine) -> Result<Decision, NoMemory>
+    ensures value { IfOk result (λ d. d ≡ spec.changed_node at.now machine) }
+{
+    let line = node_line(alloc, at, machine.copy(alloc)?)?;
+    let mut puts = Items::new(alloc);
+    puts.push(Row::Machine(machine))?;
+    Ok(Decision::Changes {
+        change: Change {
+            puts,
+            gone: Items::new(alloc),
+            next: at.tables.next(),
+        },
+        offline: Items::new(alloc),
+        answer: Answer::Node(line),
+    })
+}
+
+fn ends_at(expiry: Option<Moment>, end: Moment) -> bool
+    ensures value { result ≡ spec.ends_at expiry end }
+{
+    match expiry {
+        None => false,
+        Some(moment) => moment == end,
+    }
+}
+
+fn expired_node(
+    alloc: Global,
+    at: &Snapshot<'_>,
+    machine: &Machine,
+    end: Moment,
+) -> Result<Decision, NoMemory>
+    ensures value { IfOk result (λ d. d ≡ spec.expired_node at.now machine.now end) }
+{
+    if ends_at(machine.expiry, end) {
+        return same_node(alloc, at, machine);
+    }
+    let mut changed = machine.copy(alloc)?;
+    changed.expiry = Some(end);
+    changed_node(alloc, at, changed)
+}
+
+fn expiring_node(
+    alloc: Global,
+    at: &Snapshot<'_>,
+    id: u32,
+    expiry: Option<Moment>,
+) -> Result<Decision, Stop>
+    ensures value { Gives (λ d. d) result (spec.expire_node at.now id expiry) }
+{
+    let end = expiry.unwrap_or(at.time);
+    match at.tables.machine(id) {
+        Some(machine) => Ok(expired_node(alloc, at, machine, end)?),
+        None => Err(Stop::Refused(Refusal::UnknownMachine)),
+    }
+}
+
+/// The node key of the machine of an id expires at the moment that is given, or now.
+pub fn expire_node(
+    alloc: Global,
+    at: &Snapshot<'_>,
+    id: u32,
+    expiry: Option<Moment>,
+) -> Result<Decision, Stop>
+    ensures value { Gives (λ d. d) result (spec.expire_node at.now id expiry) }
+    ensures sound { IsSoundDecision at.now.rows result }
+{
+    let _rules = at.tables.users();
+    expiring_node(alloc, at, id, expiry)
+}
+
+fn is_taken(machines: &[Machine], id: u32, name: &Label) -> bool
+    ensures value { result ≡ spec.is_taken machines.now id name.now }
+{
+    machines.iter().any(|row| row.name.as_slice() == name.as_slice() && row.id != id)
+}
+
+fn renamed(
+    alloc: Global,
+    at: &Snapshot<'_>,
+    machine: &Machine,
+    name: Label,
+) -> Result<Decision, NoMemory>
+    ensures value { IfOk result (λ d. d ≡ spec.renamed at.now machine.now name) }
+{
+    if machine.name.as_slice() == name.as_slice() {
+        return same_node(alloc, at, machine);
+    }
+    let mut changed = machine.copy(alloc)?;
+    changed.name = name;
+    changed_node(alloc, at, changed)
+}
+
+fn renaming(alloc: Global, at: &Snapshot<'_>, id: u32, name: &Text) -> Result<Decision, Stop>
+    ensures value { Gives (λ d. d) result (spec.rename at.now id name.now) }
+{
+    let Some(machine) = at.tables.machine(id) else {
+        return Err(Stop::Refused(Refusal::UnknownMachine));
+    };
+    let Some(label) = Label::read(alloc, name.as_slice())? else {
+        return Err(Stop::Refused(Refusal::BadName));
+    };
+    if is_taken(at.tables.machines(), machine.id, &label) {
+        return Err(Stop::Refused(Refusal::NameTaken));
+    }
+    Ok(renamed(alloc, at, machine, label)?)
+}
+
+/// The machine of an id has this name from now on, which has to be a label that no other machine
+/// has.
+pub fn rename(alloc: Global, at: &Snapshot<'_>, id: u32, name: &Text) -> Result<Decision, Stop>
+    ensures value { Gives (λ d. d) result (spec.rename at.now id name.now) }
+    ensures sound { IsSoundDecision at.now.rows result }
+{
+    let _rules = at.tables.users();
+    renaming(alloc, at, id, name)
+}
+
+fn same_tags(held: &[Tag], tags: &[Tag]) -> bool
+    ensures value { result ≡ pointwise bytes_eq held.now tags.now }
+{
+    if held.len() != tags.len() {
+        return false;
+    }
+    for (i, tag) in held.iter().enumerate() {
+        if tag.as_slice() != tags[i].as_slice() {
+            return false;
+        }
+    }
+    true
+}
+
+fn tagged(
+    alloc: Global,
+    at: &Snapshot<'_>,
+    machine: &Machine,
+    tags: Items<Tag>,
+) -> Result<Decision, NoMemory>
+    ensures value { IfOk result (λ d. d ≡ spec.tagged at.now machine.now tags) }
+{
+    if same_tags(machine.tags.as_slice(), tags.as_slice()) {
+        return same_node(alloc, at, machine);
+    }
+    let mut changed = machine.copy(alloc)?;
+    changed.tags = tags;
+    changed_node(alloc, at, changed)
+}
+
+fn tagging(alloc: Global, at: &Snapshot<'_>, id: u32, tags: &[Tag]) -> Result<Decision, Stop>
+    ensures value { Gives (λ d. d) result (spec.set_tags at.now id tags.now) }
+{
+    let Some(machine) = at.tables.machine(id) else {
+        return Err(Stop::Refused(Refusal::UnknownMachine));
+    };
+    tags_defined(tags)?;
+    Ok(tagged(alloc, at, machine, sorted_once(alloc, tags)?)?)
+}
+
+/// The machine of an id has these tags from now on, in byte order and each once.
+pub fn set_tags(alloc: Global, at: &Snapshot<'_>, id: u32, tags: &[Tag]) -> Result<Decision, Stop>
+    requires short { length tags.now ≤ tag_limit }
+    ensures value { Gives (λ d. d) result (spec.set_tags at.now id tags.now) }
+    ensures sound { IsSoundDecision at.now.rows result }
+{
+    let _rules = at.tables.users();
+    tagging(alloc, at, id, tags)
+}
+
+fn node_gone(alloc: Global, tables: &Tables, id: u32) -> Result<Change, NoMemory>
+    ensures value { IfOk result (λ change. change ≡ spec.node_gone tables.now.rows id) }
+{
+    let mut gone = Items::new(alloc);
+    gone.push(RowKey::Machine(id))?;
+    Ok(Change {
+        puts: Items::new(alloc),
+        gone,
+        next: tables.next(),
+    })
+}
+
+fn dropping_node(alloc: Global, at: &Snapshot<'_>, id: u32) -> Result<Decision, Stop>
+    ensures value { Gives (λ d. d) result (spec.drop_node at.now id) }
+{
+    let Some(machine) = at.tables.machine(id) else {
+        return Err(Stop::Refused(Refusal::UnknownMachine));
+    };
+    Ok(Decision::Changes {
+        change: node_gone(alloc, at.tables, machine.id)?,
+        offline: Items::new(alloc),
+        answer: Answer::Gone,
+    })
+}
+
+/// The machine of an id goes.
+pub fn drop_node(alloc: Global, at: &Snapshot<'_>, id: u32) -> Result<Decision, Stop>
+    ensures value { Gives (λ d. d) result (spec.drop_node at.now id) }
+    ensures sound { IsSoundDecision at.now.rows result }
+{
+    let _rules = at.tables.users();
+    dropping_node(alloc, at, id)
+}

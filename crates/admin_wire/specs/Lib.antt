@@ -1,0 +1,6 @@
+pub mod Forms
+pub mod Keys
+pub mod Nodes
+pub mod Swept
+pub mod Users
+pub mod Waiting

@@ -1,0 +1,36 @@
+-- Fixed answers, each of which names a fault.
+use Rattle.std.specs.Prelude.{ℕ, List, ◌++◌, Result, Ok, Err, codes}
+use Rattle.wire_json.specs.Fields.{field_name}
+use Rattle.wire_json.specs.declared.fault.WireFault.{WireFault}
+use Rattle.wire_json.specs.declared.fault.WireFault.TheVariants as fault
+use Rattle.desk_front.specs.declared.want.Wanted.{Wanted}
+use Rattle.desk_front.specs.declared.want.Wanted.TheVariants as wants
+
+-- the body that names a fault
+abbrev pub error_body : List ℕ → List ℕ
+error_body name = codes "{\"error\":\"" ++ name ++ codes "\"}"
+
+-- the body that names a fault and its field
+abbrev pub field_body : List ℕ → List ℕ → List ℕ
+field_body name at = codes "{\"error\":\"" ++ name ++ codes "\",\"field\":\"" ++ at ++ codes "\"}"
+
+-- the fixed answer that names a fault
+abbrev pub fault_answer : ℕ → List ℕ → Wanted
+fault_answer status name = wants.Answer status (error_body name)
+
+-- the fixed answer that names a fault and its field
+abbrev pub field_answer : List ℕ → List ℕ → Wanted
+field_answer name at = wants.Answer 400 (field_body name at)
+
+-- a fault of the body; want of memory is none
+abbrev pub body_answer : WireFault → Wanted
+body_answer fault.NotJson = fault_answer 400 (codes "NotJson")
+body_answer fault.Compressed = fault_answer 400 (codes "Compressed")
+body_answer (fault.Missing f) = field_answer (codes "Missing") (field_name f)
+body_answer (fault.BadField f) = field_answer (codes "BadField") (field_name f)
+body_answer fault.NoMemory = fault_answer 503 (codes "NoMemory")
+
+-- what the body says is wanted, or its first fault is answered
+abbrev pub unless_faulty : {X : Type 0} → (X → Wanted) → Result X WireFault → Wanted
+unless_faulty f (Ok x) = f x
+unless_faulty f (Err first) = body_answer first

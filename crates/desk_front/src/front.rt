@@ -1,0 +1,121 @@
+//! The front: requests in, answers out.
+ghost use Rattle.std.specs.Prelude.{◌≡◌, IfOk};
+ghost use Rattle.desk_front.specs.Replies.{reply_bytes};
+ghost use Rattle.desk_front.specs.Wanted.{acted, caller_wants, operator_wants, site_of, wanted_of};
+ghost use Rattle.desk_front.specs.Wants.{IsSound};
+
+use crate::action::{Action, action_of, is_machine_route};
+use crate::admin::{admin_wants, is_authorized};
+use crate::faults::fault_answer;
+use crate::machine::{header_key, machine_wants};
+use crate::replies::reply_answer;
+use crate::site::Site;
+use crate::want::Wanted;
+use desk_state::{Ask, Reply};
+use http_front::Request;
+use net_rows::Settings;
+use path_routes::{Found, Paths, owner_in};
+use std::alloc::Global;
+use std::marker::Model;
+use tail_base::{Duplicate, NoMemory};
+
+/// The table of paths, and what answers depend on. Contracts see the latter.
+#[derive(Drop)]
+pub struct Front {
+    paths: Paths,
+    site: Site,
+}
+
+impl Model for Front {
+    ghost use Rattle.desk_front.specs.declared.site.Site.{Site};
+
+    ghost Value = { Site };
+
+    ghost view = { λ a. a.site };
+}
+
+impl Front {
+    /// The front of a server under these settings.
+    pub fn new(alloc: Global, settings: &Settings) -> Result<Front, NoMemory>
+        ensures value { IfOk result (λ front. front ≡ site_of settings.now) }
+    {
+        let fields = settings.fields();
+        Ok(Front {
+            paths: Paths::new(alloc)?,
+            site: Site {
+                token: fields.token.copy(alloc)?,
+                server_url: fields.server_url.copy(alloc)?,
+            },
+        })
+    }
+
+    /// What an operator wants who has to give the token.
+    fn operator_wants(
+        &self,
+        alloc: Global,
+        request: &Request,
+        found: Found,
+        action: Action,
+    ) -> Result<Wanted, NoMemory>
+        ensures value { IfOk result (λ w. w ≡ operator_wants self.now request.now found action) }
+        ensures sound { IfOk result IsSound }
+    {
+        if !is_authorized(&self.site.token, &request.token) {
+            return fault_answer(alloc, 401, "BadToken");
+        }
+        let owner = owner_in(request.path.as_slice(), found.route);
+        admin_wants(alloc, action, found.id, owner, request.body.as_slice())
+    }
+
+    fn caller_wants(
+        &self,
+        alloc: Global,
+        request: &Request,
+        found: Found,
+        action: Action,
+    ) -> Result<Wanted, NoMemory>
+        ensures value { IfOk result (λ w. w ≡ caller_wants self.now request.now found action) }
+        ensures sound { IfOk result IsSound }
+    {
+        if is_machine_route(found.route) {
+            let key = header_key(&request.machine);
+            machine_wants(alloc, action, key, request.body.as_slice())
+        } else {
+            self.operator_wants(alloc, request, found, action)
+        }
+    }
+
+    /// What a request wants of the desk, or its fixed answer.
+    ///
+    /// The path comes first: one that isn't in the table is 404 `NoPath`. Then the method: another one
+    /// than the path's is 405 `BadMethod`. Then who asks: at a path of machines the key in the first
+    /// `Ts-Machine-Key` line, whose fault is 400; at a path of operators the token, without which the
+    /// answer is 401 `BadToken`. Then the body, whose first fault is 400.
+    #[tactic(auto, unfolding(crate::specs::Wanted::wanted_of))]
+    pub fn wanted(&self, alloc: Global, request: &Request) -> Result<Wanted, NoMemory>
+        ensures value { IfOk result (λ w. w ≡ wanted_of self.now request.now) }
+        // An ask is within the limits of rows, and the status of a fixed answer is one of HTTP's.
+        ensures sound { IfOk result IsSound }
+    {
+        let Some(found) = self.paths.found(request.path.as_slice()) else {
+            return fault_answer(alloc, 404, "NoPath");
+        };
+        match action_of(found.route, &request.method) {
+            Some(action) => self.caller_wants(alloc, request, found, action),
+            None => fault_answer(alloc, 405, "BadMethod"),
+        }
+    }
+
+    /// The bytes of the answer to a reply to an ask; `close` says whether the connection ends after it.
+    pub fn answer(
+        &self,
+        alloc: Global,
+        ask: &Ask,
+        reply: &Reply,
+        close: bool,
+    ) -> Result<Vec<u8>, NoMemory>
+        ensures value { IfOk result (λ made. made.items ≡ reply_bytes self.now ask.now reply.now close) }
+    {
+        reply_answer(alloc, &self.site, ask, reply, close)
+    }
+}

@@ -1,0 +1,119 @@
+//! What machines ask.
+ghost use Rattle.std.specs.Prelude.{◌≡◌, IfOk};
+ghost use Rattle.wire_json.specs.Short.{IsShortForm, IsShortUpdate};
+ghost use Rattle.desk_front.specs.Faults.{field_answer};
+ghost use Rattle.desk_front.specs.MachineWants.{asked_by, header_key, machine_wants, map_body_wants, map_wants, register_wants};
+ghost use Rattle.desk_front.specs.Wants.{IsSound};
+
+use crate::action::Action;
+use crate::faults::{body_answer, field_answer};
+use crate::header::HeaderKey;
+use crate::want::Wanted;
+use desk_state::Ask;
+use std::alloc::Global;
+use tail_base::{Bytes, MachineKey, NoMemory};
+use wire_json::{Field, MapAsk, WireFault, read_map_request, read_register};
+
+/// The header that names a machine.
+const MACHINE_HEADER: &str = "Ts-Machine-Key";
+
+/// What the value of the first `Ts-Machine-Key` line holds.
+pub(crate) fn header_key(value: &Option<Bytes>) -> HeaderKey
+    ensures value { result ≡ header_key value.now }
+{
+    let Some(value) = value else {
+        return HeaderKey::Absent;
+    };
+    match MachineKey::read(value.as_slice()) {
+        Some(key) if !key.is_zero() => HeaderKey::Key(key),
+        _ => HeaderKey::Unreadable,
+    }
+}
+
+#[tactic(auto, using(crate::proofs::FaultLemmas::faulty))]
+fn register_wants(alloc: Global, machine: MachineKey, body: &[u8]) -> Result<Wanted, NoMemory>
+    ensures value { IfOk result (λ w. w ≡ register_wants machine body.now) }
+    ensures sound { IfOk result IsSound }
+{
+    match read_register(alloc, body) {
+        Ok(form) => Ok(Wanted::Ask(Ask::Register { machine, form })),
+        Err(fault) => body_answer(alloc, fault),
+    }
+}
+
+/// A poll isn't served yet. A request without a stream that omits the peers and isn't read-only is
+/// an update alone; any other is answered with the map, and is an update too unless it is read-only.
+fn map_wants(alloc: Global, machine: MachineKey, asked: MapAsk) -> Result<Wanted, NoMemory>
+    requires short { IsShortUpdate asked.update }
+    ensures value { IfOk result (λ w. w ≡ map_wants machine asked) }
+    ensures sound { IfOk result IsSound }
+{
+    let MapAsk {
+        node,
+        stream,
+        omit_peers,
+        read_only,
+        handle: _,
+        seq: _,
+        update,
+    } = asked;
+    if stream {
+        return body_answer(alloc, WireFault::BadField(Field::Stream));
+    }
+    if omit_peers && !read_only {
+        return Ok(Wanted::Ask(Ask::Update {
+            machine,
+            node,
+            update,
+        }));
+    }
+    let update = if read_only { None } else { Some(update) };
+    Ok(Wanted::Ask(Ask::OneMap {
+        machine,
+        node,
+        update,
+    }))
+}
+
+#[tactic(auto, using(crate::proofs::FaultLemmas::faulty))]
+fn map_body_wants(alloc: Global, machine: MachineKey, body: &[u8]) -> Result<Wanted, NoMemory>
+    ensures value { IfOk result (λ w. w ≡ map_body_wants machine body.now) }
+    ensures sound { IfOk result IsSound }
+{
+    match read_map_request(alloc, body) {
+        Ok(asked) => map_wants(alloc, machine, asked),
+        Err(fault) => body_answer(alloc, fault),
+    }
+}
+
+fn asked_by(
+    alloc: Global,
+    action: Action,
+    machine: MachineKey,
+    body: &[u8],
+) -> Result<Wanted, NoMemory>
+    ensures value { IfOk result (λ w. w ≡ asked_by action machine body.now) }
+    ensures sound { IfOk result IsSound }
+{
+    match action {
+        Action::Register => register_wants(alloc, machine, body),
+        _ => map_body_wants(alloc, machine, body),
+    }
+}
+
+/// What a machine wants: its key in the header comes before the body.
+pub(crate) fn machine_wants(
+    alloc: Global,
+    action: Action,
+    key: HeaderKey,
+    body: &[u8],
+) -> Result<Wanted, NoMemory>
+    ensures value { IfOk result (λ w. w ≡ machine_wants action key body.now) }
+    ensures sound { IfOk result IsSound }
+{
+    match key {
+        HeaderKey::Absent => field_answer(alloc, "Missing", MACHINE_HEADER),
+        HeaderKey::Unreadable => field_answer(alloc, "BadField", MACHINE_HEADER),
+        HeaderKey::Key(machine) => asked_by(alloc, action, machine, body),
+    }
+}

@@ -1,0 +1,9 @@
+pub mod Asks
+pub mod Lines
+pub mod Rulings
+pub mod State
+pub mod Steps
+pub mod TagPlaces
+pub mod Tags
+pub mod Texts
+pub mod Users

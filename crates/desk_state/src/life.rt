@@ -1,0 +1,95 @@
+//! What an event sees of the state, and which machines are live in it.
+ghost use Rattle.std.specs.Prelude.{◌≡◌, Some};
+ghost use Rattle.desk_state.specs.State.{State, is_ahead, is_live, is_live_with, is_online, is_past, presence_of, stays, stays_with};
+
+use crate::presence::{MachinePresence, Presence};
+use moments::Moment;
+use net_rows::{Machine, Settings, SettingsFields, Tables};
+use std::marker::Model;
+
+/// The state at an event's moment, as its decision sees it.
+#[derive(Drop)]
+pub struct Snapshot<'a> {
+    pub settings: &'a Settings,
+    pub tables: &'a Tables,
+    pub presence: &'a [MachinePresence],
+    pub time: Moment,
+}
+
+impl<'a> Model for Snapshot<'a> {
+    ghost use Rattle.desk_state.specs.State.{State};
+
+    ghost Value = { State };
+
+    ghost view = { λ a. record { settings = a.settings.now; rows = a.tables.now.rows; presence = a.presence.now; now = a.time } };
+}
+
+/// Whether there is no end, or it is still to come.
+pub fn is_ahead(now: Moment, end: Option<Moment>) -> bool
+    ensures value { result ≡ is_ahead now end }
+{
+    match end {
+        None => true,
+        Some(end) => now.is_before(end),
+    }
+}
+
+/// Whether this many seconds have passed since then.
+pub fn is_past(now: Moment, since: Moment, seconds: u32) -> bool
+    ensures value { result ≡ is_past now since seconds }
+{
+    !now.is_before(since.plus(seconds))
+}
+
+fn stays(settings: &SettingsFields, now: Moment, presence: &Presence) -> bool
+    ensures value { result ≡ stays settings.now now presence.now }
+{
+    match presence {
+        Presence::Online => true,
+        Presence::OfflineSince(since) => now.is_before(since.plus(settings.ephemeral_seconds)),
+    }
+}
+
+fn stays_with(settings: &SettingsFields, now: Moment, presence: Option<Presence>) -> bool
+    ensures value { result ≡ stays_with settings.now now presence }
+{
+    match presence {
+        None => false,
+        Some(presence) => stays(settings, now, &presence),
+    }
+}
+
+/// The presence of the machine of an id.
+pub fn presence_of(presence: &[MachinePresence], id: u32) -> Option<Presence>
+    ensures value { result ≡ presence_of presence.now id }
+{
+    presence
+        .iter()
+        .find(|held| held.id == id)
+        .map(|held| held.presence)
+}
+
+/// Whether a machine with this presence is live.
+pub fn is_live_with(at: &Snapshot<'_>, presence: Option<Presence>, machine: &Machine) -> bool
+    ensures value { result ≡ is_live_with at.now presence machine.now }
+{
+    is_ahead(at.time, machine.expiry)
+        && (!machine.ephemeral || stays_with(at.settings.fields(), at.time, presence))
+}
+
+/// Whether the machine is live.
+pub fn is_live(at: &Snapshot<'_>, machine: &Machine) -> bool
+    ensures value { result ≡ is_live at.now machine.now }
+{
+    is_live_with(at, presence_of(at.presence, machine.id), machine)
+}
+
+/// Whether a machine of this presence is online.
+pub fn is_online(presence: Option<Presence>) -> bool
+    ensures value { result ≡ is_online presence }
+{
+    match presence {
+        Some(Presence::Online) => true,
+        _ => false,
+    }
+}

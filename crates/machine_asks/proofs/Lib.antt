@@ -1,0 +1,10 @@
+pub mod Proper
+pub mod RowLemmas
+pub mod Keyed
+pub mod Waits
+pub mod Registrations
+pub mod Seeds
+pub mod Updates
+pub mod Admissions
+pub mod Repeats
+pub mod Sameness

@@ -1,0 +1,68 @@
+-- A seed keeps the rules of the tables.
+use Rattle.std.proofs.Common.{◌≡◌, ◌+◌, ◌||◌, ℕ, Bool, true, false, not, List, [], ◌∷◌, inl, refl, nat_lt, arith, length, codes, nat_eq}
+use Rattle.std.specs.Prelude.{Contains}
+use Rattle.std.specs.List.{starts_with}
+use Rattle.net_rows.specs.Damage.{names_key}
+use Rattle.net_rows.specs.Limits.{counter_limit}
+use Rattle.net_rows.specs.Room.{has_room}
+use Rattle.net_rows.specs.Rows.{after}
+use Rattle.net_rows.specs.Shelf.{put_row}
+use Rattle.net_rows.specs.Sound.{AreSound}
+use Rattle.net_rows.specs.declared.change.Kind.TheVariants as kind
+use Rattle.net_rows.specs.declared.rows.Rows.{Rows}
+use Rattle.net_rows.specs.declared.user.User.{User}
+use Rattle.net_rows.proofs.Bools.{both, lt_of}
+use Rattle.net_rows.proofs.Members.{no_member}
+use Rattle.net_rows.proofs.PutLemmas.{put_there}
+use Rattle.net_rows.proofs.SoundPut.{sound_user, sound_key}
+use Rattle.desk_state.specs.State.{State}
+use Rattle.desk_state.specs.declared.reply.Answer.TheVariants.{Gone}
+use Rattle.desk_state.specs.declared.reply.Refusal.TheVariants.{Full}
+use Rattle.desk_state.specs.declared.reply.Scarce.TheVariants as scarce
+use Rattle.machine_asks.specs.Seed.{seed, is_past_seed, seed_change, seed_user, seed_key}
+use Rattle.machine_asks.proofs.Proper.{IsProper, passed, proper_changes, proper_if, proper_only, proper_refuse}
+
+no_users : (t : Rows) (text : List ℕ) → is_past_seed t text ≡ false → (t.users ≡ []) × (starts_with nat_eq text (codes "tnkey-") ≡ false)
+no_users t text h = (empty t.users (neither _ _ h).0, (neither _ _ h).1) where
+  neither : (a b : Bool) → (a || b) ≡ false → (a ≡ false) × (b ≡ false)
+  neither true b e = absurd (cc)
+  neither false b e = (refl, e)
+
+  empty : (us : List User) → nat_lt 0 (length us) ≡ false → us ≡ []
+  empty [] e = refl
+  empty (u ∷ us) e = absurd (grind arith)
+
+-- a text that doesn't begin as the server's own keys do names no id
+names_any : (id : ℕ) (text : List ℕ) → starts_with nat_eq text (codes "tnkey-") ≡ false → names_key id text ≡ true
+names_any id text h = rw h refl
+
+-- tables without users have no keys either, so any text is new
+seeded : (t : Rows) (text : List ℕ) → AreSound t → is_past_seed t text ≡ false → has_room t kind.User ≡ true → has_room t kind.Key ≡ true → AreSound (after t (seed_change t text))
+seeded t text sound first user_room key_room =
+    let none = no_users t text first in
+    let no_user = λ (r : User) (inside : Contains t.users r). let gone : Contains [] r = rw none.0 at inside in no_member r gone in
+    let ur = both (nat_lt (length t.users) _) (nat_lt t.next.user counter_limit) user_room in
+    let kr = both (nat_lt (length t.keys) _) (nat_lt t.next.key counter_limit) key_room in
+    let one = sound_user t (seed_user t) (t.next.user + 1) sound (record {
+      id = sound.counters.user.0;
+      room = inl (lt_of _ _ ur.0);
+      login = λ r inside e. absurd (no_user r inside);
+    }) (omega arith) (omega arith) (let b = lt_of _ _ ur.1 in omega arith) in
+    let u : Rows = record t { users = put_row (λ r. r.id) t.users (seed_user t); next = record t.next { user = t.next.user + 1 } } in
+    sound_key u (seed_key t text) (t.next.key + 1) one (record {
+      id = sound.counters.key.0;
+      room = inl (lt_of _ _ kr.0);
+      text = λ r inside e. absurd (let held = (sound.keys.keeps r inside).user in no_user held.0 held.1);
+      keeps = record {
+        user = (seed_user t, put_there (λ (r : User). r.id) t.users (seed_user t), refl);
+        text = names_any t.next.key text none.1;
+        tags = omega arith;
+      };
+    }) (omega arith) (omega arith) (let b = lt_of _ _ kr.1 in omega arith)
+
+pub seed_proper : (s : State) (text : List ℕ) → AreSound s.rows → IsProper s (seed s text)
+seed_proper s text sound =
+    proper_if s (is_past_seed s.rows text) _ _ (λ _. proper_only s Gone) (λ first.
+    proper_refuse s (not (has_room s.rows kind.User)) (Full scarce.User) _ tt (λ user.
+    proper_refuse s (not (has_room s.rows kind.Key)) (Full scarce.Key) _ tt (λ key.
+    proper_changes s (seed_change s.rows text) [] Gone (seeded s.rows text sound first (passed _ user) (passed _ key)))))

@@ -1,0 +1,12 @@
+pub mod Holds
+pub mod Seed
+pub mod Rows
+pub mod Asking
+pub mod ByKey
+pub mod Logout
+pub mod Waiting
+pub mod Register
+pub mod Update
+pub mod OneMap
+pub mod Admit
+pub mod Laws

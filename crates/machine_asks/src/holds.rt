@@ -1,0 +1,17 @@
+//! The rules that settings and tables keep.
+ghost use Rattle.std.specs.Prelude.{◌≡◌, None};
+ghost use Rattle.net_rows.specs.Damage.{damage};
+ghost use Rattle.machine_asks.specs.Holds.{SettingsHold};
+
+use desk_state::Snapshot;
+
+/// Hands out what settings and tables keep at all times, for the proofs of decisions.
+pub(crate) fn keep_rules(at: &Snapshot<'_>)
+    ensures settings { SettingsHold at.now }
+    ensures tables { damage at.now.rows ≡ None }
+{
+    let fields = at.settings.fields();
+    let _v4 = fields.prefix_v4.base();
+    let _v6 = fields.prefix_v6.base();
+    let _rows = at.tables.users();
+}

@@ -1,0 +1,157 @@
+//! A machine asks for its map, and may tell of itself.
+ghost use Rattle.std.specs.Prelude.{◌≡◌, ◌∷◌, ◌++◌, [], IfOk, IfSome, Contains, None, OnOk, if◌then◌else◌};
+ghost use Rattle.std.specs.Option.{option_copied};
+ghost use Rattle.desk_state.specs.Rulings.{IsSoundDecision};
+ghost use Rattle.desk_state.specs.State.{is_live};
+ghost use Rattle.desk_state.specs.Steps.{Gives};
+ghost use Rattle.net_rows.specs.Damage.{damage};
+ghost use Rattle.net_rows.specs.Rows.{after};
+ghost use Rattle.wire_json.specs.Short.{IsShortUpdate};
+ghost use Rattle.machine_asks.specs.OneMap as spec;
+ghost use Rattle.machine_asks.specs.Rows.{row_replaced};
+
+use crate::holds::keep_rules;
+use crate::rows::row_replaced;
+use crate::told::{same_told, told_row};
+use crate::who_asks::asking;
+use desk_state::{Answer, Decision, Snapshot, Stop, is_live};
+use map_delta::{first_response, plain_map};
+use net_rows::{Change, Machine, Tables};
+use std::alloc::Global;
+use tail_base::{Duplicate, Items, MachineKey, NoMemory, NodeKey};
+use wire_json::Update;
+
+/// Adds the machine's id, if it is live.
+fn add_live(at: &Snapshot<'_>, ids: &mut Items<u32>, machine: &Machine) -> Result<(), NoMemory>
+    ensures ok { OnOk result (ids.new ≡ ids.old ++ (if is_live at.now machine.now then machine.now.id ∷ [] else [])) }
+{
+    if is_live(at, machine) {
+        ids.push(machine.id)
+    } else {
+        Ok(())
+    }
+}
+
+/// The ids of the machines that are live.
+fn live_ids(alloc: Global, at: &Snapshot<'_>) -> Result<Items<u32>, NoMemory>
+    ensures value { IfOk result (λ ids. ids ≡ spec.live_ids at.now) }
+{
+    let mut ids = Items::new(alloc);
+    for machine in at.tables.machines() {
+        add_live(at, &mut ids, machine)?;
+    }
+    Ok(ids)
+}
+
+/// The whole map of a machine, computed afresh.
+fn map_for(alloc: Global, at: &Snapshot<'_>, row: &Machine) -> Result<Answer, NoMemory>
+    ensures value { IfOk result (λ a. a ≡ spec.map_for at.now row.now) }
+{
+    let live = live_ids(alloc, at)?;
+    let view = plain_map(alloc, at.settings, at.tables, live.as_slice(), row)?;
+    Ok(Answer::Map(first_response(alloc, view, None, None)))
+}
+
+/// The map of a machine in other tables.
+fn map_in(
+    alloc: Global,
+    at: &Snapshot<'_>,
+    tables: &Tables,
+    row: &Machine,
+) -> Result<Answer, NoMemory>
+    ensures value { IfOk result (λ a. a ≡ spec.map_for (record at.now { rows = tables.now.rows }) row.now) }
+{
+    let changed = Snapshot {
+        settings: at.settings,
+        tables,
+        presence: at.presence,
+        time: at.time,
+    };
+    map_for(alloc, &changed, row)
+}
+
+/// The map of a machine after a change.
+fn changed_map(
+    alloc: Global,
+    at: &Snapshot<'_>,
+    change: &Change,
+    row: &Machine,
+) -> Result<Answer, NoMemory>
+    requires sound { damage (after at.now.rows change.now) ≡ None }
+    ensures value { IfOk result (λ a. a ≡ spec.map_for (spec.after_change at.now change.now) row.now) }
+{
+    let tables = at.tables.after(alloc, change)?;
+    map_in(alloc, at, &tables, row)
+}
+
+fn mapped_after(
+    alloc: Global,
+    at: &Snapshot<'_>,
+    was: &Machine,
+    told: Machine,
+) -> Result<Decision, NoMemory>
+    requires sound { damage (after at.now.rows (row_replaced at.now.rows told)) ≡ None }
+    ensures value { IfOk result (λ d. d ≡ spec.mapped_after at.now was.now told) }
+{
+    if same_told(was, &told) {
+        return Ok(Decision::Only(map_for(alloc, at, was)?));
+    }
+    let change = row_replaced(alloc, at.tables, told.copy(alloc)?)?;
+    let answer = changed_map(alloc, at, &change, &told)?;
+    Ok(Decision::Changes {
+        change,
+        offline: Items::new(alloc),
+        answer,
+    })
+}
+
+fn mapped(
+    alloc: Global,
+    at: &Snapshot<'_>,
+    row: &Machine,
+    update: Option<&Update>,
+) -> Result<Decision, NoMemory>
+    requires inside { Contains at.now.rows.machines row.now }
+    requires short { IfSome (option_copied update) IsShortUpdate }
+    ensures value { IfOk result (λ d. d ≡ spec.mapped at.now row.now (option_copied update.entry)) }
+{
+    keep_rules(at);
+    match update {
+        None => Ok(Decision::Only(map_for(alloc, at, row)?)),
+        Some(update) => {
+            let told = told_row(alloc, row, update)?;
+            mapped_after(alloc, at, row, told)
+        }
+    }
+}
+
+fn one_map_of(
+    alloc: Global,
+    at: &Snapshot<'_>,
+    machine: &MachineKey,
+    node: &NodeKey,
+    update: Option<&Update>,
+) -> Result<Decision, Stop>
+    requires short { IfSome (option_copied update) IsShortUpdate }
+    ensures value { Gives (λ d. d) result (spec.one_map at.now machine.now node.now (option_copied update.entry)) }
+{
+    let row = asking(at, machine, node)?;
+    Ok(mapped(alloc, at, row, update)?)
+}
+
+/// What comes of a machine's wish for its map: the whole map, computed afresh, after what it tells of
+/// itself. The machine has to be one with these keys, and live.
+pub fn one_map(
+    alloc: Global,
+    at: &Snapshot<'_>,
+    machine: &MachineKey,
+    node: &NodeKey,
+    update: Option<&Update>,
+) -> Result<Decision, Stop>
+    requires short { IfSome (option_copied update) IsShortUpdate }
+    ensures value { Gives (λ d. d) result (spec.one_map at.now machine.now node.now (option_copied update.entry)) }
+    ensures sound { IsSoundDecision at.now.rows result }
+{
+    keep_rules(at);
+    one_map_of(alloc, at, machine, node, update)
+}

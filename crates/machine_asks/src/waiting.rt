@@ -1,0 +1,165 @@
+//! A machine waits for an operator.
+ghost use Rattle.std.specs.Prelude.{◌≡◌, ◌<◌, IfOk, length};
+ghost use Rattle.std.specs.Option.{option_copied};
+ghost use Rattle.desk_state.specs.Steps.{Gives};
+ghost use Rattle.net_rows.specs.Shelf.{without};
+ghost use Rattle.net_rows.specs.declared.pending.Pending.{Pending};
+ghost use Rattle.machine_asks.specs.Waiting as spec;
+
+use crate::rows::pending_gone;
+use desk_state::{Answer, Decision, Refusal, Scarce, Snapshot, Stop, is_past, row_text};
+use net_rows::{COUNTER_LIMIT, Change, Counters, PENDING_LIMIT, Pending, Row, Tables};
+use std::alloc::Global;
+use tail_base::{Duplicate, Items, MachineKey, NoMemory, NodeKey};
+use wire_json::Register;
+
+/// Whether the time of an entry has passed.
+pub(crate) fn is_overdue(at: &Snapshot<'_>, entry: &Pending) -> bool
+    ensures value { result ≡ spec.is_overdue at.now entry.now }
+{
+    is_past(at.time, entry.made, at.settings.fields().pending_seconds)
+}
+
+fn waits(at: &Snapshot<'_>, node: &NodeKey, entry: &Pending) -> bool
+    ensures value { result ≡ spec.waits at.now node.now entry.now }
+{
+    entry.node == *node && !is_overdue(at, entry)
+}
+
+/// How many entries have another id.
+fn count_others(pending: &[Pending], id: u32) -> usize
+    ensures value { result ≡ length (without (λ (r : Pending). r.id) pending.now id) }
+{
+    let mut count = 0;
+    for entry in pending {
+        if entry.id != id {
+            count += 1;
+        }
+    }
+    count
+}
+
+/// How many entries are left without the one that goes.
+fn count_left(pending: &[Pending], old: Option<&Pending>) -> usize
+    ensures value { result ≡ length (spec.pending_left pending.now (option_copied old.entry)) }
+{
+    match old {
+        None => pending.len(),
+        Some(old) => count_others(pending, old.id),
+    }
+}
+
+fn has_place(tables: &Tables, old: Option<&Pending>) -> bool
+    ensures value { result ≡ spec.has_place tables.now.rows (option_copied old.entry) }
+{
+    count_left(tables.pending(), old) < PENDING_LIMIT && tables.next().pending < COUNTER_LIMIT
+}
+
+fn new_entry(
+    alloc: Global,
+    at: &Snapshot<'_>,
+    machine: &MachineKey,
+    form: &Register,
+    words: &[u64; 4],
+) -> Result<Pending, NoMemory>
+    ensures value { IfOk result (λ p. p ≡ spec.new_entry at.now machine.now form.now words.now) }
+{
+    let id = at.tables.next().pending;
+    Ok(Pending {
+        id,
+        text: row_text(alloc, "reg-", id, &words[..2])?,
+        machine: *machine,
+        node: form.node,
+        host: form.host.copy(alloc)?,
+        routes: form.routes.copy(alloc)?,
+        tags: form.tags.copy(alloc)?,
+        ephemeral: form.ephemeral,
+        expiry: form.expiry,
+        made: at.time,
+    })
+}
+
+fn entry_change(
+    alloc: Global,
+    tables: &Tables,
+    entry: Pending,
+    old: Option<&Pending>,
+) -> Result<Change, NoMemory>
+    requires counter { tables.now.rows.next.pending < 2147483647 }
+    ensures value { IfOk result (λ c. c ≡ spec.entry_change tables.now.rows entry (option_copied old.entry)) }
+{
+    let next = tables.next();
+    let mut puts = Items::new(alloc);
+    puts.push(Row::Pending(entry))?;
+    Ok(Change {
+        puts,
+        gone: pending_gone(alloc, old)?,
+        next: Counters {
+            pending: next.pending + 1,
+            ..next
+        },
+    })
+}
+
+fn entered(
+    alloc: Global,
+    tables: &Tables,
+    entry: Pending,
+    old: Option<&Pending>,
+) -> Result<Decision, NoMemory>
+    requires counter { tables.now.rows.next.pending < 2147483647 }
+    ensures value { IfOk result (λ d. d ≡ spec.entered tables.now.rows entry (option_copied old.entry)) }
+{
+    let text = entry.text.copy(alloc)?;
+    Ok(Decision::Changes {
+        change: entry_change(alloc, tables, entry, old)?,
+        offline: Items::new(alloc),
+        answer: Answer::LoginAt { pending: text },
+    })
+}
+
+fn wait_anew(
+    alloc: Global,
+    at: &Snapshot<'_>,
+    machine: &MachineKey,
+    form: &Register,
+    words: Option<[u64; 4]>,
+    old: Option<&Pending>,
+) -> Result<Decision, Stop>
+    ensures value { Gives (λ d. d) result (spec.wait_anew at.now machine.now form.now words (option_copied old.entry)) }
+{
+    if !has_place(at.tables, old) {
+        return Err(Stop::Refused(Refusal::Full(Scarce::Pending)));
+    }
+    let Some(words) = words else {
+        return Err(Stop::Refused(Refusal::EntropyFault));
+    };
+    let entry = new_entry(alloc, at, machine, form, &words)?;
+    Ok(entered(alloc, at.tables, entry, old)?)
+}
+
+fn repeated(alloc: Global, entry: &Pending) -> Result<Decision, NoMemory>
+    ensures value { IfOk result (λ d. d ≡ spec.waits_on entry.now) }
+{
+    Ok(Decision::Only(Answer::LoginAt {
+        pending: entry.text.copy(alloc)?,
+    }))
+}
+
+/// A machine waits for an operator: under its entry, where that is for this node key and its time
+/// hasn't passed, and else under a new one.
+pub(crate) fn wait(
+    alloc: Global,
+    at: &Snapshot<'_>,
+    machine: &MachineKey,
+    form: &Register,
+    words: Option<[u64; 4]>,
+) -> Result<Decision, Stop>
+    ensures value { Gives (λ d. d) result (spec.wait at.now machine.now form.now words) }
+{
+    let old = at.tables.pending_of(machine);
+    match old {
+        Some(entry) if waits(at, &form.node, entry) => Ok(repeated(alloc, entry)?),
+        _ => wait_anew(alloc, at, machine, form, words, old),
+    }
+}

@@ -1,0 +1,7 @@
+pub mod Nodes
+pub mod Filters
+pub mod Names
+pub mod Profiles
+pub mod Fresh
+pub mod Responses
+pub mod Frames

@@ -1,0 +1,21 @@
+//! What a machine is told of the tailnet: its map, computed afresh, and the responses and frames
+//! that carry it.
+#![tactic(auto)]
+
+mod dns;
+mod filter;
+mod frame;
+mod fresh;
+mod node;
+mod profile;
+mod response;
+mod view;
+
+pub use frame::frame_bytes;
+pub use fresh::plain_map;
+pub use profile::profile_of;
+pub use response::first_response;
+pub use view::View;
+
+#[cfg(test)]
+mod tests;

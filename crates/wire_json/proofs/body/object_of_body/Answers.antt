@@ -1,0 +1,36 @@
+use Rattle.std.proofs.Common.{◌≡◌, ℕ, true, false, List, Some, None, refl, sym, ap, ◌∙◌, cond, rules}
+use Rattle.std.specs.Prelude.{IsUtf8}
+use Rattle.std.specs.Str.{is_utf8}
+use Rattle.std.proofs.lemmas.Str.{IsUtf8-from_is_utf8, is_utf8-from_IsUtf8}
+use Rattle.serde_json.specs.Data.{Data}
+use Rattle.serde_json.specs.Read.{read}
+use Rattle.wire_json.specs.Body.{body_value, object_at, or_fault}
+use Rattle.serde_json.specs.Find.{as_object}
+use Rattle.std.specs.Prelude.{is_some, Ok}
+use Rattle.std.proofs.lemmas.Bool.{false≢true}
+use Rattle.wire_json.specs.declared.fault.WireFault.TheVariants as fault
+use Rattle.wire_json.proofs.body.object_of_body.Goals as goal
+
+body_some : (body : List ℕ) (d : Data) → IsUtf8 body → read body ≡ Some d → body_value body ≡ Some d
+body_some body d text same = ap (λ b. cond b (read body) None) (is_utf8-from_IsUtf8 body text) ∙ same
+
+body_none : (body : List ℕ) → (IsUtf8 body → read body ≡ None) → body_value body ≡ None
+body_none body unread =
+    elim (is_utf8 body) as (λ b. is_utf8 body ≡ b → cond b (read body) None ≡ None) [ true ↦ λ e. unread (IsUtf8-from_is_utf8 body e) | false ↦ λ _. refl ] refl
+
+-- an object is taken as it is
+taken : (body : List ℕ) (d : Data) → IsUtf8 body → read body ≡ Some d → true ≡ is_some (as_object d) → object_at (body_value body) ≡ Ok d
+unfolding object_at
+taken body d text same object =
+    ap object_at (body_some body d text same) ∙ ap (λ b. or_fault {A = Data} fault.NotJson (cond b (Some d) None)) (sym object)
+
+pub returns-in-Ok : goal.returns-in-Ok
+returns-in-Ok c = record {
+  value = taken c.args.body.now _ c.in-Ok.ensures.ok.0 c.in-Ok.ensures.ok.1 (search rules);
+}
+
+pub returns-in-Err-2 : goal.returns-in-Err-2
+unfolding object_at
+returns-in-Err-2 c = record {
+  value = ap object_at (body_none c.args.body.now (c.in-Err.ensures.err (λ m. false≢true (c.if-is_memory.ensures.1 m))));
+}

@@ -1,0 +1,6 @@
+pub mod Dns
+pub mod Filters
+pub mod Nodes
+pub mod Parts
+pub mod Registered
+pub mod Responses
