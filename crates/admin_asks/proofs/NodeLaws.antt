@@ -19,6 +19,7 @@ use Rattle.net_rows.proofs.SoundPut.{sound_machine}
 use Rattle.net_rows.proofs.SoundRemove.{sound_without_machine}
 use Rattle.net_rows.proofs.Sounds.{sound_of, no_damage}
 use Rattle.desk_state.specs.Rulings.{IsSoundDecision}
+use Rattle.desk_state.specs.Changes.{machine_gone}
 use Rattle.desk_state.specs.State.{State}
 use Rattle.desk_state.specs.Steps.{or_refuse, refuse_if, Gives}
 use Rattle.desk_state.specs.Tags.{sorted_once}
@@ -30,7 +31,7 @@ use Rattle.desk_state.specs.declared.reply.Answer.{Answer}
 use Rattle.desk_state.specs.declared.reply.Refusal.TheVariants.{UnknownMachine, BadName, NameTaken}
 use Rattle.desk_state.proofs.StepLemmas.{AreRuled, bind_ok, bind_ruled, ok_ruled, or_refuse_ok, or_ruled, refuse_if_ok, refuse_ruled, sound_decision}
 use Rattle.desk_state.proofs.TagLemmas.{length-sorted_once}
-use Rattle.admin_asks.specs.Nodes.{changed_node, ends_at, expired_node, expire_node, is_taken, renamed, rename, tagged, set_tags, node_gone, drop_node}
+use Rattle.admin_asks.specs.Nodes.{changed_node, ends_at, expired_node, expire_node, is_taken, renamed, rename, tagged, set_tags, drop_node}
 use Rattle.admin_asks.proofs.NamedLaws.{tags_ruled}
 
 -- the row with another name, other tags and another expiry
@@ -175,7 +176,7 @@ sound_set_tags s id tags r none short g =
 drop_node_changes : (s : State) (id : ℕ) (c : Change) (o : List ℕ) (a : Answer) → AreSound s.rows → drop_node s id ≡ Ok (Changes c o a) → AreSound (after s.rows c)
 drop_node_changes s id c o a sound h =
     let m = bind_ok (or_refuse (machine_with s.rows.machines id) UnknownMachine) _ (Changes c o a) h in
-    let same : node_gone s.rows m.0.id ≡ c = cc in
+    let same : machine_gone s.rows m.0.id ≡ c = cc in
     subst (λ (x : Change). AreSound (after s.rows x)) same (sound_without_machine s.rows m.0.id sound)
 
 pub sound_drop_node : (s : State) (id : ℕ) (r : Result Decision Stop) → damage s.rows ≡ None → Gives (λ d. d) r (drop_node s id) → IsSoundDecision s.rows r

@@ -14,14 +14,14 @@ use Rattle.net_rows.proofs.Bools.{truth}
 use Rattle.net_rows.proofs.SoundGone.{is_unnamed, sound_take_all_out, take_all_out-append}
 use Rattle.net_rows.proofs.Sounds.{sound_of, no_damage}
 use Rattle.desk_state.specs.Rulings.{IsSoundDecision}
-use Rattle.desk_state.specs.State.{State}
+use Rattle.desk_state.specs.State.{State, is_overdue}
 use Rattle.desk_state.specs.Steps.{Gives}
 use Rattle.desk_state.specs.declared.decision.Decision.{Decision}
 use Rattle.desk_state.specs.declared.decision.Decision.TheVariants.{Changes}
 use Rattle.desk_state.specs.declared.decision.Stop.{Stop}
 use Rattle.desk_state.specs.declared.reply.Answer.{Answer}
 use Rattle.desk_state.proofs.StepLemmas.{ok_ruled, sound_decision}
-use Rattle.admin_asks.specs.Sweep.{is_lost, has_passed, machines_gone, pending_gone, sweep_change, swept, sweep}
+use Rattle.admin_asks.specs.Sweep.{is_lost, machines_gone, pending_gone, sweep_change, swept, sweep}
 use Rattle.admin_asks.proofs.NamedLaws.{after_gone}
 
 machines_unnamed : (s : State) (ms : List Machine) → list_all is_unnamed (machines_gone s ms) ≡ true
@@ -35,7 +35,7 @@ machines_unnamed s (m ∷ ms) =
 pending_unnamed : (s : State) (ps : List Pending) → list_all is_unnamed (pending_gone s ps) ≡ true
 pending_unnamed s [] = refl
 pending_unnamed s (p ∷ ps) =
-    elim (truth (has_passed s p)) [
+    elim (truth (is_overdue s p)) [
       | inl passed ↦ rw passed (pending_unnamed s ps)
       | inr waits ↦ rw waits (pending_unnamed s ps)
     ]
@@ -50,7 +50,7 @@ length-pending : (s : State) (ps : List Pending) → length (pending_gone s ps) 
 length-pending s [] = omega arith
 length-pending s (p ∷ ps) =
     let rest = length-pending s ps in
-    elim (truth (has_passed s p)) [ inl passed ↦ rw passed (omega arith) | inr waits ↦ rw waits (omega arith) ]
+    elim (truth (is_overdue s p)) [ inl passed ↦ rw passed (omega arith) | inr waits ↦ rw waits (omega arith) ]
 
 -- no more machines go than there may be
 pub few_machines : (s : State) → damage s.rows ≡ None → length (machines_gone s s.rows.machines) ≤ machine_limit

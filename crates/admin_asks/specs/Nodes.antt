@@ -6,11 +6,9 @@ use Rattle.std.specs.Ordering.{int_eq}
 use Rattle.std.specs.Str.{bytes_eq}
 use Rattle.tail_base.specs.Labels.{label_of}
 use Rattle.net_rows.specs.Rows.{machine_with}
-use Rattle.net_rows.specs.declared.change.Change.{Change}
 use Rattle.net_rows.specs.declared.change.Row.TheVariants as row
-use Rattle.net_rows.specs.declared.change.RowKey.TheVariants as gone
 use Rattle.net_rows.specs.declared.machine.Machine.{Machine}
-use Rattle.net_rows.specs.declared.rows.Rows.{Rows}
+use Rattle.desk_state.specs.Changes.{machine_gone}
 use Rattle.desk_state.specs.Lines.{node_line}
 use Rattle.desk_state.specs.State.{State}
 use Rattle.desk_state.specs.Steps.{◌>>=◌, or_refuse, refuse_if}
@@ -76,11 +74,7 @@ set_tags s id tags = do
   defined ← tags_defined tags
   Ok (tagged s machine (sorted_once tags))
 
--- the machine's row goes
-abbrev pub node_gone : Rows → ℕ → Change
-node_gone t id = record { puts = []; gone = gone.Machine id ∷ []; next = t.next }
-
 abbrev pub drop_node : State → ℕ → Result Decision Refusal
 drop_node s id = do
   machine ← or_refuse (machine_with s.rows.machines id) UnknownMachine
-  Ok (Changes (node_gone s.rows machine.id) [] answer.Gone)
+  Ok (Changes (machine_gone s.rows machine.id) [] answer.Gone)

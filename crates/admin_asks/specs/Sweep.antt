@@ -6,7 +6,7 @@ use Rattle.net_rows.specs.declared.change.RowKey.TheVariants as gone
 use Rattle.net_rows.specs.declared.machine.Machine.{Machine}
 use Rattle.net_rows.specs.declared.pending.Pending.{Pending}
 use Rattle.net_rows.specs.declared.rows.Rows.{Rows}
-use Rattle.desk_state.specs.State.{State, is_live, is_past}
+use Rattle.desk_state.specs.State.{State, is_live, is_overdue}
 use Rattle.desk_state.specs.declared.decision.Decision.{Decision}
 use Rattle.desk_state.specs.declared.decision.Decision.TheVariants.{Only, Changes}
 use Rattle.desk_state.specs.declared.reply.Answer.TheVariants as answer
@@ -21,14 +21,10 @@ abbrev pub machines_gone : State → List Machine → List RowKey
 machines_gone s [] = []
 machines_gone s (m ∷ ms) = if is_lost s m then gone.Machine m.id ∷ machines_gone s ms else machines_gone s ms
 
--- the entry's time has passed
-abbrev pub has_passed : State → Pending → Bool
-has_passed s p = is_past s.now p.made s.settings.pending_seconds
-
 -- the pending entries whose time has passed go
 abbrev pub pending_gone : State → List Pending → List RowKey
 pending_gone s [] = []
-pending_gone s (p ∷ ps) = if has_passed s p then gone.Pending p.id ∷ pending_gone s ps else pending_gone s ps
+pending_gone s (p ∷ ps) = if is_overdue s p then gone.Pending p.id ∷ pending_gone s ps else pending_gone s ps
 
 abbrev pub sweep_change : Rows → List RowKey → List RowKey → Change
 sweep_change t machines pending = record { puts = []; gone = machines ++ pending; next = t.next }

@@ -8,10 +8,11 @@ ghost use Rattle.desk_state.specs.Steps.{Gives};
 ghost use Rattle.admin_asks.specs.Nodes as spec;
 
 use desk_state::{
-    Answer, Decision, NodeLine, Refusal, Snapshot, Stop, node_line, sorted_once, tags_defined,
+    Answer, Decision, NodeLine, Refusal, Snapshot, Stop, machine_gone, node_line, sorted_once,
+    tags_defined,
 };
 use moments::Moment;
-use net_rows::{Change, Machine, Row, RowKey, Tables};
+use net_rows::{Change, Machine, Row};
 use std::alloc::Global;
 use tail_base::{Duplicate, Items, Label, NoMemory, Tag, Text};
 
@@ -215,18 +216,6 @@ pub fn set_tags(alloc: Global, at: &Snapshot<'_>, id: u32, tags: &[Tag]) -> Resu
     tagging(alloc, at, id, tags)
 }
 
-fn node_gone(alloc: Global, tables: &Tables, id: u32) -> Result<Change, NoMemory>
-    ensures value { IfOk result (λ change. change ≡ spec.node_gone tables.now.rows id) }
-{
-    let mut gone = Items::new(alloc);
-    gone.push(RowKey::Machine(id))?;
-    Ok(Change {
-        puts: Items::new(alloc),
-        gone,
-        next: tables.next(),
-    })
-}
-
 fn dropping_node(alloc: Global, at: &Snapshot<'_>, id: u32) -> Result<Decision, Stop>
     ensures value { Gives (λ d. d) result (spec.drop_node at.now id) }
 {
@@ -234,7 +223,7 @@ fn dropping_node(alloc: Global, at: &Snapshot<'_>, id: u32) -> Result<Decision, 
         return Err(Stop::Refused(Refusal::UnknownMachine));
     };
     Ok(Decision::Changes {
-        change: node_gone(alloc, at.tables, machine.id)?,
+        change: machine_gone(alloc, at.tables, machine.id)?,
         offline: Items::new(alloc),
         answer: Answer::Gone,
     })

@@ -5,7 +5,7 @@ ghost use Rattle.desk_state.specs.Rulings.{IsSoundDecision};
 ghost use Rattle.desk_state.specs.Steps.{Gives};
 ghost use Rattle.admin_asks.specs.Sweep as spec;
 
-use desk_state::{Answer, Decision, Snapshot, Stop, is_live, is_past};
+use desk_state::{Answer, Decision, Snapshot, Stop, is_live, is_overdue};
 use net_rows::{Change, Machine, Pending, RowKey, Tables};
 use std::alloc::Global;
 use tail_base::{Items, NoMemory};
@@ -33,12 +33,6 @@ fn machines_gone(
     Ok(gone)
 }
 
-fn has_passed(at: &Snapshot<'_>, pending: &Pending) -> bool
-    ensures value { result ≡ spec.has_passed at.now pending.now }
-{
-    is_past(at.time, pending.made, at.settings.fields().pending_seconds)
-}
-
 /// The pending entries whose time has passed.
 fn pending_gone(
     alloc: Global,
@@ -49,7 +43,7 @@ fn pending_gone(
 {
     let mut gone = Items::new(alloc);
     for entry in entries {
-        if has_passed(at, entry) {
+        if is_overdue(at, entry) {
             gone.push(RowKey::Pending(entry.id))?;
         }
     }

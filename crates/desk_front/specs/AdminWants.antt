@@ -1,8 +1,9 @@
 -- What operators want.
-use Rattle.std.specs.Prelude.{ℕ, List, Bool, true, false, ◌&&◌, ◌++◌, Option, None, Some, codes, if◌then◌else◌, length, take, drop}
-use Rattle.std.specs.Str.{bytes_eq, is_utf8}
+use Rattle.std.specs.Prelude.{ℕ, List, Bool, false, ◌&&◌, Option, None, Some, codes, take, drop}
+use Rattle.std.specs.Str.{bytes_eq}
 use Rattle.admin_wire.specs.Forms.{admit_form_of_body, empty_form_of_body, expiry_form_of_body, key_form_of_body, rename_form_of_body, tags_form_of_body, user_form_of_body}
 use Rattle.admin_wire.specs.declared.forms.AdmitForm.{AdmitForm}
+use Rattle.path_routes.specs.Finds.{text_of}
 use Rattle.desk_state.specs.declared.ask.Ask.TheVariants as ask
 use Rattle.desk_front.specs.Faults.{fault_answer, unless_faulty}
 use Rattle.desk_front.specs.declared.action.Action.{Action}
@@ -18,17 +19,13 @@ is_authorized token (Some given) = bytes_eq (take 7 given) (codes "Bearer ") && 
 abbrev pub add_user_wants : List ℕ → Wanted
 add_user_wants body = unless_faulty (λ name. wants.Ask (ask.AddUser name)) (user_form_of_body body)
 
--- the text that bytes are, if they are UTF-8
-abbrev pub utf8_text : List ℕ → Option (List ℕ)
-utf8_text bytes = if is_utf8 bytes then Some bytes else None
-
 abbrev pub drop_user : Option (List ℕ) → Wanted
 drop_user (Some login) = wants.Ask (ask.DropUser login)
 drop_user None = fault_answer 404 (codes "NoPath")
 
 -- the user whom the path names
 abbrev pub drop_user_wants : List ℕ → Wanted
-drop_user_wants owner = drop_user (utf8_text owner)
+drop_user_wants owner = drop_user (text_of owner)
 
 abbrev pub add_key_wants : List ℕ → Wanted
 add_key_wants body = unless_faulty (λ form. wants.Ask (ask.AddKey form)) (key_form_of_body body)

@@ -1,5 +1,5 @@
 -- What machines want.
-use Rattle.std.specs.Prelude.{ℕ, List, Bool, not, ◌&&◌, Option, None, Some, codes, if◌then◌else◌, replicate}
+use Rattle.std.specs.Prelude.{ℕ, List, not, ◌&&◌, Option, None, Some, codes, if◌then◌else◌, replicate}
 use Rattle.std.specs.Str.{bytes_eq}
 use Rattle.tail_base.specs.Keys.{key_of_text}
 use Rattle.tail_base.specs.declared.key.MachineKey.{MachineKey}

@@ -1,6 +1,6 @@
 //! What operators ask.
-ghost use Rattle.std.specs.Prelude.{◌≡◌, ◌≤◌, IfOk, length, option_map, true};
-ghost use Rattle.desk_front.specs.AdminWants.{add_key_wants, add_user_wants, admin_wants, admit_wants, drop_user_wants, expire_node_wants, is_authorized, rename_wants, set_tags_wants, sweep_wants, utf8_text};
+ghost use Rattle.std.specs.Prelude.{◌≡◌, IfOk};
+ghost use Rattle.desk_front.specs.AdminWants.{add_key_wants, add_user_wants, admin_wants, admit_wants, drop_user_wants, expire_node_wants, is_authorized, rename_wants, set_tags_wants, sweep_wants};
 ghost use Rattle.desk_front.specs.Faults.{fault_answer};
 ghost use Rattle.desk_front.specs.Wants.{IsSound};
 
@@ -12,6 +12,7 @@ use admin_wire::{
     read_tags_form, read_user_form,
 };
 use desk_state::Ask;
+use path_routes::text_of;
 use std::alloc::Global;
 use tail_base::{Bytes, NoMemory, Text};
 
@@ -39,21 +40,11 @@ fn add_user_wants(alloc: Global, body: &[u8]) -> Result<Wanted, NoMemory>
     }
 }
 
-/// The text that bytes are, if they are UTF-8.
-fn utf8_text(bytes: &[u8]) -> Option<&str>
-    ensures value { option_map (λ t. t.now) result ≡ utf8_text bytes.now }
-{
-    match str::from_utf8(bytes) {
-        Ok(text) => Some(text),
-        Err(_) => None,
-    }
-}
-
 fn drop_user_wants(alloc: Global, owner: &[u8]) -> Result<Wanted, NoMemory>
     ensures value { IfOk result (λ w. w ≡ drop_user_wants owner.now) }
     ensures sound { IfOk result IsSound }
 {
-    match utf8_text(owner) {
+    match text_of(owner) {
         Some(login) => Ok(Wanted::Ask(Ask::DropUser {
             login: Text::from_str(alloc, login)?,
         })),

@@ -1,4 +1,5 @@
 pub mod Asks
+pub mod Changes
 pub mod Lines
 pub mod Rulings
 pub mod State

@@ -8,6 +8,7 @@ use Rattle.net_rows.specs.Shelf.{put_row, row_at, without}
 use Rattle.net_rows.specs.declared.change.RowKey.{RowKey}
 use Rattle.net_rows.specs.declared.change.RowKey.TheVariants as gone
 use Rattle.net_rows.specs.declared.machine.Machine.{Machine}
+use Rattle.net_rows.specs.declared.pending.Pending.{Pending}
 use Rattle.net_rows.specs.declared.settings.SettingsFields.{SettingsFields}
 use Rattle.desk_state.specs.declared.presence.Presence.{Presence}
 use Rattle.desk_state.specs.declared.presence.Presence.TheVariants.{Online, OfflineSince}
@@ -32,6 +33,10 @@ is_ahead now (Some end) = int_lt now end
 -- so many seconds have passed since then
 abbrev pub is_past : ℤ → ℤ → ℕ → Bool
 is_past now since seconds = not (int_lt now (later_by seconds since))
+
+-- the time of a machine that waits has passed
+abbrev pub is_overdue : State → Pending → Bool
+is_overdue s p = is_past s.now p.made s.settings.pending_seconds
 
 -- an ephemeral machine is still there: it is online, or went offline not long ago
 abbrev pub stays : SettingsFields → ℤ → Presence → Bool

@@ -3,6 +3,7 @@
 #![tactic(auto)]
 
 mod ask;
+mod changes;
 mod decision;
 mod life;
 mod lines;
@@ -13,8 +14,9 @@ mod texts;
 mod users;
 
 pub use ask::{Ask, KeyForm, needs_words};
+pub use changes::machine_gone;
 pub use decision::{Decision, Stop};
-pub use life::{Snapshot, is_ahead, is_live, is_live_with, is_online, is_past, presence_of};
+pub use life::{Snapshot, is_ahead, is_live, is_live_with, is_online, is_overdue, presence_of};
 pub use lines::{KeyLine, NodeLine, key_line, login_of, node_line, offline_line};
 pub use presence::{MachinePresence, Presence};
 pub use reply::{Answer, Refusal, Reply, Scarce};

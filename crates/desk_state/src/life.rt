@@ -1,10 +1,10 @@
 //! What an event sees of the state, and which machines are live in it.
 ghost use Rattle.std.specs.Prelude.{◌≡◌, Some};
-ghost use Rattle.desk_state.specs.State.{State, is_ahead, is_live, is_live_with, is_online, is_past, presence_of, stays, stays_with};
+ghost use Rattle.desk_state.specs.State.{State, is_ahead, is_live, is_live_with, is_online, is_overdue, is_past, presence_of, stays, stays_with};
 
 use crate::presence::{MachinePresence, Presence};
 use moments::Moment;
-use net_rows::{Machine, Settings, SettingsFields, Tables};
+use net_rows::{Machine, Pending, Settings, SettingsFields, Tables};
 use std::marker::Model;
 
 /// The state at an event's moment, as its decision sees it.
@@ -35,10 +35,17 @@ pub fn is_ahead(now: Moment, end: Option<Moment>) -> bool
 }
 
 /// Whether this many seconds have passed since then.
-pub fn is_past(now: Moment, since: Moment, seconds: u32) -> bool
+fn is_past(now: Moment, since: Moment, seconds: u32) -> bool
     ensures value { result ≡ is_past now since seconds }
 {
     !now.is_before(since.plus(seconds))
+}
+
+/// Whether the time of a machine that waits has passed.
+pub fn is_overdue(at: &Snapshot<'_>, entry: &Pending) -> bool
+    ensures value { result ≡ is_overdue at.now entry.now }
+{
+    is_past(at.time, entry.made, at.settings.fields().pending_seconds)
 }
 
 fn stays(settings: &SettingsFields, now: Moment, presence: &Presence) -> bool

@@ -9,7 +9,7 @@ use Rattle.net_rows.specs.declared.pending.Pending.{Pending}
 use Rattle.net_rows.specs.declared.rows.Rows.{Rows}
 use Rattle.net_rows.specs.declared.user.User.{User}
 use Rattle.net_rows.proofs.Members.{find_member}
-use Rattle.desk_state.specs.State.{State}
+use Rattle.desk_state.specs.State.{State, is_overdue}
 use Rattle.desk_state.specs.Steps.{or_refuse, refuse_if}
 use Rattle.desk_state.specs.Users.{tags_defined, user_named, user_of}
 use Rattle.desk_state.specs.declared.reply.Refusal.TheVariants.{NodeKeyTaken, PendingUnknown, TagUndefined, UnknownUser}
@@ -18,7 +18,6 @@ use Rattle.desk_state.proofs.TagLemmas.{length-sorted_once}
 use Rattle.machine_asks.specs.Admit.{admit, admitted, awaited, timely_entry}
 use Rattle.machine_asks.specs.Holds.{SettingsHold}
 use Rattle.machine_asks.specs.Rows.{is_taken, place_for}
-use Rattle.machine_asks.specs.Waiting.{is_overdue}
 use Rattle.machine_asks.specs.declared.place.Place.{Place}
 use Rattle.machine_asks.proofs.Proper.{IsProper, proper_bind, proper_changes, proper_refuse}
 use Rattle.machine_asks.proofs.RowLemmas.{EntrantKeeps, enter_sound, place_ruled}

@@ -10,9 +10,10 @@ use Rattle.net_rows.specs.declared.machine.Machine.{Machine}
 use Rattle.net_rows.proofs.SoundRemove.{sound_without_machine}
 use Rattle.wire_json.specs.Short.{IsShortForm}
 use Rattle.wire_json.specs.declared.register.Register.{Register}
+use Rattle.desk_state.specs.Changes.{machine_gone}
 use Rattle.desk_state.specs.State.{State, is_ahead}
 use Rattle.desk_state.specs.declared.reply.Refusal.TheVariants.{NodeKeyTaken, UnknownMachine}
-use Rattle.machine_asks.specs.Logout.{ended, is_logout, logged_out, logout, logout_of, rotated, rotates, row_gone}
+use Rattle.machine_asks.specs.Logout.{ended, is_logout, logged_out, logout, logout_of, rotated, rotates}
 use Rattle.machine_asks.specs.Register.{arrive, enter, register, repeated, repeats, unkeyed, unrepeated}
 use Rattle.machine_asks.specs.Rows.{is_taken, row_replaced}
 use Rattle.machine_asks.specs.Holds.{SettingsHold}
@@ -64,7 +65,7 @@ rotated_sound s mk node m sound found free =
 logout_of_proper : (s : State) (m : Machine) → AreSound s.rows → Contains s.rows.machines m → IsProper s (Ok (logout_of s m))
 logout_of_proper s m sound inside =
     proper_choice s m.ephemeral _ _
-    (λ _. proper_changes s (row_gone s.rows m) _ _ (sound_without_machine s.rows m.id sound))
+    (λ _. proper_changes s (machine_gone s.rows m.id) _ _ (sound_without_machine s.rows m.id sound))
     (λ _. proper_choice s (is_ahead s.now m.expiry) _ _
     (λ _. proper_changes s (row_replaced s.rows (ended s m)) _ _ (ended_sound s m sound inside))
     (λ _. proper_only s (logged_out s m)))

@@ -4,7 +4,7 @@ use Rattle.net_rows.specs.Rows.{machine_of, pending_with}
 use Rattle.net_rows.specs.declared.machine.Machine.{Machine}
 use Rattle.net_rows.specs.declared.pending.Pending.{Pending}
 use Rattle.desk_state.specs.Lines.{offline_line}
-use Rattle.desk_state.specs.State.{State}
+use Rattle.desk_state.specs.State.{State, is_overdue}
 use Rattle.desk_state.specs.Steps.{◌>>=◌, or_refuse, refuse_if}
 use Rattle.desk_state.specs.Tags.{sorted_once}
 use Rattle.desk_state.specs.Users.{tags_defined, user_named}
@@ -14,7 +14,6 @@ use Rattle.desk_state.specs.declared.reply.Answer.TheVariants.{Node}
 use Rattle.desk_state.specs.declared.reply.Refusal.{Refusal}
 use Rattle.desk_state.specs.declared.reply.Refusal.TheVariants.{NodeKeyTaken, PendingUnknown}
 use Rattle.machine_asks.specs.Rows.{expiry_of, is_taken, machine_row, place_for, row_change}
-use Rattle.machine_asks.specs.Waiting.{is_overdue}
 use Rattle.machine_asks.specs.declared.entrant.Entrant.{Entrant}
 
 -- the entry of that text whose time hasn't passed

@@ -1,12 +1,10 @@
 -- A machine logs out, or takes another node key.
-use Rattle.std.specs.Prelude.{ℤ, Bool, true, false, [], ◌∷◌, Option, Some, None, Result, Ok, Err, not, ◌&&◌, if◌then◌else◌}
+use Rattle.std.specs.Prelude.{ℤ, Bool, true, false, [], Option, Some, None, Result, Ok, Err, not, ◌&&◌, if◌then◌else◌}
 use Rattle.std.specs.Str.{bytes_eq}
 use Rattle.tail_base.specs.declared.key.NodeKey.{NodeKey}
-use Rattle.net_rows.specs.declared.rows.Rows.{Rows}
-use Rattle.net_rows.specs.declared.change.Change.{Change}
-use Rattle.net_rows.specs.declared.change.RowKey.TheVariants as gone
 use Rattle.net_rows.specs.declared.machine.Machine.{Machine}
 use Rattle.map_delta.specs.Profiles.{profile_of}
+use Rattle.desk_state.specs.Changes.{machine_gone}
 use Rattle.desk_state.specs.State.{State, is_ahead, is_live}
 use Rattle.desk_state.specs.declared.decision.Decision.{Decision}
 use Rattle.desk_state.specs.declared.decision.Decision.TheVariants.{Only, Changes}
@@ -20,10 +18,6 @@ use Rattle.machine_asks.specs.Rows.{online_ids, row_replaced}
 abbrev pub is_logout : State → Option ℤ → Bool
 is_logout s expiry = not (is_ahead s.now expiry)
 
--- the machine's row goes
-abbrev pub row_gone : Rows → Machine → Change
-row_gone t m = record { puts = []; gone = gone.Machine m.id ∷ []; next = t.next }
-
 -- the row whose life ends now
 abbrev pub ended : State → Machine → Machine
 ended s m = record m { expiry = Some s.now }
@@ -33,7 +27,7 @@ logged_out s m = Registered (profile_of s.rows.users m.user) true
 
 -- an ephemeral machine goes
 abbrev pub removed : State → Machine → Decision
-removed s m = Changes (row_gone s.rows m) [] (logged_out s m)
+removed s m = Changes (machine_gone s.rows m.id) [] (logged_out s m)
 
 -- the life of another one ends now
 abbrev pub closed : State → Machine → Decision

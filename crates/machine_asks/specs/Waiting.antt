@@ -11,7 +11,7 @@ use Rattle.net_rows.specs.declared.change.Row.TheVariants as row
 use Rattle.net_rows.specs.declared.pending.Pending.{Pending}
 use Rattle.net_rows.specs.declared.rows.Rows.{Rows}
 use Rattle.wire_json.specs.declared.register.Register.{Register}
-use Rattle.desk_state.specs.State.{State, is_past}
+use Rattle.desk_state.specs.State.{State, is_overdue}
 use Rattle.desk_state.specs.Steps.{◌>>=◌, or_refuse, refuse_if}
 use Rattle.desk_state.specs.Texts.{row_text}
 use Rattle.desk_state.specs.declared.decision.Decision.{Decision}
@@ -21,10 +21,6 @@ use Rattle.desk_state.specs.declared.reply.Refusal.{Refusal}
 use Rattle.desk_state.specs.declared.reply.Refusal.TheVariants.{EntropyFault, Full}
 use Rattle.desk_state.specs.declared.reply.Scarce.TheVariants as scarce
 use Rattle.machine_asks.specs.Rows.{pending_gone}
-
--- the entry's time has passed
-abbrev pub is_overdue : State → Pending → Bool
-is_overdue s p = is_past s.now p.made s.settings.pending_seconds
 
 -- the entry is this node key's, and its time hasn't passed
 abbrev pub waits : State → NodeKey → Pending → Bool

@@ -8,9 +8,9 @@ use crate::entrant::{Entrant, expiry_of};
 use crate::holds::keep_rules;
 use crate::place::{is_taken, place_for};
 use crate::rows::{machine_row, row_change};
-use crate::waiting::is_overdue;
 use desk_state::{
-    Answer, Decision, Refusal, Snapshot, Stop, offline_line, sorted_once, tags_defined, user_named,
+    Answer, Decision, Refusal, Snapshot, Stop, is_overdue, offline_line, sorted_once, tags_defined,
+    user_named,
 };
 use net_rows::{Machine, Pending};
 use std::alloc::Global;

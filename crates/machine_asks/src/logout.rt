@@ -5,10 +5,10 @@ ghost use Rattle.desk_state.specs.Steps.{Gives};
 ghost use Rattle.machine_asks.specs.Logout as spec;
 
 use crate::rows::{online_ids, row_replaced};
-use desk_state::{Answer, Decision, Refusal, Snapshot, Stop, is_ahead, is_live};
+use desk_state::{Answer, Decision, Refusal, Snapshot, Stop, is_ahead, is_live, machine_gone};
 use map_delta::profile_of;
 use moments::Moment;
-use net_rows::{Change, Machine, RowKey, Tables};
+use net_rows::Machine;
 use std::alloc::Global;
 use tail_base::{Duplicate, Items, NoMemory, NodeKey};
 
@@ -17,18 +17,6 @@ pub(crate) fn is_logout(at: &Snapshot<'_>, expiry: Option<Moment>) -> bool
     ensures value { result ≡ spec.is_logout at.now expiry }
 {
     !is_ahead(at.time, expiry)
-}
-
-fn row_gone(alloc: Global, tables: &Tables, row: &Machine) -> Result<Change, NoMemory>
-    ensures value { IfOk result (λ c. c ≡ spec.row_gone tables.now.rows row.now) }
-{
-    let mut gone = Items::new(alloc);
-    gone.push(RowKey::Machine(row.id))?;
-    Ok(Change {
-        puts: Items::new(alloc),
-        gone,
-        next: tables.next(),
-    })
 }
 
 fn ended(alloc: Global, at: &Snapshot<'_>, row: &Machine) -> Result<Machine, NoMemory>
@@ -52,7 +40,7 @@ fn removed(alloc: Global, at: &Snapshot<'_>, row: &Machine) -> Result<Decision, 
     ensures value { IfOk result (λ d. d ≡ spec.removed at.now row.now) }
 {
     Ok(Decision::Changes {
-        change: row_gone(alloc, at.tables, row)?,
+        change: machine_gone(alloc, at.tables, row.id)?,
         offline: Items::new(alloc),
         answer: logged_out(alloc, at, row)?,
     })

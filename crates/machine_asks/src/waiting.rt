@@ -7,18 +7,11 @@ ghost use Rattle.net_rows.specs.declared.pending.Pending.{Pending};
 ghost use Rattle.machine_asks.specs.Waiting as spec;
 
 use crate::rows::pending_gone;
-use desk_state::{Answer, Decision, Refusal, Scarce, Snapshot, Stop, is_past, row_text};
+use desk_state::{Answer, Decision, Refusal, Scarce, Snapshot, Stop, is_overdue, row_text};
 use net_rows::{COUNTER_LIMIT, Change, Counters, PENDING_LIMIT, Pending, Row, Tables};
 use std::alloc::Global;
 use tail_base::{Duplicate, Items, MachineKey, NoMemory, NodeKey};
 use wire_json::Register;
-
-/// Whether the time of an entry has passed.
-pub(crate) fn is_overdue(at: &Snapshot<'_>, entry: &Pending) -> bool
-    ensures value { result ≡ spec.is_overdue at.now entry.now }
-{
-    is_past(at.time, entry.made, at.settings.fields().pending_seconds)
-}
 
 fn waits(at: &Snapshot<'_>, node: &NodeKey, entry: &Pending) -> bool
     ensures value { result ≡ spec.waits at.now node.now entry.now }

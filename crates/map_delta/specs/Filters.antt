@@ -1,5 +1,5 @@
 -- The packet filter of a machine where no policy is in force (`tailcfg.FilterRule`).
-use Rattle.std.specs.Prelude.{ℕ, List, [], ◌∷◌, map}
+use Rattle.std.specs.Prelude.{List, [], ◌∷◌, map}
 use Rattle.net_addr.specs.Bits.{Block}
 use Rattle.net_rows.specs.declared.machine.Machine.{Machine}
 use Rattle.port_sets.specs.declared.range.PortRange.{PortRange}

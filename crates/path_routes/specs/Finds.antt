@@ -16,7 +16,7 @@ with_id path r =
     if has_id r then option_map (λ id. record { route = r; id = id }) (id_of (owner_in path r))
     else Some (record { route = r; id = 0 })
 
--- the text that a path is, if it is UTF-8
+-- the text that a path, or a segment of one, is, if it is UTF-8
 abbrev pub text_of : List ℕ → Option (List ℕ)
 text_of path = if is_utf8 path then Some path else None
 

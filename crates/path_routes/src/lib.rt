@@ -7,7 +7,7 @@ mod route;
 mod segments;
 
 pub use found::Found;
-pub use paths::{Paths, owner_in};
+pub use paths::{Paths, owner_in, text_of};
 pub use route::Route;
 
 #[cfg(test)]

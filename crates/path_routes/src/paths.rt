@@ -101,8 +101,8 @@ impl Paths {
     }
 }
 
-/// The text that a path is, if it is UTF-8.
-fn text_of(path: &[u8]) -> Option<&str>
+/// The text that a path, or a segment of one, is, if it is UTF-8.
+pub fn text_of(path: &[u8]) -> Option<&str>
     ensures value { option_map (λ t. t.now) result ≡ text_of path.now }
 {
     match str::from_utf8(path) {

@@ -2,12 +2,12 @@
 use Rattle.std.specs.Prelude.{◌≡◌, ℕ, false, Option, None, Some, List, IfSome}
 use Rattle.io_edge.specs.Edge.{IsWhereTold}
 use Rattle.tail_words.specs.Words.{CommandWords, serves, checks_policy}
-use Rattle.tailnetd.specs.Check.{Checked, check_line}
-use Rattle.tailnetd.specs.Lines.{Noted, usage_line}
-use Rattle.tailnetd.specs.Pipe.{Outcome}
-use Rattle.tailnetd.specs.Run.{Untouched, World}
-use Rattle.tailnetd.specs.declared.status.Status.{Status}
-use Rattle.tailnetd.specs.declared.status.Status.TheVariants as status
+use Rattle.tailnet_commands.specs.Check.{Checked, check_line}
+use Rattle.tailnet_commands.specs.Lines.{Noted, usage_line}
+use Rattle.tailnet_commands.specs.Pipe.{Outcome}
+use Rattle.tailnet_commands.specs.Run.{Untouched, World}
+use Rattle.tailnet_commands.specs.declared.status.Status.{Status}
+use Rattle.tailnet_commands.specs.declared.status.Status.TheVariants as status
 
 -- nothing was read from the input, and the kept rows are as before
 pub record Unread (old new : World) : Type 0 where

@@ -1,26 +1,13 @@
 //! `tailnetd`: the control server of a private tailnet.
 #![tactic(auto)]
 
-mod answering;
-mod checking;
-mod closed;
-mod conversing;
-mod ended;
-mod law;
-mod noting;
-mod piping;
-mod running;
-mod serving;
-mod status;
 #[cfg(test)]
 mod tests;
 mod top;
-mod writing;
+mod wordless;
 
-use crate::ended::Ended;
-use crate::noting::note;
-use crate::status::Status;
 use crate::top::tailnetd;
+use crate::wordless::end_wordless;
 use io_edge::{HostClock, HostEntropy, HostFiles, NoDoors, NoLink, NoPause, ReadSource, WriteSink};
 use net_rows::Tables;
 use row_keeper::MemoryOpener;
@@ -44,8 +31,8 @@ fn main(rt: HostRuntime) -> ExitCode {
     let words = match words_of(&rt) {
         Ok(words) => words,
         Err(error) if error.kind() == ErrorKind::OutOfMemory => {
-            note(alloc, &mut WriteSink::new(rt.stderr()), &Ended::NoMemory);
-            return ExitCode::from(Status::NoMemory as u8);
+            let status = end_wordless(alloc, &mut WriteSink::new(rt.stderr()));
+            return ExitCode::from(status as u8);
         }
         // A word that isn't UTF-8 is no word of a command, and no words are none either.
         Err(_) => Vec::new(alloc),

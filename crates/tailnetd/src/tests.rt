@@ -9,14 +9,14 @@ mod rows;
 mod talks;
 mod words;
 
-use crate::piping::pipe_command;
-use crate::status::Status;
 use io_edge::{MemoryClock, MemoryEntropy, MemoryFiles, MemorySink, MemorySource, NamedBytes};
 use net_rows::Tables;
 use row_keeper::MemoryOpener;
 use std::alloc::Global;
+use std::process::Abort;
 use std::test::Fail;
 use tail_base::{Bytes, Items, NoMemory, Text};
+use tailnet_commands::{Status, pipe_command};
 
 pub(crate) const SETTINGS: &[u8] =
     b"base_domain = \"tail.example\"\nserver_url = \"http://tail.example\"\ntoken = \"secret\"\n";
@@ -30,6 +30,26 @@ pub(crate) struct Plan {
     pub file: u32,
     pub open: u32,
     pub keep: u32,
+    pub word: u32,
+}
+
+impl Plan {
+    /// Plans a failure: `keep 4` is the keeper's fourth call.
+    pub(crate) fn fail(&mut self, text: &str) -> Option<()> {
+        let (object, call) = text.split_once(" ")?;
+        let call = call.parse::<u32>().ok()?;
+        match object {
+            "read" => self.read = call,
+            "write" => self.write = call,
+            "error" => self.error = call,
+            "file" => self.file = call,
+            "open" => self.open = call,
+            "keep" => self.keep = call,
+            "word" => self.word = call,
+            _ => return None,
+        }
+        Some(())
+    }
 }
 
 /// Nothing fails.
@@ -40,6 +60,7 @@ pub(crate) const CALM: Plan = Plan {
     file: 0,
     open: 0,
     keep: 0,
+    word: 0,
 };
 
 /// What a run left.
@@ -69,16 +90,10 @@ fn files_of(alloc: Global, text: &[u8], call: u32) -> Result<MemoryFiles, NoMemo
     Ok(MemoryFiles::new(files, failing(alloc, call)?))
 }
 
-fn clock_of(alloc: Global) -> Result<MemoryClock, NoMemory> {
-    let mut answers = Items::new(alloc);
-    answers.push(1_000_000_000)?;
-    Ok(MemoryClock::new(answers))
-}
-
-fn entropy_of(alloc: Global) -> Result<MemoryEntropy, NoMemory> {
+fn entropy_of(alloc: Global, call: u32) -> Result<MemoryEntropy, NoMemory> {
     let mut answers = Items::new(alloc);
     answers.push([1, 2, 3, 4])?;
-    Ok(MemoryEntropy::new(answers, Items::new(alloc)))
+    Ok(MemoryEntropy::new(answers, failing(alloc, call)?))
 }
 
 fn opener_of(alloc: Global, plan: &Plan) -> Result<MemoryOpener, NoMemory> {
@@ -90,9 +105,22 @@ fn opener_of(alloc: Global, plan: &Plan) -> Result<MemoryOpener, NoMemory> {
     ))
 }
 
-/// Runs `pipe tailnet.toml --seed k1` over the bytes, with this text in the file.
+/// Runs `pipe tailnet.toml --seed k1` over the bytes, with this text in the file, at 2001-09-09T01:46:40Z.
 pub(crate) fn piped(
     alloc: Global,
+    settings: &[u8],
+    input: &[u8],
+    plan: &Plan,
+) -> Result<Ran, NoMemory> {
+    let mut moments = Items::new(alloc);
+    moments.push(1_000_000_000)?;
+    piped_at(alloc, moments, settings, input, plan)
+}
+
+/// The same with these answers of the clock.
+pub(crate) fn piped_at(
+    alloc: Global,
+    moments: Items<i64>,
     settings: &[u8],
     input: &[u8],
     plan: &Plan,
@@ -110,8 +138,8 @@ pub(crate) fn piped(
         &mut errors,
         &mut files_of(alloc, settings, plan.file)?,
         &mut opener,
-        &mut clock_of(alloc)?,
-        &mut entropy_of(alloc)?,
+        &mut MemoryClock::new(moments),
+        &mut entropy_of(alloc, plan.word)?,
     );
     let machines = opener.tables().machines().len();
     Ok(Ran {
@@ -146,89 +174,56 @@ const THEN_TAKEN: &[u8] =
 const REGISTERED_THEN_TAKEN: &[u8] =
     b"HTTP/1.1 200 OK\r\nContent-Type: application/json\r\nContent-Length: 147\r\n\r\n{\"AuthURL\":\"\",\"Error\":\"\",\"Login\":{\"ID\":1,\"LoginName\":\"seed@\"},\"MachineAuthorized\":true,\"NodeKeyExpired\":false,\"User\":{\"DisplayName\":\"seed\",\"ID\":1}}HTTP/1.1 409 Conflict\r\nContent-Type: application/json\r\nContent-Length: 24\r\n\r\n{\"error\":\"NodeKeyTaken\"}";
 
-/// One input, the status, the output and errors that it has to give, and how many machines it makes.
-#[derive(Drop)]
-struct Row {
-    input: &'static [u8],
+/// Asserts that a run over the input comes to this, with so many machines.
+fn assert_run(
+    rt: &impl Abort,
+    alloc: Global,
+    input: &[u8],
     status: Status,
-    output: &'static [u8],
-    errors: &'static [u8],
+    output: &[u8],
     machines: usize,
-}
-
-/// Whether a run left what the row says.
-fn meets(ran: &Ran, row: &Row) -> bool {
-    ran.status == row.status
-        && ran.output.bytes() == row.output
-        && ran.errors.bytes() == row.errors
-        && ran.machines == row.machines
+) -> Result<(), NoMemory> {
+    let line = match status {
+        Status::Ok => b"".as_slice(),
+        _ => b"tailnetd: closed early\n".as_slice(),
+    };
+    let ran = piped(alloc, SETTINGS, input, &CALM)?;
+    assert!(rt; ran.status == status);
+    assert!(rt; ran.output.bytes() == output);
+    assert!(rt; ran.errors.bytes() == line);
+    assert_eq!(rt; ran.machines, machines);
+    Ok(())
 }
 
 #[test]
-fn rows_of_pipe(rt: HostRuntime) -> Result<(), Fail> {
-    let rows = [
-        Row {
-            input: b"",
-            status: Status::Ok,
-            output: b"",
-            errors: b"",
-            machines: 0,
-        },
-        Row {
-            input: FIRST,
-            status: Status::Ok,
-            output: REGISTERED,
-            errors: b"",
-            machines: 1,
-        },
-        Row {
-            input: TWICE,
-            status: Status::Ok,
-            output: REGISTERED_TWICE,
-            errors: b"",
-            machines: 1,
-        },
-        Row {
-            input: THEN_TAKEN,
-            status: Status::Ok,
-            output: REGISTERED_THEN_TAKEN,
-            errors: b"",
-            machines: 1,
-        },
-        Row {
-            input: UNKNOWN_KEY,
-            status: Status::Ok,
-            output: KEY_UNKNOWN,
-            errors: b"",
-            machines: 0,
-        },
-        Row {
-            input: b"POST /machine/register HTTP/1.1\r\nHost: x\r\nContent-Length: 100\r\n\r\nxxxxxxxxxxxxxxxxxxxxxxxxxxxxxxxxxxxxxxxx",
-            status: Status::Early,
-            output: b"",
-            errors: b"tailnetd: closed early\n",
-            machines: 0,
-        },
-        Row {
-            input: b"GET /x HTTP/1.1\r\nHost: x\r\n\r\n",
-            status: Status::Ok,
-            output: b"HTTP/1.1 404 Not Found\r\nContent-Type: application/json\r\nContent-Length: 18\r\n\r\n{\"error\":\"NoPath\"}",
-            errors: b"",
-            machines: 0,
-        },
-        Row {
-            input: b"x\r\n\r\n",
-            status: Status::Early,
-            output: b"HTTP/1.1 400 Bad Request\r\nContent-Type: application/json\r\nContent-Length: 19\r\nConnection: close\r\n\r\n{\"error\":\"BadHead\"}",
-            errors: b"tailnetd: closed early\n",
-            machines: 0,
-        },
-    ];
-    for row in rows.iter() {
-        match piped(rt.alloc(), SETTINGS, row.input, &CALM) {
-            Ok(ran) => assert!(rt; meets(&ran, row)),
-            Err(NoMemory) => assert!(rt; false),
-        }
-    }
+fn rows_of_registrations(rt: HostRuntime) -> Result<(), Fail> {
+    let alloc = rt.alloc();
+    assert_run(&rt, alloc, b"", Status::Ok, b"", 0)?;
+    assert_run(&rt, alloc, FIRST, Status::Ok, REGISTERED, 1)?;
+    assert_run(&rt, alloc, TWICE, Status::Ok, REGISTERED_TWICE, 1)?;
+    assert_run(&rt, alloc, THEN_TAKEN, Status::Ok, REGISTERED_THEN_TAKEN, 1)?;
+    assert_run(&rt, alloc, UNKNOWN_KEY, Status::Ok, KEY_UNKNOWN, 0)?;
+    Ok(())
+}
+
+#[test]
+fn rows_of_other_requests(rt: HostRuntime) -> Result<(), Fail> {
+    let alloc = rt.alloc();
+    let cut =
+        b"POST /machine/register HTTP/1.1\r\nHost: x\r\nContent-Length: 100\r\n\r\nxxxxxxxxxxxxxxxxxxxxxxxxxxxxxxxxxxxxxxxx";
+    assert_run(&rt, alloc, cut, Status::Early, b"", 0)?;
+    let no_path =
+        b"HTTP/1.1 404 Not Found\r\nContent-Type: application/json\r\nContent-Length: 18\r\n\r\n{\"error\":\"NoPath\"}";
+    assert_run(
+        &rt,
+        alloc,
+        b"GET /x HTTP/1.1\r\nHost: x\r\n\r\n",
+        Status::Ok,
+        no_path,
+        0,
+    )?;
+    let bad_head =
+        b"HTTP/1.1 400 Bad Request\r\nContent-Type: application/json\r\nContent-Length: 19\r\nConnection: close\r\n\r\n{\"error\":\"BadHead\"}";
+    assert_run(&rt, alloc, b"x\r\n\r\n", Status::Early, bad_head, 0)?;
     Ok(())
 }

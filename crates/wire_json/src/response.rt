@@ -1,12 +1,10 @@
 //! Responses of a map session.
-use crate::copies::copy_of;
 use crate::dns::Dns;
 use crate::filter_rule::FilterRule;
 use crate::node_row::NodeRow;
 use crate::patch::Patch;
 use crate::profile::Profile;
-use std::alloc::Global;
-use tail_base::{Duplicate, Items, NoMemory, Text};
+use tail_base::{Items, Text};
 
 /// One response of a map session (`tailcfg.MapResponse`). What is None or empty isn't written; an
 /// empty filter is.
@@ -31,22 +29,4 @@ pub struct Response {
     pub patches: Items<Patch>,
     /// The users that own the nodes shown.
     pub profiles: Items<Profile>,
-}
-
-impl Duplicate for Response {
-    fn copy(&self, alloc: Global) -> Result<Self, NoMemory> {
-        Ok(Response {
-            handle: copy_of(alloc, &self.handle)?,
-            seq: self.seq,
-            node: copy_of(alloc, &self.node)?,
-            filter: copy_of(alloc, &self.filter)?,
-            dns: copy_of(alloc, &self.dns)?,
-            domain: copy_of(alloc, &self.domain)?,
-            peers: self.peers.copy(alloc)?,
-            changed: self.changed.copy(alloc)?,
-            removed: self.removed.copy(alloc)?,
-            patches: self.patches.copy(alloc)?,
-            profiles: self.profiles.copy(alloc)?,
-        })
-    }
 }

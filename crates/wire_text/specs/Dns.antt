@@ -1,5 +1,5 @@
 -- DNS settings (`tailcfg.DNSConfig`) as JSON, keys in byte order.
-use Rattle.std.specs.Prelude.{ℕ, List, [], ◌∷◌, Bool, fold, if◌then◌else◌, codes}
+use Rattle.std.specs.Prelude.{ℕ, List, fold, if◌then◌else◌, codes}
 use Rattle.serde_json.specs.Data.{Data, string, boolean, object, Members, no_members, member, put}
 use Rattle.net_addr.specs.Bits.{Address}
 use Rattle.net_addr.specs.AddrTexts.{addr_text}

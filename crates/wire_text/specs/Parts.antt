@@ -3,8 +3,7 @@ use Rattle.std.specs.Prelude.{ℕ, ℤ, List, [], ◌∷◌, map, codes, Option,
 use Rattle.serde_json.specs.Data.{Data, number, unsigned, string, array, Members, put}
 use Rattle.serde_json.specs.View.{items_of}
 use Rattle.moments.specs.MomentTexts.{moment_text}
-use Rattle.net_addr.specs.Bits.{Address, Block}
-use Rattle.net_addr.specs.AddrTexts.{addr_text}
+use Rattle.net_addr.specs.Bits.{Block}
 use Rattle.net_addr.specs.PrefixTexts.{prefix_text}
 use Rattle.net_addr.specs.EndpointTexts.{endpoint_text}
 use Rattle.net_addr.specs.declared.endpoint.Endpoint.{Endpoint}

@@ -1,145 +1,84 @@
 //! The rules of reading at their edges, and every cut of an input.
-use crate::status::Status;
 use crate::tests::{CALM, FIRST, REGISTERED_TWICE, SETTINGS, TWICE, piped};
 use std::alloc::Global;
 use std::test::Fail;
 use tail_base::NoMemory;
+use tailnet_commands::Status;
 
-/// A request: its first line and field lines, then more fields, then a body of so many bytes.
-#[derive(Drop)]
-struct Edge {
-    /// The first line and field lines, each with its end.
-    head: &'static str,
-    /// How many field lines `A: b` follow.
-    fields: usize,
-    /// How long the whole head is, if it is filled up by one more field line; 0 is not filled up.
-    length: usize,
-    body: usize,
-    /// The beginning of what is answered.
-    answer: &'static str,
-}
-
-const GET: &str = "GET /x HTTP/1.1\r\nHost: x\r\n";
+/// A line is the status of the answer; how many field lines `A: b` follow; how long the head is where one
+/// more field line fills it up, or 0; how long the body is; and the head, with `|` at each line's end.
+const EDGES: &str = "404 0 0 0 GET /x HTTP/1.1|Host: x|
+404 0 16384 0 GET /x HTTP/1.1|Host: x|
+431 0 16385 0 GET /x HTTP/1.1|Host: x|
+404 63 0 0 GET /x HTTP/1.1|Host: x|
+431 64 0 0 GET /x HTTP/1.1|Host: x|
+431 64 0 0 GET /x HTTP/1.0|Host: x|
+400 0 0 0 GET /x HTTP/1.0|Host: x|
+400 0 0 0 GET /x HTTP/1.1|
+400 0 0 0 GET /x HTTP/1.1|Host: x|Host: x|
+411 0 0 0 GET /x HTTP/1.1|Host: x|Transfer-Encoding: chunked|
+411 0 0 0 PUT /x HTTP/1.1|Host: x|
+404 0 0 0 post /x HTTP/1.1|Host: x|
+404 0 0 0 POST /x HTTP/1.1|Host: x|Content-Length: 0000000000|
+400 0 0 0 POST /x HTTP/1.1|Host: x|Content-Length: 00000000000|
+400 0 0 0 POST /x HTTP/1.1|Host: x|Content-Length: 0|Content-Length: 00|
+404 0 0 1048576 POST /x HTTP/1.1|Host: x|Content-Length: 1048576|
+413 0 0 0 POST /x HTTP/1.1|Host: x|Content-Length: 1048577|";
 
 /// What stands before and behind the filling of a field line.
 const FILLED: usize = 3 + 2 + 2;
 
-fn bytes_of(alloc: Global, edge: &Edge) -> Result<Vec<u8>, NoMemory> {
-    let mut bytes = Vec::from_slice(alloc, edge.head.as_bytes())?;
-    for _field in 0..edge.fields {
+/// So many more bytes.
+fn fill(bytes: &mut Vec<u8>, count: usize) -> Result<(), NoMemory> {
+    for _byte in 0..count {
+        bytes.push(b'x')?;
+    }
+    Ok(())
+}
+
+/// A head, as the table has it, with so many more field lines, filled up to this length.
+fn head_of(alloc: Global, text: &str, fields: usize, length: usize) -> Result<Vec<u8>, NoMemory> {
+    let mut bytes = Vec::new(alloc);
+    for byte in text.bytes() {
+        if byte == b'|' {
+            bytes.extend_from_slice(b"\r\n")?;
+        } else {
+            bytes.push(byte)?;
+        }
+    }
+    for _field in 0..fields {
         bytes.extend_from_slice(b"A: b\r\n")?;
     }
-    if bytes.len() + FILLED <= edge.length {
+    if bytes.len() + FILLED <= length {
         bytes.extend_from_slice(b"P: ")?;
-        for _byte in bytes.len() + 4..edge.length {
-            bytes.push(b'x')?;
-        }
+        let filling = length - bytes.len() - 4;
+        fill(&mut bytes, filling)?;
         bytes.extend_from_slice(b"\r\n")?;
     }
     bytes.extend_from_slice(b"\r\n")?;
-    for _byte in 0..edge.body {
-        bytes.push(b'x')?;
-    }
     Ok(bytes)
 }
 
-/// A request with a head alone.
-const fn plain(head: &'static str, answer: &'static str) -> Edge {
-    Edge {
-        head,
-        fields: 0,
-        length: 0,
-        body: 0,
-        answer,
-    }
-}
-
-/// Whether the request is answered so.
-fn meets(alloc: Global, edge: &Edge) -> Result<bool, NoMemory> {
-    let ran = piped(alloc, SETTINGS, &bytes_of(alloc, edge)?, &CALM)?;
-    let refused = !edge.answer.starts_with("HTTP/1.1 404");
-    let early = ran.status == Status::Early;
-    Ok(ran.output.bytes().starts_with(edge.answer.as_bytes()) && early == refused)
+/// The number before the first space, and what stands behind it.
+fn cut(line: &str) -> Result<(usize, &str), Fail> {
+    let (number, rest) = line.split_once(" ").ok_or("no number")?;
+    Ok((number.parse::<usize>().ok().ok_or("no number")?, rest))
 }
 
 #[test]
 fn rules_of_reading_at_their_edges(rt: HostRuntime) -> Result<(), Fail> {
-    let found = "HTTP/1.1 404 ";
-    let rows = [
-        plain(GET, found),
-        Edge {
-            head: GET,
-            fields: 0,
-            length: 16384,
-            body: 0,
-            answer: found,
-        },
-        Edge {
-            head: GET,
-            fields: 0,
-            length: 16385,
-            body: 0,
-            answer: "HTTP/1.1 431 ",
-        },
-        Edge {
-            head: GET,
-            fields: 63,
-            length: 0,
-            body: 0,
-            answer: found,
-        },
-        Edge {
-            head: GET,
-            fields: 64,
-            length: 0,
-            body: 0,
-            answer: "HTTP/1.1 431 ",
-        },
-        Edge {
-            head: "GET /x HTTP/1.0\r\nHost: x\r\n",
-            fields: 64,
-            length: 0,
-            body: 0,
-            answer: "HTTP/1.1 431 ",
-        },
-        plain("GET /x HTTP/1.0\r\nHost: x\r\n", "HTTP/1.1 400 "),
-        plain("GET /x HTTP/1.1\r\n", "HTTP/1.1 400 "),
-        plain("GET /x HTTP/1.1\r\nHost: x\r\nHost: x\r\n", "HTTP/1.1 400 "),
-        plain(
-            "GET /x HTTP/1.1\r\nHost: x\r\nTransfer-Encoding: chunked\r\n",
-            "HTTP/1.1 411 ",
-        ),
-        plain("PUT /x HTTP/1.1\r\nHost: x\r\n", "HTTP/1.1 411 "),
-        plain("post /x HTTP/1.1\r\nHost: x\r\n", found),
-        plain(
-            "POST /x HTTP/1.1\r\nHost: x\r\nContent-Length: 0000000000\r\n",
-            found,
-        ),
-        plain(
-            "POST /x HTTP/1.1\r\nHost: x\r\nContent-Length: 00000000000\r\n",
-            "HTTP/1.1 400 ",
-        ),
-        plain(
-            "POST /x HTTP/1.1\r\nHost: x\r\nContent-Length: 0\r\nContent-Length: 00\r\n",
-            "HTTP/1.1 400 ",
-        ),
-        Edge {
-            head: "POST /x HTTP/1.1\r\nHost: x\r\nContent-Length: 1048576\r\n",
-            fields: 0,
-            length: 0,
-            body: 1_048_576,
-            answer: found,
-        },
-        plain(
-            "POST /x HTTP/1.1\r\nHost: x\r\nContent-Length: 1048577\r\n",
-            "HTTP/1.1 413 ",
-        ),
-    ];
-    for edge in rows.iter() {
-        match meets(rt.alloc(), edge) {
-            Ok(met) => assert!(rt; met, "{}", edge.answer),
-            Err(NoMemory) => assert!(rt; false),
-        }
+    let alloc = rt.alloc();
+    for line in EDGES.lines() {
+        let (status, rest) = cut(line)?;
+        let (fields, rest) = cut(rest)?;
+        let (length, rest) = cut(rest)?;
+        let (body, head) = cut(rest)?;
+        let mut bytes = head_of(alloc, head, fields, length)?;
+        fill(&mut bytes, body)?;
+        let ran = piped(alloc, SETTINGS, &bytes, &CALM)?;
+        let answer = format!(in alloc; "HTTP/1.1 {status} ")?;
+        assert!(rt; ran.output.bytes().starts_with(answer.as_bytes()), "{line}");
+        assert_eq!(rt; ran.status == Status::Early, status != 404, "{line}");
     }
     Ok(())
 }

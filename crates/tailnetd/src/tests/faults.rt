@@ -1,17 +1,23 @@
 //! One call after the other fails.
-use crate::status::Status;
 use crate::tests::{CALM, Plan, REGISTERED, REGISTERED_TWICE, SETTINGS, TWICE, piped};
+use std::alloc::Global;
 use std::test::Fail;
+use tail_base::NoMemory;
+use tailnet_commands::Status;
 
-/// What fails, the status, what is on the output, and what is on errors.
-#[derive(Drop)]
-struct Row {
-    plan: Plan,
-    settings: &'static [u8],
-    status: Status,
-    output: &'static [u8],
-    errors: &'static [u8],
-}
+/// A line is what fails at which call, the status, what is on the output, and the line on errors.
+const FAULTS: &str = "read 1, read fault, nothing, tailnetd: read fault
+read 2, read fault, registered twice, tailnetd: read fault
+read 3, ok, registered twice,
+write 1, write fault, nothing, tailnetd: write fault
+write 2, write fault, registered, tailnetd: write fault
+write 3, ok, registered twice,
+read 1 and error 1, read fault, nothing,
+file 1, read fault, nothing, tailnetd: read fault
+open 1, keeper fault, nothing, tailnetd: keeper fault
+keep 1, keeper fault, nothing, tailnetd: keeper fault
+keep 2, ok, unknown twice,
+keep 3, ok, fault then registered,";
 
 const KEY_UNKNOWN_TWICE: &[u8] =
     b"HTTP/1.1 401 Unauthorized\r\nContent-Type: application/json\r\nContent-Length: 22\r\n\r\n{\"error\":\"KeyUnknown\"}HTTP/1.1 401 Unauthorized\r\nContent-Type: application/json\r\nContent-Length: 22\r\n\r\n{\"error\":\"KeyUnknown\"}";
@@ -19,96 +25,53 @@ const KEY_UNKNOWN_TWICE: &[u8] =
 const FAULT_THEN_REGISTERED: &[u8] =
     b"HTTP/1.1 500 Internal Server Error\r\nContent-Type: application/json\r\nContent-Length: 23\r\n\r\n{\"error\":\"KeeperFault\"}HTTP/1.1 200 OK\r\nContent-Type: application/json\r\nContent-Length: 147\r\n\r\n{\"AuthURL\":\"\",\"Error\":\"\",\"Login\":{\"ID\":1,\"LoginName\":\"seed@\"},\"MachineAuthorized\":true,\"NodeKeyExpired\":false,\"User\":{\"DisplayName\":\"seed\",\"ID\":1}}";
 
-fn planned(plan: Plan, status: Status, output: &'static [u8], errors: &'static [u8]) -> Row {
-    Row {
-        plan,
-        settings: SETTINGS,
-        status,
-        output,
-        errors,
+fn plan_of(text: &str) -> Option<Plan> {
+    let mut plan = CALM;
+    for failure in text.split(" and ") {
+        plan.fail(failure)?;
+    }
+    Some(plan)
+}
+
+fn status_of(name: &str) -> Status {
+    match name {
+        "ok" => Status::Ok,
+        "read fault" => Status::ReadFault,
+        "write fault" => Status::WriteFault,
+        _ => Status::KeeperFault,
+    }
+}
+
+fn output_of(name: &str) -> &'static [u8] {
+    match name {
+        "registered" => REGISTERED,
+        "registered twice" => REGISTERED_TWICE,
+        "unknown twice" => KEY_UNKNOWN_TWICE,
+        "fault then registered" => FAULT_THEN_REGISTERED,
+        _ => b"",
+    }
+}
+
+/// The line on errors, which isn't there where it has no text.
+fn line_of(alloc: Global, text: &str) -> Result<String, NoMemory> {
+    match text.strip_prefix(" ") {
+        Some(line) => Ok(format!(in alloc; "{line}\n")?),
+        None => Ok(String::new(alloc)),
     }
 }
 
 #[test]
 fn each_call_fails_in_turn(rt: HostRuntime) -> Result<(), Fail> {
-    let rows = [
-        planned(
-            Plan { read: 1, ..CALM },
-            Status::ReadFault,
-            b"",
-            b"tailnetd: read fault\n",
-        ),
-        planned(
-            Plan { read: 2, ..CALM },
-            Status::ReadFault,
-            REGISTERED_TWICE,
-            b"tailnetd: read fault\n",
-        ),
-        planned(Plan { read: 3, ..CALM }, Status::Ok, REGISTERED_TWICE, b""),
-        planned(
-            Plan { write: 1, ..CALM },
-            Status::WriteFault,
-            b"",
-            b"tailnetd: write fault\n",
-        ),
-        planned(
-            Plan { write: 2, ..CALM },
-            Status::WriteFault,
-            REGISTERED,
-            b"tailnetd: write fault\n",
-        ),
-        planned(Plan { write: 3, ..CALM }, Status::Ok, REGISTERED_TWICE, b""),
-        planned(
-            Plan {
-                read: 1,
-                error: 1,
-                ..CALM
-            },
-            Status::ReadFault,
-            b"",
-            b"",
-        ),
-        planned(
-            Plan { file: 1, ..CALM },
-            Status::ReadFault,
-            b"",
-            b"tailnetd: read fault\n",
-        ),
-        planned(
-            Plan { open: 1, ..CALM },
-            Status::KeeperFault,
-            b"",
-            b"tailnetd: keeper fault\n",
-        ),
-        planned(
-            Plan { keep: 1, ..CALM },
-            Status::KeeperFault,
-            b"",
-            b"tailnetd: keeper fault\n",
-        ),
-        planned(Plan { keep: 2, ..CALM }, Status::Ok, KEY_UNKNOWN_TWICE, b""),
-        planned(
-            Plan { keep: 3, ..CALM },
-            Status::Ok,
-            FAULT_THEN_REGISTERED,
-            b"",
-        ),
-        Row {
-            plan: CALM,
-            settings: b"token = 7\n",
-            status: Status::Settings,
-            output: b"",
-            errors: b"tailnetd: settings S3 token\n",
-        },
-    ];
-    for row in rows.iter() {
-        let Ok(ran) = piped(rt.alloc(), row.settings, TWICE, &row.plan) else {
-            assert!(rt; false);
-            return Ok(());
-        };
-        assert!(rt; ran.status == row.status);
-        assert!(rt; ran.output.bytes() == row.output);
-        assert!(rt; ran.errors.bytes() == row.errors);
+    for line in FAULTS.lines() {
+        let (plan, rest) = line.split_once(", ").ok_or("no plan")?;
+        let (status, rest) = rest.split_once(", ").ok_or("no status")?;
+        let (output, errors) = rest.split_once(",").ok_or("no output")?;
+        let plan = plan_of(plan).ok_or("no plan")?;
+        let ran = piped(rt.alloc(), SETTINGS, TWICE, &plan)?;
+        assert!(rt; ran.status == status_of(status), "{line}");
+        assert!(rt; ran.output.bytes() == output_of(output), "{line}");
+        let errors = line_of(rt.alloc(), errors)?;
+        assert!(rt; ran.errors.bytes() == errors.as_bytes(), "{line}");
     }
     Ok(())
 }
@@ -118,10 +81,7 @@ const TOO_LARGE: &[u8] = b"tailnetd: file too large\n";
 #[test]
 fn a_settings_file_may_be_too_large(rt: HostRuntime) -> Result<(), Fail> {
     let text = Vec::from_elem(rt.alloc(), b'\n', 1_048_577)?;
-    let Ok(ran) = piped(rt.alloc(), &text, TWICE, &CALM) else {
-        assert!(rt; false);
-        return Ok(());
-    };
+    let ran = piped(rt.alloc(), &text, TWICE, &CALM)?;
     assert!(rt; ran.status == Status::Settings);
     assert!(rt; ran.errors.bytes() == TOO_LARGE);
     Ok(())

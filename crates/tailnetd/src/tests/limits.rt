@@ -9,6 +9,7 @@ use tail_base::NoMemory;
 enum Filling {
     Users,
     Keys,
+    Machines,
     Pending,
 }
 
@@ -27,6 +28,11 @@ fn request(alloc: Global, filling: Filling, number: u32) -> Result<String, NoMem
                 "POST /api/v1/preauthkey HTTP/1.1\r\n{operator}Content-Length: 16\r\n\r\n{{\"user\":\"seed@\"}}"
             )?
         }
+        Filling::Machines => {
+            format!(in alloc;
+                "{machine}1{number:063}\r\nContent-Length: 110\r\n\r\n{{\"Auth\":{{\"AuthKey\":\"k1\"}},\"NodeKey\":\"nodekey:1{number:063}\"}}"
+            )?
+        }
         Filling::Pending => {
             format!(in alloc;
                 "{machine}1{number:063}\r\nContent-Length: 86\r\n\r\n{{\"NodeKey\":\"nodekey:1{number:063}\"}}"
@@ -41,6 +47,7 @@ fn limit(filling: Filling) -> (u32, &'static [u8]) {
     match filling {
         Filling::Users => (255, b"{\"error\":\"Full\",\"what\":\"User\"}"),
         Filling::Keys => (1023, b"{\"error\":\"Full\",\"what\":\"Key\"}"),
+        Filling::Machines => (512, b"{\"error\":\"Full\",\"what\":\"Machine\"}"),
         Filling::Pending => (256, b"{\"error\":\"Full\",\"what\":\"Pending\"}"),
     }
 }
@@ -67,7 +74,12 @@ fn filled(alloc: Global, filling: Filling) -> Result<(u32, bool), NoMemory> {
 
 #[test]
 fn one_row_more_than_there_may_be(rt: HostRuntime) -> Result<(), Fail> {
-    for filling in [Filling::Users, Filling::Keys, Filling::Pending] {
+    for filling in [
+        Filling::Users,
+        Filling::Keys,
+        Filling::Machines,
+        Filling::Pending,
+    ] {
         let (served, refused) = filled(rt.alloc(), filling)?;
         assert!(rt; served == limit(filling).0, "{served}");
         assert!(rt; refused, "{served}");

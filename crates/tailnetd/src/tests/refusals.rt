@@ -215,7 +215,7 @@ const REFUSALS: &str = r#"= logins
 > POST /api/v1/user Bearer/secret {"name":"bob"}
 < 200 {"id":3,"login":"bob@"}
 = entropy-fault-of-a-key
-! words 2
+! word 2
 > POST /api/v1/preauthkey Bearer/secret {"user":"bob@"}
 < 404 {"error":"UnknownUser"}
 > POST /api/v1/preauthkey Bearer/secret {"user":"seed@"}
@@ -225,7 +225,7 @@ const REFUSALS: &str = r#"= logins
 > POST /api/v1/preauthkey Bearer/secret {"user":"seed@"}
 < 200 {"ephemeral":false,"expiry":"0001-01-01T00:00:00Z","id":2,"key":"tnkey-2-0000000000000001000000000000000200000000000000030000000000000004","reusable":false,"tags":[],"used":false,"user":"seed@"}
 = entropy-fault-of-a-waiting-machine
-! words 1
+! word 1
 > POST /machine/register mkey:%1 {"NodeKey":"nodekey:%a"}
 < 500 {"error":"EntropyFault"}
 > GET /api/v1/register Bearer/secret

@@ -1,29 +1,24 @@
 //! Conversations as lines of a text, and whether `pipe` holds them so.
 //!
 //! `= name` begins a conversation. Before its first request may stand `: key = value`, a line more in its settings,
-//! `@ 1 2 3`, the clock's answers, and `! keep 4` or `! words 1`, the call of the keeper or of the random source that
+//! `@ 1 2 3`, the clock's answers, and `! keep 4` or `! word 1`, the call of the keeper or of the random source that
 //! fails. Then `> METHOD PATH CALLER BODY` is a request and `< STATUS BODY` an answer.
 //!
 //! A caller is `Bearer/TOKEN`, a machine key, or `-` for none. `%x` stands for 64 times `x`, a request's body `*7` for
 //! a length without a body, an answer's body `#…` for a framed one, and `< registered` for the answer to a registration
 //! of the seed's user.
-use crate::piping::pipe_command;
-use crate::status::Status;
-use crate::tests::SETTINGS;
-use io_edge::{MemoryClock, MemoryEntropy, MemoryFiles, MemorySink, MemorySource, NamedBytes};
-use net_rows::Tables;
-use row_keeper::MemoryOpener;
+use crate::tests::{CALM, Plan, SETTINGS, piped_at};
 use std::alloc::Global;
 use std::process::Abort;
-use tail_base::{Bytes, Items, NoMemory, Text};
+use tail_base::{Items, NoMemory, Text};
+use tailnet_commands::Status;
 
 /// What the program is given, and what it has to answer.
 #[derive(Drop)]
 struct Talk {
     settings: Vec<u8>,
     moments: Items<i64>,
-    keeper_fails: Items<u32>,
-    word_fails: Items<u32>,
+    plan: Plan,
     input: Vec<u8>,
     output: Vec<u8>,
     /// Whether the last answer ends the connection.
@@ -38,8 +33,7 @@ fn new_talk(alloc: Global) -> Result<Talk, NoMemory> {
     Ok(Talk {
         settings: Vec::from_slice(alloc, SETTINGS)?,
         moments: Items::new(alloc),
-        keeper_fails: Items::new(alloc),
-        word_fails: Items::new(alloc),
+        plan: CALM,
         input: Vec::new(alloc),
         output: Vec::new(alloc),
         early: false,
@@ -171,19 +165,6 @@ fn add_answer(alloc: Global, output: &mut Vec<u8>, line: &str) -> Result<bool, N
     Ok(ends)
 }
 
-/// The call that fails.
-fn add_failing(talk: &mut Talk, line: &str) -> Result<(), NoMemory> {
-    let (what, call) = cut(line);
-    let Ok(call) = call.parse::<u32>() else {
-        return Ok(());
-    };
-    if what == "keep" {
-        talk.keeper_fails.push(call)
-    } else {
-        talk.word_fails.push(call)
-    }
-}
-
 fn add_moments(moments: &mut Items<i64>, line: &str) -> Result<(), NoMemory> {
     for word in line.split(" ") {
         if let Ok(moment) = word.parse::<i64>() {
@@ -202,20 +183,13 @@ fn add_line(alloc: Global, talk: &mut Talk, line: &str) -> Result<(), NoMemory> 
             talk.settings.push(b'\n')?;
         }
         "@" => add_moments(&mut talk.moments, rest)?,
-        "!" => add_failing(talk, rest)?,
+        "!" => {
+            let _planned = talk.plan.fail(rest);
+        }
         ">" => add_request(alloc, &mut talk.input, rest)?,
         _ => talk.early = add_answer(alloc, &mut talk.output, rest)?,
     }
     Ok(())
-}
-
-fn files_of(alloc: Global, settings: &[u8]) -> Result<MemoryFiles, NoMemory> {
-    let mut files = Items::new(alloc);
-    files.push(NamedBytes {
-        name: Text::from_str(alloc, "tailnet.toml")?,
-        bytes: Bytes::from_slice(alloc, settings)?,
-    })?;
-    Ok(MemoryFiles::new(files, Items::new(alloc)))
 }
 
 /// Whether `pipe tailnet.toml --seed k1` holds the conversation.
@@ -223,33 +197,17 @@ fn is_held(alloc: Global, mut talk: Talk) -> Result<bool, NoMemory> {
     if talk.moments.is_empty() {
         talk.moments.push(1_000_000_000)?;
     }
-    let mut words = Items::new(alloc);
-    words.push([1, 2, 3, 4])?;
-    let mut output = MemorySink::new(alloc, Items::new(alloc));
-    let mut errors = MemorySink::new(alloc, Items::new(alloc));
-    let status = pipe_command(
-        alloc,
-        "tailnet.toml",
-        Some("k1"),
-        &mut MemorySource::new(Bytes::from_slice(alloc, &talk.input)?, Items::new(alloc)),
-        &mut output,
-        &mut errors,
-        &mut files_of(alloc, &talk.settings)?,
-        &mut MemoryOpener::new(
-            alloc,
-            Tables::empty(alloc),
-            Items::new(alloc),
-            talk.keeper_fails,
-        ),
-        &mut MemoryClock::new(talk.moments),
-        &mut MemoryEntropy::new(words, talk.word_fails),
-    );
-    let (wanted, line) = if talk.early {
+    let ran = piped_at(alloc, talk.moments, &talk.settings, &talk.input, &talk.plan)?;
+    let (status, line) = if talk.early {
         (Status::Early, b"tailnetd: closed early\n".as_slice())
     } else {
         (Status::Ok, b"".as_slice())
     };
-    Ok(status == wanted && errors.bytes() == line && output.bytes() == talk.output.as_slice())
+    Ok(
+        ran.status == status
+            && ran.errors.bytes() == line
+            && ran.output.bytes() == talk.output.as_slice(),
+    )
 }
 
 /// Asserts that the conversation of this name is held.

@@ -1,5 +1,4 @@
 //! Words of the top call that start nothing, and settings that are refused.
-use crate::status::Status;
 use crate::tests::{CALM, FIRST, SETTINGS, piped};
 use crate::top::tailnetd;
 use io_edge::{
@@ -8,10 +7,12 @@ use io_edge::{
 use net_rows::Tables;
 use row_keeper::MemoryOpener;
 use std::alloc::Global;
+use std::process::Abort;
 use std::sync::Wait;
 use std::test::Fail;
 use std::thread::Threads;
 use tail_base::{Bytes, Items, NoMemory};
+use tailnet_commands::Status;
 
 /// What the top call comes to, and what is on errors.
 fn said<R: Threads + Wait + Sync>(
@@ -55,13 +56,26 @@ fn no_words_are_no_command(rt: HostRuntime) -> Result<(), Fail> {
     Ok(())
 }
 
-#[test]
-fn settings_without_workers_are_refused(rt: HostRuntime) -> Result<(), Fail> {
-    let mut settings = Vec::from_slice(rt.alloc(), SETTINGS)?;
-    settings.extend_from_slice(b"workers = 0\n")?;
-    let ran = piped(rt.alloc(), &settings, FIRST, &CALM)?;
+/// Asserts that settings are refused with this line, and nothing else is written.
+fn assert_refused(
+    rt: &impl Abort,
+    alloc: Global,
+    settings: &[u8],
+    line: &[u8],
+) -> Result<(), NoMemory> {
+    let ran = piped(alloc, settings, FIRST, &CALM)?;
     assert!(rt; ran.status == Status::Settings);
-    assert!(rt; ran.errors.bytes() == b"tailnetd: settings S4 workers\n".as_slice());
+    assert!(rt; ran.errors.bytes() == line);
     assert!(rt; ran.output.bytes().is_empty());
+    Ok(())
+}
+
+#[test]
+fn settings_that_are_refused(rt: HostRuntime) -> Result<(), Fail> {
+    let alloc = rt.alloc();
+    let mut settings = Vec::from_slice(alloc, SETTINGS)?;
+    settings.extend_from_slice(b"workers = 0\n")?;
+    assert_refused(&rt, alloc, &settings, b"tailnetd: settings S4 workers\n")?;
+    assert_refused(&rt, alloc, b"token = 7\n", b"tailnetd: settings S3 token\n")?;
     Ok(())
 }

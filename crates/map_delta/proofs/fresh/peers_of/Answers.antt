@@ -1,4 +1,3 @@
-use Rattle.std.proofs.Common.{◌∷◌}
 use Rattle.map_delta.specs.Fresh.{sees, shown}
 use Rattle.map_delta.proofs.ShownLemmas.{gathered_all}
 use Rattle.map_delta.proofs.fresh.peers_of.Goals as goal

@@ -1,4 +1,4 @@
-use Rattle.std.proofs.Common.{◌≡◌, ◌∷◌, drop}
+use Rattle.std.proofs.Common.{◌≡◌, drop}
 use Rattle.std.specs.Prelude.{map, filter}
 use Rattle.map_delta.specs.Fresh.{sees, shown}
 use Rattle.map_delta.proofs.ShownLemmas.{gathered}

@@ -1,4 +1,3 @@
-use Rattle.std.proofs.Common.{◌≡◌}
 use Rattle.path_routes.proofs.TableLemmas.{inserted}
 use Rattle.path_routes.proofs.paths.enter.Goals as goal
 

@@ -1,4 +1,4 @@
-use Rattle.std.proofs.Common.{◌≡◌, refl}
+use Rattle.std.proofs.Common.{refl}
 use Rattle.path_routes.proofs.paths.node_paths.Goals as goal
 
 pub returns : goal.returns

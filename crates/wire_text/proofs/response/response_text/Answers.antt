@@ -1,4 +1,4 @@
-use Rattle.std.proofs.Common.{◌≡◌, ap, ◌∙◌}
+use Rattle.std.proofs.Common.{ap, ◌∙◌}
 use Rattle.serde_json.specs.Written.{compact_text, has_float}
 use Rattle.wire_text.proofs.Plain.{response_plain}
 use Rattle.wire_text.proofs.response.response_text.Goals as goal

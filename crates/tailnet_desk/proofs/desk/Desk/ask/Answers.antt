@@ -1,4 +1,4 @@
-use Rattle.std.proofs.Common.{◌≡◌, ap}
+use Rattle.std.proofs.Common.{ap}
 use Rattle.tailnet_desk.specs.Seated.{Seated}
 use Rattle.tailnet_desk.proofs.Rules.{at_later, only_call, refused_call}
 use Rattle.tailnet_desk.proofs.desk.Desk.ask.Goals as goal

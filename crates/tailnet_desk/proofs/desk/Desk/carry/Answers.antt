@@ -1,4 +1,3 @@
-use Rattle.std.proofs.Common.{◌≡◌}
 use Rattle.tailnet_desk.proofs.Rules.{carried_of}
 use Rattle.tailnet_desk.proofs.desk.Desk.carry.Goals as goal
 

@@ -1,0 +1,112 @@
+-- A run in whose way nothing stands ends well.
+use Rattle.std.proofs.Common.{◌≡◌, ◌∙◌, ◌⊎◌, ◌||◌, ◌==◌, ◌-◌, ℕ, Bool, Option, None, Some, List, [], ◌∷◌, ◌++◌, inl, inr, refl, ap, sym, subst, arith, true, false, Ok}
+use Rattle.std.specs.List.{AllByRecursion}
+use Rattle.std.specs.Option.{option_or}
+use Rattle.std.proofs.lemmas.Bool.Decides.{nat_tests}
+use Rattle.std.proofs.lemmas.List.{append-nil}
+use Rattle.net_rows.proofs.Bools.{truth}
+use Rattle.io_edge.specs.Edge.{and_then_left}
+use Rattle.http_front.specs.Requests.{Leads, Splits, at_end, cut, bad}
+use Rattle.http_front.specs.declared.request.Request.{Request}
+use Rattle.http_front.proofs.Streams.{Leads-append, Leads_first, Splits_unique}
+use Rattle.http_front.proofs.Refusals.{Splits-append_bad}
+use Rattle.desk_front.specs.Wanted.{site_of, wanted_of}
+use Rattle.net_rows.specs.declared.settings.SettingsFields.{SettingsFields}
+use Rattle.tail_words.specs.SettingsText.{settings_of}
+use Rattle.desk_front.specs.declared.want.Wanted.{Wanted}
+use Rattle.desk_front.specs.declared.want.Wanted.TheVariants as wants
+use Rattle.tailnet_desk.specs.declared.entry.Event.{Event}
+use Rattle.desk_state.specs.declared.reply.Reply.{Reply}
+use Rattle.desk_front.specs.declared.site.Site.{Site}
+use Rattle.tailnet_commands.specs.Complete.{IsAccepted, IsClear, IsComplete}
+use Rattle.tailnet_commands.specs.Exchanges.{Exchange, IsExchange, AreExchanges, IsAnswered, requests_of, end_of, ended_by}
+use Rattle.tailnet_commands.specs.Pipe.{Piped, status_of}
+use Rattle.tailnet_commands.specs.Run.{World}
+use Rattle.tailnet_commands.specs.Serve.{Serves, Told, IsEarly}
+use Rattle.tailnet_commands.specs.declared.closed.Closed.{Closed}
+use Rattle.tailnet_commands.specs.declared.closed.Closed.TheVariants as closed
+use Rattle.tailnet_commands.specs.declared.ended.Ended.{Ended}
+use Rattle.tailnet_commands.specs.declared.ended.Ended.TheVariants as ended
+use Rattle.tailnet_commands.specs.declared.status.Status.{Status}
+use Rattle.tailnet_commands.specs.declared.status.Status.TheVariants as status
+
+-- an answer that leaves the connection to its request doesn't end it early
+pub not_early : (close : Bool) → ended_by close ≡ Some closed.Early → ⊥
+not_early true e = cc
+not_early false e = cc
+
+-- only a 400 ends a connection early
+pub answered_late : (site : Site) (close : Bool) (w : Wanted) (x : Exchange) → IsAccepted w → IsAnswered site close w x.turns x.bytes x.ended → x.ended ≡ Some closed.Early → ⊥
+answered_late site close (wants.Ask ask) x ok a e = not_early close (sym a.5 ∙ e)
+answered_late site close (wants.Answer status body) x ok a e = elim (truth (status == 400)) [
+  | inl t ↦ ok (grind (arith, nat_tests, t))
+  | inr f ↦ not_early close (sym (rw f at a.2) ∙ e)
+]
+
+-- one exchange of an accepted request doesn't end its connection early
+pub late_one : (site : Site) (last : Bool) (x : Exchange) → IsAccepted (wanted_of site x.request) → IsExchange site last x → x.ended ≡ Some closed.Early → ⊥
+late_one site last x ok (inl u) e = not_early (x.request.close || last) (sym u.2 ∙ e)
+late_one site last x ok (inr a) e = answered_late site (x.request.close || last) (wanted_of site x.request) x ok a e
+
+pub or_early : (a b : Option Closed) → option_or a b ≡ Some closed.Early → (a ≡ Some closed.Early) ⊎ (b ≡ Some closed.Early)
+or_early None b e = inr e
+or_early (Some c) b e = inl e
+
+-- accepted requests don't end a connection early
+pub late : (site : Site) (limit : ℕ) (xs : List Exchange) (more : List Request) → AllByRecursion (λ r. IsAccepted (wanted_of site r)) (requests_of xs ++ more) → AreExchanges site limit xs → end_of xs ≡ Some closed.Early → ⊥
+late site limit [] more ok each e = cc
+late site limit (x ∷ xs) more ok each e = elim (or_early x.ended (end_of xs) e) [
+  | inl h ↦ late_one site (limit == 1) x ok.0 each.1 h
+  | inr h ↦ late site (limit - 1) xs more ok.1 each.3 h
+]
+
+-- what is left of an input that is told
+pub rest_of : (old new : Option (List ℕ)) (read input : List ℕ) → old ≡ and_then_left read new → old ≡ Some input → (left : List ℕ) × (new ≡ Some left) × (input ≡ read ++ left)
+rest_of old None read input e i = absurd (let h : None ≡ Some input = sym e ∙ i in cc)
+rest_of old (Some left) read input e i = (left, refl, let h : Some input ≡ Some (read ++ left) = sym i ∙ e in cc)
+
+-- bytes that are read as whole requests and the end have no cut or refused rest
+pub tail_never : (rest left : List ℕ) (others : List Request) (extra : List ℕ) (told : Option (List ℕ)) → told ≡ Some left → Splits (rest ++ left) others at_end → IsEarly rest extra told → ⊥
+tail_never rest left others extra told is splits (inl (tail, gone, none)) =
+    let nothing : [] ≡ left = rw is at gone in
+    let here : Splits rest others at_end = subst (λ b. Splits b others at_end) (ap (λ l. rest ++ l) (sym nothing) ∙ append-nil rest) splits in
+    let same = Splits_unique rest others [] at_end cut here (rest, refl, tail) in
+    let clash : at_end ≡ cut = same.1 in cc
+tail_never rest left others extra told is splits (inr (status, tail, answered)) =
+    let same = Splits_unique (rest ++ left) others [] at_end (bad status) splits (Splits-append_bad rest left [] status (rest, refl, tail)) in
+    let clash : at_end ≡ bad status = same.1 in cc
+
+-- a connection over accepted whole requests doesn't end early
+pub never_early : {S : Type 0} (turn : S → Event → Reply → S → Type 0) (site : Site) (limit : ℕ) (old new : Told) (s t : S) (input : List ℕ) (requests : List Request)
+    → Leads input requests [] → AllByRecursion (λ r. IsAccepted (wanted_of site r)) requests → old.left ≡ Some input → Serves turn site closed.Early limit [] old new s t → ⊥
+never_early turn site limit old new s t input requests whole ok is serves =
+    let r = rest_of old.left new.left serves.read input serves.from_source is in
+    let leads = subst (λ b. Leads b (requests_of serves.exchanges) (serves.rest ++ r.0)) (sym r.2) (Leads-append serves.read (requests_of serves.exchanges) serves.rest r.0 serves.bytes_read) in
+    let first = Leads_first input (requests_of serves.exchanges) requests (serves.rest ++ r.0) at_end leads ([], whole, refl) in
+    elim serves.ending.1 [
+      | inl h ↦ late site limit serves.exchanges first.0 (subst (λ rs. AllByRecursion (λ r. IsAccepted (wanted_of site r)) rs) first.1 ok) serves.each h
+      | inr h ↦ tail_never serves.rest r.0 first.0 serves.extra new.left r.1 first.2 h.1
+    ]
+
+-- the same by how the run ended
+pub complete_of : (e : Ended) (file : Option (Option (List ℕ))) (before now : ℕ) (seed : Option (List ℕ)) (old new : World) → Piped e file before now seed old new → IsClear file before now old new → (status_of e ≡ status.Ok) ⊎ (status_of e ≡ status.NoMemory)
+complete_of (ended.Closed closed.End) file before now seed old new p c = inl refl
+complete_of (ended.Closed closed.Early) file before now seed old new p c = absurd (
+    let told : settings_of c.text ≡ Ok p.settings = rw c.file_is at p.settings_are in
+    let is = c.settings_are in
+    let same : c.settings ≡ p.settings = cc in
+    never_early _ (site_of p.settings) _ _ new.told _ _ c.input c.requests c.whole
+    (subst (λ (f : SettingsFields). AllByRecursion (λ r. IsAccepted (wanted_of (site_of f) r)) c.requests) same c.accepted) c.input_is p.talk.serves)
+complete_of (ended.Closed closed.ReadFault) file before now seed old new p c = absurd (c.no_read_fault p.talk.serves.ending.3)
+complete_of (ended.Closed closed.WriteFault) file before now seed old new p c = absurd (c.no_write_fault p.talk.serves.ending)
+complete_of (ended.Closed closed.NoMemory) file before now seed old new p c = inr refl
+complete_of (ended.Settings rule key) file before now seed old new p c = absurd (let broken = rw c.file_is at p.1 in let kept = c.settings_are in cc)
+complete_of ended.TooLarge file before now seed old new p c = absurd (let large = rw c.file_is at p.1 in omega (arith, large, c.small))
+complete_of ended.FileFault file before now seed old new p c = absurd (c.no_file_fault p.1)
+complete_of ended.KeeperFault file before now seed old new p c = absurd (c.no_keeper_fault p.1)
+complete_of (ended.Damaged kind id) file before now seed old new p c = absurd (let damaged = rw c.rows_are at p.1 in let sound = c.served in cc)
+complete_of ended.NoMemory file before now seed old new p c = inr refl
+
+pub complete : IsComplete
+complete s file before now seed old new errors errors_after error_faults error_faults_after o c =
+    subst (λ (x : Status). (x ≡ status.Ok) ⊎ (x ≡ status.NoMemory)) (sym o.status_is) (complete_of o.ended file before now seed old new o.piped c)

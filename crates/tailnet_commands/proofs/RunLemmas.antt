@@ -1,0 +1,89 @@
+-- A run over settings.
+use Rattle.std.proofs.Common.{◌≡◌, ◌+◌, ◌-◌, ℕ, ℤ, Option, None, Some, List, [], ◌++◌, length, refl, ap, sym, ◌∙◌, arith, subst}
+use Rattle.std.specs.Prelude.{IfSome}
+use Rattle.std.specs.Option.{option_map}
+use Rattle.moments.specs.Moments.{clamped}
+use Rattle.io_edge.specs.Edge.{Rose, RoseBy, IsWhereTold, StillTells}
+use Rattle.net_rows.specs.declared.settings.SettingsFields.{SettingsFields}
+use Rattle.tailnet_desk.specs.Chains.{Point, Deals, Chain}
+use Rattle.desk_state.specs.State.{State, opening}
+use Rattle.tailnet_desk.specs.Opening.{unserved}
+use Rattle.tailnet_desk.specs.declared.desk.OpenFault.{OpenFault}
+use Rattle.tailnet_desk.specs.declared.desk.OpenFault.TheVariants as fault
+use Rattle.tailnet_desk.proofs.Histories.{history_of}
+use Rattle.desk_front.specs.Wanted.{site_of}
+use Rattle.tailnet_commands.specs.Exchanges.{turns_of}
+use Rattle.tailnet_commands.specs.Outside.{from_number}
+use Rattle.tailnet_commands.specs.Run.{Conversation, World, Ran, Untouched, IsFaultOf}
+use Rattle.tailnet_commands.specs.Talk.{Talked, after_answers}
+use Rattle.tailnet_commands.proofs.TalkLemmas.{serves_from, with_answers}
+use Rattle.tailnet_commands.proofs.Tellings.{same_moments}
+use Rattle.tailnet_commands.specs.declared.closed.Closed.{Closed}
+use Rattle.tailnet_commands.specs.declared.ended.Ended.{Ended}
+
+-- what is where an object tells, is where one still tells
+pub where_still : {A : Type 0} (x : A) (a b : Option A) → StillTells a b → IsWhereTold x a → IsWhereTold x b
+where_still x a None h w = tt
+where_still x None (Some y) h w = absurd (let bad : None ≡ Some y = h in cc)
+where_still {A} x (Some z) (Some y) h w = let e : Some z ≡ Some y = h in let same : z ≡ y = cc in w ∙ same
+
+-- what was told is what is told still
+pub kept_still : {A : Type 0} (a b : Option A) → StillTells a b → IfSome a (λ x. IsWhereTold x b)
+kept_still None b h = tt
+kept_still (Some x) None h = tt
+kept_still (Some x) (Some y) h = let e : Some x ≡ Some y = h in let same : x ≡ y = cc in same
+
+-- what the keeper tells is what the opener told
+pub where_given : {A : Type 0} (x : A) (a k : Option A) → IfSome a (λ rows. k ≡ Some rows) → IsWhereTold x k → IsWhereTold x a
+where_given x None k h w = tt
+where_given {A} x (Some rows) k h w = let v : IsWhereTold x (Some rows) = subst (λ (o : Option A). IsWhereTold x o) h w in v
+
+pub kept_given : {A : Type 0} (a k b : Option A) → IfSome a (λ rows. k ≡ Some rows) → StillTells k b → IfSome a (λ x. IsWhereTold x b)
+kept_given None k b h s = tt
+kept_given (Some x) k None h s = tt
+kept_given (Some x) k (Some y) h s = let e : Some x ≡ Some y = sym h ∙ s in let same : x ≡ y = cc in same
+
+-- what is said of all rows that the keeper tells is said of those that the opener told
+pub given_some : {A : Type 0} (P : A → Type 0) (a k : Option A) → IfSome a (λ rows. k ≡ Some rows) → IfSome k P → IfSome a P
+given_some P None k h p = tt
+given_some {A} P (Some x) k h p = let q : IfSome (Some x) P = subst (λ (o : Option A). IfSome o P) h p in q
+
+pub still_still : {A : Type 0} (a b c : Option A) → StillTells a b → StillTells b c → StillTells a c
+still_still a b None h k = tt
+still_still a None (Some y) h k = absurd (let bad : None ≡ Some y = k in cc)
+still_still {A} a (Some z) (Some y) h k = let e : Some z ≡ Some y = k in h ∙ e
+
+pub talked_run : (closed : Closed) (settings : SettingsFields) (seed : Option (List ℕ)) (moment : ℤ) (old new : World) (f : ℕ → Option ℤ) (d : State) (count : ℕ) (final : Point)
+    → IsWhereTold moment (option_map clamped (old.told.giving.answers 0)) → ((k : ℕ) → f k ≡ old.told.giving.answers (k + 1))
+    → d ≡ opening settings d.rows moment → IsWhereTold d.rows old.rows → Talked (site_of settings) closed settings.requests seed (with_answers old.told f) new.told (record { state = d; count = count }) final
+    → IsWhereTold final.state.rows new.rows → RoseBy final.count old.keeper_faults new.keeper_faults → Conversation closed settings seed old new
+talked_run closed settings seed moment old new f d count final at shifted is rows_told talked last rose =
+    let n = length talked.seeding in
+    let served = serves_from Deals (site_of settings) closed settings.requests [] (after_answers n (with_answers old.told f)) new.told talked.seeded final (from_number (1 + n) old.told.giving.answers)
+    (λ k. shifted (k + n) ∙ ap old.told.giving.answers (omega arith)) talked.serves in
+    let start : Point = record { state = opening settings d.rows moment; count = count } in
+    let chain : Chain Deals start (talked.seeding ++ turns_of talked.serves.exchanges) final =
+    subst (λ (s : State). Chain Deals (record { state = s; count = count }) (talked.seeding ++ turns_of talked.serves.exchanges) final) is talked.chain in
+    record {
+      rows = d.rows;
+      rows_told = rows_told;
+      moment = moment;
+      moment_told = at;
+      count = count;
+      final = final;
+      seeding = talked.seeding;
+      seeding_is = talked.seeding_is;
+      seeding_moments = same_moments f (from_number 1 old.told.giving.answers) talked.seeding shifted talked.seeding_moments;
+      seeded = talked.seeded;
+      serves = served;
+      history = history_of start (talked.seeding ++ turns_of talked.serves.exchanges) final chain;
+      final_rows = last;
+      rose = rose;
+    }
+
+-- a desk that didn't open
+pub faulted : (f : OpenFault) (e : Ended) (settings : SettingsFields) (seed : Option (List ℕ)) (old new : World) → IsFaultOf f e → Untouched old new → (f ≡ fault.KeeperFault → Rose old.keeper_faults new.keeper_faults)
+    → ((kind : _) (id : ℕ) → f ≡ fault.Damaged kind id → IfSome old.rows (λ rows. unserved rows ≡ Some (record { kind = kind; id = id }))) → Ran e settings seed old new
+faulted fault.KeeperFault e settings seed old new is quiet rose damaged = rw is (quiet, rose refl)
+faulted (fault.Damaged kind id) e settings seed old new is quiet rose damaged = rw is (quiet, damaged kind id refl)
+faulted fault.NoMemory e settings seed old new is quiet rose damaged = rw is quiet

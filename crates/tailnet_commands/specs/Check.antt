@@ -1,0 +1,65 @@
+-- What the command `policy-check` comes to.
+use Rattle.std.specs.Prelude.{◌≡◌, ℕ, Bool, Option, List, [], ◌++◌, length, codes, Result, Ok, Err, IfSome, IsSomeAnd, ◌==◌, if◌then◌else◌}
+use Rattle.io_edge.specs.Edge.{Rose}
+use Rattle.policy_doc.specs.Document.{policy_of_text}
+use Rattle.policy_rows.specs.Faults.{◌>>=◌, Fault, check, fault_text}
+use Rattle.policy_rows.specs.declared.code.PolicyCode.TheVariants as code
+use Rattle.policy_rows.specs.declared.policy.Policy.{Policy}
+use Rattle.tailnet_commands.specs.Pieces.{Wrote}
+use Rattle.tailnet_commands.specs.Pipe.{IsTooLarge}
+use Rattle.tailnet_commands.specs.declared.status.Status.{Status}
+use Rattle.tailnet_commands.specs.declared.status.Status.TheVariants as status
+
+-- tests aren't run yet: a policy with tests has a fault there
+abbrev pub untested : Policy → Result (Unit {0}) Fault
+untested policy = check (length policy.tests == 0) code.Unsupported (codes "tests")
+
+-- the verdict on a text: it is a policy, or this is its first fault
+unfoldable pub verdict_of : List ℕ → Result (Unit {0}) Fault
+verdict_of text = policy_of_text text >>= untested
+
+-- the line of a verdict
+abbrev pub verdict_line : Result (Unit {0}) Fault → List ℕ
+verdict_line (Ok sound) = codes "ok\n"
+verdict_line (Err fault) = fault_text fault.code fault.place ++ codes "\n"
+
+-- the status of a verdict
+abbrev pub verdict_status : Result (Unit {0}) Fault → Status
+verdict_status (Ok sound) = status.Ok
+verdict_status (Err fault) = status.Refused
+
+-- The file has a verdict, where it is told, and its line was written, or, where a write failed, a front of it.
+pub record Judged (ended : Status) (file : Option (Option (List ℕ))) (old new : Option (List ℕ)) (before now : ℕ) : Type 0 where
+  pub verdict : Result (Unit {0}) Fault
+  pub verdict_is : IfSome file (λ held. IsSomeAnd held (λ text. verdict_of text ≡ verdict))
+  pub failed : Bool
+  pub wrote : Wrote old new before now (verdict_line verdict) failed
+  pub status_is : ended ≡ (if failed then status.WriteFault else verdict_status verdict)
+
+-- a line was written, or, where a write failed, a front of it; the status is the line's or that of the fault
+pub record Said (line : List ℕ) (whole ended : Status) (old new : Option (List ℕ)) (before now : ℕ) : Type 0 where
+  pub failed : Bool
+  pub wrote : Wrote old new before now line failed
+  pub status_is : ended ≡ (if failed then status.WriteFault else whole)
+
+-- nothing was written
+abbrev pub IsUnwritten : Option (List ℕ) → Option (List ℕ) → ℕ → ℕ → Type 0
+IsUnwritten old new before now = (new ≡ old) × (now ≡ before)
+
+-- what a status says, with the file and the files' count, and the output and its count
+abbrev pub Checked : Status → Option (Option (List ℕ)) → ℕ → ℕ → Option (List ℕ) → Option (List ℕ) → ℕ → ℕ → Type 0
+Checked status.Ok file faults faults_after old new before now = Judged status.Ok file old new before now
+Checked status.Refused file faults faults_after old new before now = Judged status.Refused file old new before now
+Checked status.WriteFault file faults faults_after old new before now = Judged status.WriteFault file old new before now
+Checked status.Settings file faults faults_after old new before now = IsTooLarge file × IsUnwritten old new before now
+Checked status.ReadFault file faults faults_after old new before now = Rose faults faults_after × IsUnwritten old new before now
+Checked status.NoMemory file faults faults_after old new before now = IsUnwritten old new before now
+Checked ended file faults faults_after old new before now = ⊥
+
+-- the line of a status on errors
+abbrev pub check_line : Status → List ℕ
+check_line status.WriteFault = codes "tailnetd: write fault\n"
+check_line status.Settings = codes "tailnetd: file too large\n"
+check_line status.ReadFault = codes "tailnetd: read fault\n"
+check_line status.NoMemory = codes "tailnetd: no memory\n"
+check_line ended = []

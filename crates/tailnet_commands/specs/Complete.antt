@@ -1,0 +1,50 @@
+-- When a run of `pipe` can't but end well.
+use Rattle.std.specs.Prelude.{◌≡◌, ◌≢◌, ◌≤◌, ◌⊎◌, ℕ, Option, None, Some, List, [], length, Ok}
+use Rattle.std.specs.List.{AllByRecursion}
+use Rattle.io_edge.specs.Edge.{Rose}
+use Rattle.http_front.specs.Requests.{Leads}
+use Rattle.http_front.specs.declared.request.Request.{Request}
+use Rattle.desk_front.specs.Wanted.{site_of, wanted_of}
+use Rattle.desk_front.specs.declared.want.Wanted.{Wanted}
+use Rattle.desk_front.specs.declared.want.Wanted.TheVariants as wants
+use Rattle.net_rows.specs.declared.rows.Rows.{Rows}
+use Rattle.net_rows.specs.declared.settings.SettingsFields.{SettingsFields}
+use Rattle.tail_words.specs.SettingsText.{settings_of}
+use Rattle.tailnet_desk.specs.Opening.{unserved}
+use Rattle.tailnet_commands.specs.Pipe.{Outcome, file_limit}
+use Rattle.tailnet_commands.specs.Run.{World}
+use Rattle.tailnet_commands.specs.declared.status.Status.{Status}
+use Rattle.tailnet_commands.specs.declared.status.Status.TheVariants as status
+
+-- the request isn't answered 400
+abbrev pub IsAccepted : Wanted → Type 0
+IsAccepted (wants.Answer status body) = status ≢ 400
+IsAccepted (wants.Ask ask) = Unit {0}
+
+-- Nothing stands in the way of a run: the settings file is there and keeps its rules, the tables are served, the
+-- input is whole requests that are accepted, and no count of faults rises.
+pub record IsClear (file : Option (Option (List ℕ))) (before now : ℕ) (old new : World) : Type 0 where
+  pub text : List ℕ
+  pub file_is : file ≡ Some (Some text)
+  pub small : length text ≤ file_limit
+  pub settings : SettingsFields
+  pub settings_are : settings_of text ≡ Ok settings
+  pub rows : Rows
+  pub rows_are : old.rows ≡ Some rows
+  pub served : unserved rows ≡ None
+  pub input : List ℕ
+  pub input_is : old.told.left ≡ Some input
+  pub requests : List Request
+  pub whole : Leads input requests []
+  pub accepted : AllByRecursion (λ r. IsAccepted (wanted_of (site_of settings) r)) requests
+  pub no_file_fault : Rose before now → ⊥
+  pub no_read_fault : Rose old.told.read_faults new.told.read_faults → ⊥
+  pub no_write_fault : Rose old.told.giving.write_faults new.told.giving.write_faults → ⊥
+  pub no_keeper_fault : Rose old.keeper_faults new.keeper_faults → ⊥
+
+-- Then it ends with status 0, or for want of memory.
+abbrev pub IsComplete : Type 0
+IsComplete = (s : Status) (file : Option (Option (List ℕ))) (before now : ℕ) (seed : Option (List ℕ)) (old new : World)
+    (errors errors_after : Option (List ℕ)) (error_faults error_faults_after : ℕ)
+    → Outcome s file before now seed old new errors errors_after error_faults error_faults_after
+    → IsClear file before now old new → (s ≡ status.Ok) ⊎ (s ≡ status.NoMemory)

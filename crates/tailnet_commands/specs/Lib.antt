@@ -1,0 +1,11 @@
+pub mod Outside
+pub mod Pieces
+pub mod Lines
+pub mod Exchanges
+pub mod Asked
+pub mod Serve
+pub mod Talk
+pub mod Run
+pub mod Pipe
+pub mod Check
+pub mod Complete

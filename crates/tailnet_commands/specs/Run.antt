@@ -1,0 +1,71 @@
+-- A run of `pipe`.
+use Rattle.std.specs.Prelude.{◌≡◌, ◌+◌, ℕ, ℤ, Option, Some, List, [], ◌++◌, length, IfSome}
+use Rattle.std.specs.Option.{option_map}
+use Rattle.moments.specs.Moments.{clamped}
+use Rattle.io_edge.specs.Edge.{Rose, RoseBy, IsWhereTold}
+use Rattle.net_rows.specs.declared.rows.Rows.{Rows}
+use Rattle.net_rows.specs.declared.settings.SettingsFields.{SettingsFields}
+use Rattle.tailnet_desk.specs.Chains.{Turned, Point, Deals, IsHistory}
+use Rattle.tailnet_desk.specs.Opening.{unserved}
+use Rattle.desk_state.specs.State.{opening}
+use Rattle.tailnet_desk.specs.declared.desk.OpenFault.{OpenFault}
+use Rattle.tailnet_desk.specs.declared.desk.OpenFault.TheVariants as fault
+use Rattle.desk_front.specs.Wanted.{site_of}
+use Rattle.tailnet_commands.specs.Exchanges.{turns_of}
+use Rattle.tailnet_commands.specs.Outside.{MomentsTold, from_number}
+use Rattle.tailnet_commands.specs.Talk.{IsSeeding, after_answers}
+use Rattle.tailnet_commands.specs.Serve.{Serves, Told}
+use Rattle.tailnet_commands.specs.declared.closed.Closed.{Closed}
+use Rattle.tailnet_commands.specs.declared.ended.Ended.{Ended}
+use Rattle.tailnet_commands.specs.declared.ended.Ended.TheVariants as ended
+
+-- what the connection's objects tell, the opener's rows, and its count of faults
+pub record World : Type 0 where
+  pub told : Told
+  pub rows : Option Rows
+  pub keeper_faults : ℕ
+
+abbrev pub world : {P : Type 0} → (P → Option Rows) → (P → ℕ) → P → Told → World
+world rows faults opener told = record { told = told; rows = rows opener; keeper_faults = faults opener }
+
+-- nothing was read or written, and the opener's rows are as before
+pub record Untouched (old new : World) : Type 0 where
+  pub left : new.told.left ≡ old.told.left
+  pub read_faults : new.told.read_faults ≡ old.told.read_faults
+  pub held : new.told.giving.held ≡ old.told.giving.held
+  pub write_faults : new.told.giving.write_faults ≡ old.told.giving.write_faults
+  pub rows : IfSome old.rows (λ rows. IsWhereTold rows new.rows)
+
+-- A connection over a desk that was opened at the clock's first answer.
+pub record Conversation (closed : Closed) (settings : SettingsFields) (seed : Option (List ℕ)) (old new : World) : Type 0 where
+  pub rows : Rows
+  pub rows_told : IsWhereTold rows old.rows
+  pub moment : ℤ
+  pub moment_told : IsWhereTold moment (option_map clamped (old.told.giving.answers 0))
+  -- the keeper's count after the load, and at the end
+  pub count : ℕ
+  pub final : Point
+  pub seeding : List Turned
+  pub seeding_is : IsSeeding seed seeding
+  pub seeding_moments : MomentsTold (from_number 1 old.told.giving.answers) seeding
+  pub seeded : Point
+  pub serves : Serves Deals (site_of settings) closed settings.requests [] (after_answers (1 + length seeding) old.told) new.told seeded final
+  -- a legal history from the opening state: the seed, and the turns of the served requests
+  pub history : IsHistory (record { state = opening settings rows moment; count = count }) (seeding ++ turns_of serves.exchanges) final
+  pub final_rows : IsWhereTold final.state.rows new.rows
+  pub rose : RoseBy final.count old.keeper_faults new.keeper_faults
+
+-- What a run over settings comes to: a connection, or a fault before anything was read.
+abbrev pub Ran : Ended → SettingsFields → Option (List ℕ) → World → World → Type 0
+Ran (ended.Closed closed) settings seed old new = Conversation closed settings seed old new
+Ran ended.KeeperFault settings seed old new = Untouched old new × Rose old.keeper_faults new.keeper_faults
+Ran (ended.Damaged kind id) settings seed old new =
+    Untouched old new × IfSome old.rows (λ rows. unserved rows ≡ Some (record { kind = kind; id = id }))
+Ran ended.NoMemory settings seed old new = Untouched old new
+Ran ended settings seed old new = ⊥
+
+-- how a run ends whose desk didn't open
+abbrev pub IsFaultOf : OpenFault → Ended → Type 0
+IsFaultOf fault.KeeperFault e = e ≡ ended.KeeperFault
+IsFaultOf (fault.Damaged kind id) e = e ≡ ended.Damaged kind id
+IsFaultOf fault.NoMemory e = e ≡ ended.NoMemory

@@ -1,0 +1,79 @@
+-- A connection: which requests its bytes are, which turns they were, and which bytes answered them.
+use Rattle.std.specs.Prelude.{◌≡◌, ◌≤◌, ◌<◌, ◌⊎◌, ℕ, Bool, false, Option, None, Some, List, [], ◌++◌, length}
+use Rattle.io_edge.specs.Edge.{Rose, and_then_left, and_held, IsWhereTold}
+use Rattle.http_front.specs.Requests.{IsWhole, Leads, IsTail, IsUnfinished, cut, bad}
+use Rattle.tailnet_desk.specs.Chains.{Chain}
+use Rattle.tailnet_desk.specs.declared.entry.Event.{Event}
+use Rattle.desk_state.specs.declared.reply.Reply.{Reply}
+use Rattle.desk_front.specs.declared.site.Site.{Site}
+use Rattle.tailnet_commands.specs.Outside.{Giving, Took}
+use Rattle.tailnet_commands.specs.Pieces.{IsPrefix}
+use Rattle.tailnet_commands.specs.Exchanges.{Exchange, IsExchange, AreExchanges, requests_of, turns_of, answers_of, end_of, bad_answer}
+use Rattle.tailnet_commands.specs.declared.closed.Closed.{Closed}
+use Rattle.tailnet_commands.specs.declared.closed.Closed.TheVariants.{End, Early, ReadFault, WriteFault, NoMemory}
+
+-- what the source tells, and the rest
+pub record Told : Type 0 where
+  pub left : Option (List ℕ)
+  pub read_faults : ℕ
+  pub giving : Giving
+
+abbrev pub told : {I : Type 0} → (I → Option (List ℕ)) → (I → ℕ) → I → Giving → Told
+told left read_faults i rest = record { left = left i; read_faults = read_faults i; giving = rest }
+
+-- bytes that are refused are answered
+abbrev pub IsRefusal : List ℕ → List ℕ → Type 0
+IsRefusal rest extra = (status : ℕ) × IsTail rest (bad status) × (extra ≡ bad_answer status)
+
+-- what the bytes behind the served requests are answered: nothing, unless they are refused
+abbrev pub IsExtra : List ℕ → List ℕ → Type 0
+IsExtra rest extra = (extra ≡ []) ⊎ IsRefusal rest extra
+
+-- the input ended inside a request, or what is left of it is refused
+abbrev pub IsEarly : List ℕ → List ℕ → Option (List ℕ) → Type 0
+IsEarly rest extra left = (IsTail rest cut × IsWhereTold [] left × (extra ≡ [])) ⊎ IsRefusal rest extra
+
+-- why a connection ended
+abbrev pub Ends : Closed → List Exchange → List ℕ → List ℕ → List ℕ → Told → Told → Type 0
+Ends End xs rest extra written old new =
+    (written ≡ answers_of xs) × ((end_of xs ≡ Some End) ⊎ ((end_of xs ≡ None) × (rest ≡ []) × IsWhereTold [] new.left))
+Ends Early xs rest extra written old new =
+    (written ≡ answers_of xs ++ extra) × ((end_of xs ≡ Some Early) ⊎ ((end_of xs ≡ None) × IsEarly rest extra new.left))
+Ends ReadFault xs rest extra written old new =
+    (written ≡ answers_of xs) × (end_of xs ≡ None) × (0 < length rest → IsUnfinished rest) × Rose old.read_faults new.read_faults
+Ends WriteFault xs rest extra written old new = Rose old.giving.write_faults new.giving.write_faults
+Ends NoMemory xs rest extra written old new = Unit {0}
+
+-- A connection over turns, with what was held back of the bytes before it.
+pub record Serves {S : Type 0} (turn : S → Event → Reply → S → Type 0) (site : Site) (closed : Closed) (limit : ℕ) (held : List ℕ) (old new : Told) (s t : S) : Type 0 where
+  pub exchanges : List Exchange
+  pub read : List ℕ
+  pub rest : List ℕ
+  pub extra : List ℕ
+  pub written : List ℕ
+  pub from_source : old.left ≡ and_then_left read new.left
+  pub bytes_read : Leads (held ++ read) (requests_of exchanges) rest
+  pub each : AreExchanges site limit exchanges
+  pub chain : Chain turn s (turns_of exchanges) t
+  pub took : Took old.giving new.giving (turns_of exchanges)
+  pub extra_is : IsExtra rest extra
+  pub front : IsPrefix written (answers_of exchanges ++ extra)
+  pub to_sink : new.giving.held ≡ and_held old.giving.held written
+  pub reads_later : old.read_faults ≤ new.read_faults
+  pub writes_later : old.giving.write_faults ≤ new.giving.write_faults
+  pub ending : Ends closed exchanges rest extra written old new
+
+-- One whole exchange, after which the connection goes on; it wasn't the last that may be served.
+pub record Goes {S : Type 0} (turn : S → Event → Reply → S → Type 0) (site : Site) (last : Bool) (held new_held : List ℕ) (old new : Told) (s t : S) : Type 0 where
+  pub more : last ≡ false
+  pub exchange : Exchange
+  pub read : List ℕ
+  pub from_source : old.left ≡ and_then_left read new.left
+  pub bytes_read : IsWhole (held ++ read) exchange.request new_held
+  pub is : IsExchange site last exchange
+  pub open_still : exchange.ended ≡ None
+  pub chain : Chain turn s exchange.turns t
+  pub took : Took old.giving new.giving exchange.turns
+  pub to_sink : new.giving.held ≡ and_held old.giving.held exchange.bytes
+  pub reads_later : old.read_faults ≤ new.read_faults
+  pub writes_later : old.giving.write_faults ≤ new.giving.write_faults

@@ -1,0 +1,55 @@
+-- A connection over a desk, after its seed.
+use Rattle.std.specs.Prelude.{◌≡◌, ◌+◌, ℕ, ℤ, Option, None, Some, List, [], ◌∷◌, ◌++◌, length}
+use Rattle.std.specs.Option.{option_map}
+use Rattle.moments.specs.Moments.{clamped}
+use Rattle.io_edge.specs.Edge.{IsWhereTold}
+use Rattle.tailnet_desk.specs.Chains.{Turned, Chain, Point, Deals}
+use Rattle.tailnet_desk.specs.Seated.{Seated}
+use Rattle.tailnet_desk.specs.Step.{moment_of}
+use Rattle.desk_state.specs.declared.ask.Ask.TheVariants as ask
+use Rattle.desk_front.specs.declared.site.Site.{Site}
+use Rattle.tailnet_commands.specs.Exchanges.{turns_of}
+use Rattle.tailnet_commands.specs.Outside.{MomentsTold, from_number, ask_of, words_of}
+use Rattle.tailnet_commands.specs.Serve.{Serves, Told}
+use Rattle.tailnet_commands.specs.declared.closed.Closed.{Closed}
+
+-- the state of a desk, and its keeper's count
+abbrev pub point_of : {K : Type 0} → (K → ℕ) → Seated K → Point
+point_of faults desk = record { state = desk.state; count = faults desk.keeper }
+
+-- the clock after so many answers
+abbrev pub after_answers : ℕ → Told → Told
+after_answers n t = record {
+  left = t.left;
+  read_faults = t.read_faults;
+  giving = record {
+    held = t.giving.held;
+    write_faults = t.giving.write_faults;
+    answers = from_number n t.giving.answers;
+    words = t.giving.words;
+    word_faults = t.giving.word_faults;
+  };
+}
+
+-- the seed, if one is given, is one turn without words
+abbrev pub IsSeeding : Option (List ℕ) → List Turned → Type 0
+IsSeeding None turns = turns ≡ []
+IsSeeding (Some text) turns = (t : Turned) × (turns ≡ t ∷ []) × (ask_of t.event ≡ ask.Seed text) × (words_of t.event ≡ None)
+
+-- the seed's turn, at the clock's next answer
+pub record IsSeedTurn (text : List ℕ) (answers after : ℕ → Option ℤ) (p q : Point) : Type 0 where
+  pub turned : Turned
+  pub ask_is : ask_of turned.event ≡ ask.Seed text
+  pub words_are : words_of turned.event ≡ None
+  pub leads : Deals p turned.event turned.reply q
+  pub moment : IsWhereTold (moment_of turned.event) (option_map clamped (answers 0))
+  pub rest : (k : ℕ) → after k ≡ answers (k + 1)
+
+-- The seed was handed in, and then a connection was served.
+pub record Talked (site : Site) (closed : Closed) (requests : ℕ) (seed : Option (List ℕ)) (old new : Told) (p q : Point) : Type 0 where
+  pub seeding : List Turned
+  pub seeding_is : IsSeeding seed seeding
+  pub seeding_moments : MomentsTold old.giving.answers seeding
+  pub seeded : Point
+  pub serves : Serves Deals site closed requests [] (after_answers (length seeding) old) new seeded q
+  pub chain : Chain Deals p (seeding ++ turns_of serves.exchanges) q

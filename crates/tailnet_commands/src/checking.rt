@@ -1,0 +1,127 @@
+//! The command `policy-check`.
+ghost use Rattle.std.specs.Prelude.{◌≡◌, ◌++◌, IfOk, false, codes};
+ghost use Rattle.policy_rows.specs.Faults.{Gives, fault_text};
+ghost use Rattle.tailnet_commands.specs.Check.{Checked, Said, check_line, untested, verdict_line, verdict_of, verdict_status};
+ghost use Rattle.tailnet_commands.specs.Lines.{Noted};
+
+use crate::noting::note_line;
+use crate::status::Status;
+use crate::writing::write_all;
+use io_edge::{FileFault, Files, Sink};
+use policy_doc::read_policy;
+use policy_rows::{Policy, PolicyCode, PolicyFault, fault_text, refused};
+use std::alloc::Global;
+use tail_base::{NoMemory, Text};
+
+/// The most bytes that a policy file may have: 1 MiB.
+const FILE_LIMIT: usize = 1_048_576;
+
+/// Refuses a policy with tests, which aren't run yet.
+fn untested(alloc: Global, policy: &Policy) -> Result<(), PolicyFault>
+    ensures value { Gives result (untested policy.now) }
+{
+    if policy.tests.len() > 0 {
+        return refused(alloc, PolicyCode::Unsupported, "tests");
+    }
+    Ok(())
+}
+
+/// Whether the text is a policy, or else its first fault.
+#[tactic(auto, unfolding(crate::specs::Check::verdict_of))]
+fn verdict_of(alloc: Global, text: &[u8]) -> Result<(), PolicyFault>
+    ensures value { Gives result (verdict_of text.now) }
+{
+    let policy = read_policy(alloc, text)?;
+    untested(alloc, &policy)
+}
+
+/// What is said of a policy.
+#[derive(Drop)]
+struct Verdict {
+    line: Text,
+    status: Status,
+}
+
+/// What is said of a policy's fault.
+fn fault_verdict(alloc: Global, code: PolicyCode, place: &Text) -> Result<Verdict, NoMemory>
+    ensures line { IfOk result (λ v. v.line ≡ fault_text code place.now ++ codes "\n") }
+    ensures status { IfOk result (λ v. v.status ≡ Status.Refused) }
+{
+    let mut line = fault_text(alloc, code, place)?;
+    line.push("\n")?;
+    Ok(Verdict {
+        line,
+        status: Status::Refused,
+    })
+}
+
+/// What is said of a text.
+fn judge(alloc: Global, text: &[u8]) -> Result<Verdict, NoMemory>
+    ensures line { IfOk result (λ v. v.line ≡ verdict_line (verdict_of text.now)) }
+    ensures status { IfOk result (λ v. v.status ≡ verdict_status (verdict_of text.now)) }
+{
+    match verdict_of(alloc, text) {
+        Ok(()) => Ok(Verdict {
+            line: Text::from_str(alloc, "ok\n")?,
+            status: Status::Ok,
+        }),
+        Err(PolicyFault::Refused { code, place }) => fault_verdict(alloc, code, &place),
+        Err(PolicyFault::NoMemory) => Err(NoMemory),
+    }
+}
+
+/// Writes what is said, and gives its status.
+fn say<O: Sink>(output: &mut O, verdict: &Verdict) -> Status
+    ensures said { Said verdict.now.line verdict.now.status result (O.holds output.old) (O.holds output.new) (O.write_faults output.old) (O.write_faults output.new) }
+{
+    match write_all(output, verdict.line.as_slice()) {
+        Ok(()) => verdict.status,
+        Err(_) => Status::WriteFault,
+    }
+}
+
+/// Reads a policy file and writes what is said of it.
+fn check_file<O: Sink, F: Files>(alloc: Global, file: &str, output: &mut O, files: &mut F) -> Status
+    ensures checked { Checked result (F.holds files.old file.now) (F.faults files.old) (F.faults files.new) (O.holds output.old) (O.holds output.new) (O.write_faults output.old) (O.write_faults output.new) }
+{
+    let text = match files.read(alloc, file, FILE_LIMIT) {
+        Ok(text) => text,
+        Err(FileFault::Failed) => return Status::ReadFault,
+        Err(FileFault::TooLarge) => return Status::Settings,
+        Err(FileFault::NoMemory) => return Status::NoMemory,
+    };
+    match judge(alloc, &text) {
+        Ok(verdict) => say(output, &verdict),
+        Err(NoMemory) => Status::NoMemory,
+    }
+}
+
+/// The line of a status on errors.
+fn check_line(status: Status) -> &'static str
+    ensures value { result.now ≡ check_line status }
+{
+    match status {
+        Status::WriteFault => "tailnetd: write fault\n",
+        Status::Settings => "tailnetd: file too large\n",
+        Status::ReadFault => "tailnetd: read fault\n",
+        Status::NoMemory => "tailnetd: no memory\n",
+        _ => "",
+    }
+}
+
+/// Reads a policy file of at most 1 MiB, and writes `ok`, or the code and the place of its first
+/// fault.
+pub fn policy_check<O: Sink, E: Sink, F: Files>(
+    alloc: Global,
+    file: &str,
+    output: &mut O,
+    errors: &mut E,
+    files: &mut F,
+) -> Status
+    ensures checked { Checked result (F.holds files.old file.now) (F.faults files.old) (F.faults files.new) (O.holds output.old) (O.holds output.new) (O.write_faults output.old) (O.write_faults output.new) }
+    ensures noted { Noted (check_line result) false (E.holds errors.old) (E.holds errors.new) (E.write_faults errors.old) (E.write_faults errors.new) }
+{
+    let status = check_file(alloc, file, output, files);
+    note_line(errors, check_line(status));
+    status
+}

@@ -1,0 +1,73 @@
+//! A connection over a desk of its own.
+ghost use Rattle.std.specs.Prelude.{◌<◌, []};
+ghost use Rattle.tailnet_commands.specs.Outside.{giving};
+ghost use Rattle.tailnet_commands.specs.Serve.{Serves, told};
+ghost use Rattle.tailnet_desk.specs.Chains.{Deals};
+ghost use Rattle.tailnet_commands.specs.Talk.{IsSeedTurn, Talked, point_of};
+
+use crate::closed::Closed;
+use crate::serving::serve;
+use desk_front::Front;
+use desk_state::Ask;
+use io_edge::{Clock, Entropy, Sink, Source};
+use moments::Moment;
+use row_keeper::Keeper;
+use std::alloc::Global;
+use tail_base::Text;
+use tailnet_desk::Desk;
+
+/// Hands the seed to the desk. A refused seed is passed over.
+fn seed_desk<K: Keeper, C: Clock>(alloc: Global, desk: &mut Desk<K>, clock: &mut C, text: Text)
+    ensures seeded { IsSeedTurn text (C.answer clock.old) (C.answer clock.new) (point_of K.faults desk.old) (point_of K.faults desk.new) }
+{
+    let ask = Ask::Seed { text };
+    let moment = Moment::clamp(clock.seconds());
+    let _reply = desk.ask(alloc, &ask, moment, None);
+}
+
+/// Serves a connection over the desk.
+fn serve_desk<K: Keeper, I: Source, O: Sink, C: Clock, N: Entropy>(
+    alloc: Global,
+    front: &Front,
+    requests: u32,
+    desk: &mut Desk<K>,
+    input: &mut I,
+    output: &mut O,
+    clock: &mut C,
+    entropy: &mut N,
+) -> Closed
+    requires some { 0 < requests }
+    ensures serves { let at = giving O.holds O.write_faults C.answer N.word N.faults in
+        Serves Deals front.now result requests []
+        (told I.left I.read_faults input.old (at output.old clock.old entropy.old)) (told I.left I.read_faults input.new (at output.new clock.new entropy.new))
+        (point_of K.faults desk.old) (point_of K.faults desk.new) }
+{
+    serve(alloc, front, requests, desk, input, output, clock, entropy)
+}
+
+/// Hands the seed, if there is one, to the desk, and serves a connection over it.
+pub(crate) fn talk<K: Keeper, I: Source, O: Sink, C: Clock, N: Entropy>(
+    alloc: Global,
+    front: &Front,
+    requests: u32,
+    seed: Option<Text>,
+    desk: &mut Desk<K>,
+    input: &mut I,
+    output: &mut O,
+    clock: &mut C,
+    entropy: &mut N,
+) -> Closed
+    requires some { 0 < requests }
+    ensures talked { let at = giving O.holds O.write_faults C.answer N.word N.faults in
+        Talked front.now result requests seed
+        (told I.left I.read_faults input.old (at output.old clock.old entropy.old)) (told I.left I.read_faults input.new (at output.new clock.new entropy.new))
+        (point_of K.faults desk.old) (point_of K.faults desk.new) }
+{
+    match seed {
+        None => serve_desk(alloc, front, requests, desk, input, output, clock, entropy),
+        Some(text) => {
+            seed_desk(alloc, desk, clock, text);
+            serve_desk(alloc, front, requests, desk, input, output, clock, entropy)
+        }
+    }
+}

@@ -1,0 +1,98 @@
+//! One connection.
+ghost use Rattle.std.specs.Prelude.{◌≡◌, ◌<◌, ◌==◌, ℕ, [], IfErr, OnOk};
+ghost use Rattle.tailnet_commands.specs.Asked.{IsRefused};
+ghost use Rattle.tailnet_commands.specs.Exchanges.{bad_answer};
+ghost use Rattle.tailnet_commands.specs.Outside.{giving};
+ghost use Rattle.tailnet_commands.specs.Serve.{Goes, Serves, told};
+
+use crate::answering::answer_request;
+use crate::closed::Closed;
+use crate::writing::send_refusal;
+use desk_front::Front;
+use http_front::{Buffer, Taken, take_request};
+use io_edge::{Clock, Entropy, Sink, Source};
+use std::alloc::Global;
+use tailnet_desk::Turns;
+
+/// Answers a head that is refused, and ends the connection.
+fn refuse<O: Sink>(alloc: Global, output: &mut O, status: u16) -> Closed
+    ensures refused { IsRefused (O.holds output.old) (O.holds output.new) (O.write_faults output.old) (O.write_faults output.new) (bad_answer status) result }
+{
+    match send_refusal(alloc, output, status) {
+        Ok(()) => Closed::Early,
+        Err(closed) => closed,
+    }
+}
+
+/// Serves one request; after an answer that leaves the connection open it says `Ok`.
+fn serve_one<T: Turns, I: Source, O: Sink, C: Clock, N: Entropy>(
+    alloc: Global,
+    front: &Front,
+    turns: &mut T,
+    input: &mut I,
+    output: &mut O,
+    clock: &mut C,
+    entropy: &mut N,
+    buffer: &mut Buffer,
+    last: bool,
+) -> Result<(), Closed>
+    ensures goes { let at = giving O.holds O.write_faults C.answer N.word N.faults in
+        OnOk result (Goes T.turn front.now last buffer.old buffer.new
+        (told I.left I.read_faults input.old (at output.old clock.old entropy.old)) (told I.left I.read_faults input.new (at output.new clock.new entropy.new))
+        turns.old turns.new) }
+    ensures ends { let at = giving O.holds O.write_faults C.answer N.word N.faults in
+        IfErr result (λ closed. (limit : ℕ) → 0 < limit → last ≡ (limit == 1) → Serves T.turn front.now closed limit buffer.old
+        (told I.left I.read_faults input.old (at output.old clock.old entropy.old)) (told I.left I.read_faults input.new (at output.new clock.new entropy.new))
+        turns.old turns.new) }
+{
+    match take_request(alloc, input, buffer) {
+        Taken::Request(request) => {
+            answer_request(alloc, front, turns, output, clock, entropy, &request, last)
+        }
+        Taken::End => Err(Closed::End),
+        Taken::Cut => Err(Closed::Early),
+        Taken::Bad(status) => Err(refuse(alloc, output, status)),
+        Taken::ReadFault => Err(Closed::ReadFault),
+        Taken::NoMemory => Err(Closed::NoMemory),
+    }
+}
+
+/// Serves requests until the input ends, one of them ends the connection, or as many were served as
+/// may be. At least one may.
+pub(crate) fn serve<T: Turns, I: Source, O: Sink, C: Clock, N: Entropy>(
+    alloc: Global,
+    front: &Front,
+    requests: u32,
+    turns: &mut T,
+    input: &mut I,
+    output: &mut O,
+    clock: &mut C,
+    entropy: &mut N,
+) -> Closed
+    requires some { 0 < requests }
+    ensures serves { let at = giving O.holds O.write_faults C.answer N.word N.faults in
+        Serves T.turn front.now result requests []
+        (told I.left I.read_faults input.old (at output.old clock.old entropy.old)) (told I.left I.read_faults input.new (at output.new clock.new entropy.new))
+        turns.old turns.new }
+{
+    let Ok(mut buffer) = Buffer::new(alloc) else {
+        return Closed::NoMemory;
+    };
+    let mut left = requests;
+    loop {
+        match serve_one(
+            alloc,
+            front,
+            turns,
+            input,
+            output,
+            clock,
+            entropy,
+            &mut buffer,
+            left == 1,
+        ) {
+            Ok(()) => left -= 1,
+            Err(closed) => return closed,
+        }
+    }
+}

@@ -1,0 +1,83 @@
+//! Bytes written whole.
+ghost use Rattle.std.specs.Prelude.{◌≡◌, IfOk, is_err};
+ghost use Rattle.desk_state.specs.declared.reply.Reply.{Reply};
+ghost use Rattle.desk_front.specs.Replies.{reply_bytes};
+ghost use Rattle.tailnet_commands.specs.Exchanges.{bad_answer};
+ghost use Rattle.tailnet_commands.specs.Pieces.{Sent, Wrote};
+
+use crate::closed::Closed;
+use desk_front::Front;
+use desk_state::{Ask, Refusal, Reply};
+use http_front::{no_memory_answer, plain_answer};
+use io_edge::{Failed, Sink};
+use std::alloc::Global;
+use tail_base::NoMemory;
+
+/// Writes the bytes, or a front of them where a write failed.
+pub(crate) fn write_all<O: Sink>(output: &mut O, bytes: &[u8]) -> Result<(), Failed>
+    ensures wrote { Wrote (O.holds output.old) (O.holds output.new) (O.write_faults output.old) (O.write_faults output.new) bytes.now (is_err result) }
+{
+    let mut rest = bytes;
+    while !rest.is_empty() {
+        let n = output.write(rest)?;
+        rest = &rest[n..];
+    }
+    Ok(())
+}
+
+/// Writes the bytes on a connection.
+pub(crate) fn send<O: Sink>(output: &mut O, bytes: &[u8]) -> Result<(), Closed>
+    ensures sent { Sent result (O.holds output.old) (O.holds output.new) (O.write_faults output.old) (O.write_faults output.new) bytes.now }
+{
+    match write_all(output, bytes) {
+        Ok(()) => Ok(()),
+        Err(_) => Err(Closed::WriteFault),
+    }
+}
+
+/// Writes the answer to a reply. Want of memory is answered without memory.
+#[tactic(auto, unfolding(desk_front::specs::Replies::reply_bytes))]
+pub(crate) fn send_reply<O: Sink>(
+    alloc: Global,
+    front: &Front,
+    output: &mut O,
+    ask: &Ask,
+    reply: &Reply,
+    close: bool,
+) -> Result<(), Closed>
+    ensures sent { Sent result (O.holds output.old) (O.holds output.new) (O.write_faults output.old) (O.write_faults output.new) (reply_bytes front.now ask.now reply.now close) }
+{
+    if let Reply::Refused(Refusal::NoMemory) = reply {
+        return send(output, no_memory_answer(close));
+    }
+    match front.answer(alloc, ask, reply, close) {
+        Ok(bytes) => send(output, &bytes),
+        Err(NoMemory) => Err(Closed::NoMemory),
+    }
+}
+
+/// The answer to a head that is refused with this status.
+fn bad_bytes(alloc: Global, status: u16) -> Result<Vec<u8>, NoMemory>
+    ensures value { IfOk result (λ made. made.items ≡ bad_answer status) }
+{
+    match status {
+        411 => plain_answer(alloc, 411, b"{\"error\":\"NoLength\"}", true),
+        413 => plain_answer(alloc, 413, b"{\"error\":\"BodyTooLong\"}", true),
+        431 => plain_answer(alloc, 431, b"{\"error\":\"HeadTooLong\"}", true),
+        _ => plain_answer(alloc, 400, b"{\"error\":\"BadHead\"}", true),
+    }
+}
+
+/// Writes the answer to a head that is refused with this status.
+pub(crate) fn send_refusal<O: Sink>(
+    alloc: Global,
+    output: &mut O,
+    status: u16,
+) -> Result<(), Closed>
+    ensures sent { Sent result (O.holds output.old) (O.holds output.new) (O.write_faults output.old) (O.write_faults output.new) (bad_answer status) }
+{
+    match bad_bytes(alloc, status) {
+        Ok(bytes) => send(output, &bytes),
+        Err(NoMemory) => Err(Closed::NoMemory),
+    }
+}
