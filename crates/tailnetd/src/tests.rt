@@ -114,13 +114,13 @@ pub(crate) fn piped(
 ) -> Result<Ran, NoMemory> {
     let mut moments = Items::new(alloc);
     moments.push(1_000_000_000)?;
-    piped_at(alloc, moments, settings, input, plan)
+    piped_at(alloc, MemoryClock::new(moments), settings, input, plan)
 }
 
-/// The same with these answers of the clock.
+/// The same with this clock.
 pub(crate) fn piped_at(
     alloc: Global,
-    moments: Items<i64>,
+    mut clock: MemoryClock,
     settings: &[u8],
     input: &[u8],
     plan: &Plan,
@@ -138,7 +138,7 @@ pub(crate) fn piped_at(
         &mut errors,
         &mut files_of(alloc, settings, plan.file)?,
         &mut opener,
-        &mut MemoryClock::new(moments),
+        &mut clock,
         &mut entropy_of(alloc, plan.word)?,
     );
     let machines = opener.tables().machines().len();

@@ -8,6 +8,7 @@
 //! a length without a body, an answer's body `#…` for a framed one, and `< registered` for the answer to a registration
 //! of the seed's user.
 use crate::tests::{CALM, Plan, SETTINGS, piped_at};
+use io_edge::MemoryClock;
 use std::alloc::Global;
 use std::process::Abort;
 use tail_base::{Items, NoMemory, Text};
@@ -197,7 +198,8 @@ fn is_held(alloc: Global, mut talk: Talk) -> Result<bool, NoMemory> {
     if talk.moments.is_empty() {
         talk.moments.push(1_000_000_000)?;
     }
-    let ran = piped_at(alloc, talk.moments, &talk.settings, &talk.input, &talk.plan)?;
+    let clock = MemoryClock::new(talk.moments);
+    let ran = piped_at(alloc, clock, &talk.settings, &talk.input, &talk.plan)?;
     let (status, line) = if talk.early {
         (Status::Early, b"tailnetd: closed early\n".as_slice())
     } else {
