@@ -1,0 +1,60 @@
+// A clock and a random source with answers that are known before, loaded in front of the C library's.
+// CLOCK_ANSWERS names a file of seconds, eight bytes each; the last is repeated. Words count up from 1.
+// WORD_FAULTS names a file with a byte for each draw of a word: where it isn't 0 the draw fails.
+#define _GNU_SOURCE
+#include <errno.h>
+#include <stdint.h>
+#include <stdio.h>
+#include <stdlib.h>
+#include <string.h>
+#include <time.h>
+
+struct bytes {
+    char *at;
+    long count;
+};
+
+static struct bytes bytes_of(const char *variable) {
+    struct bytes read = {NULL, 0};
+    const char *name = getenv(variable);
+    FILE *file = name ? fopen(name, "rb") : NULL;
+    if (!file) return read;
+    fseek(file, 0, SEEK_END);
+    long count = ftell(file);
+    rewind(file);
+    read.at = malloc(count + 1);
+    if (read.at) read.count = fread(read.at, 1, count, file);
+    fclose(file);
+    return read;
+}
+
+int clock_gettime(clockid_t clock, struct timespec *time) {
+    static struct bytes answers;
+    static long call;
+    if (!answers.at) answers = bytes_of("CLOCK_ANSWERS");
+    long count = answers.count / 8;
+    int64_t seconds = 0;
+    if (clock == CLOCK_REALTIME && count > 0) {
+        memcpy(&seconds, answers.at + 8 * (call < count ? call : count - 1), 8);
+        call++;
+    }
+    time->tv_sec = seconds;
+    time->tv_nsec = 999999999;
+    return 0;
+}
+
+int getentropy(void *buffer, size_t length) {
+    static struct bytes faults;
+    static long call;
+    static uint64_t word;
+    if (!faults.at) faults = bytes_of("WORD_FAULTS");
+    long number = call++;
+    if (number < faults.count && faults.at[number]) {
+        errno = EIO;
+        return -1;
+    }
+    word++;
+    memset(buffer, 0, length);
+    memcpy(buffer, &word, length < 8 ? length : 8);
+    return 0;
+}

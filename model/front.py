@@ -1,0 +1,314 @@
+"""Requests and answers: which ask a request is, in the order of docs/PROTOCOL.md, and the answer's bytes."""
+
+import json
+import re
+from http import HTTPStatus
+
+from bodies import (
+    BodyFault,
+    Fields,
+    object_of,
+    read_admit_form,
+    read_key_form,
+    read_map_request,
+    read_register,
+    read_tags_form,
+)
+from tailnet import Refusal
+from texts import ZERO_KEY, key_of, moment_text
+
+STATUSES = {
+    "NoPath": 404,
+    "BadMethod": 405,
+    "BadToken": 401,
+    "KeyExpired": 401,
+    "KeyUsed": 401,
+    "NotLive": 401,
+    "TagUndefined": 403,
+    "UnknownUser": 404,
+    "PendingUnknown": 404,
+    "NameTaken": 409,
+    "BadName": 409,
+    "NodeKeyTaken": 409,
+    "UserHasMachines": 409,
+    "EntropyFault": 500,
+    "Full": 507,
+    "AddressesSpent": 507,
+}
+PHRASES = {status.value: status.phrase for status in HTTPStatus}
+
+ROUTES = [
+    ("/machine/register", {"POST": "register"}),
+    ("/machine/map", {"POST": "map"}),
+    ("/api/v1/user", {"GET": "users", "POST": "add_user"}),
+    ("/api/v1/user/{login}", {"DELETE": "drop_user"}),
+    ("/api/v1/preauthkey", {"GET": "keys", "POST": "add_key"}),
+    ("/api/v1/preauthkey/{id}", {"DELETE": "expire_key"}),
+    ("/api/v1/node", {"GET": "nodes"}),
+    ("/api/v1/node/{id}", {"DELETE": "drop_node"}),
+    ("/api/v1/node/{id}/expire", {"POST": "expire_node"}),
+    ("/api/v1/node/{id}/rename", {"POST": "rename"}),
+    ("/api/v1/node/{id}/tags", {"POST": "set_tags"}),
+    ("/api/v1/register", {"GET": "waiting", "POST": "admit"}),
+    ("/api/v1/sweep", {"POST": "sweep"}),
+]
+SEGMENTS = {"{login}": "(?P<login>[^/]+)", "{id}": "(?P<id>[1-9][0-9]{0,9})"}
+
+
+def pattern_of(path):
+    return re.compile("/".join(SEGMENTS.get(segment, segment) for segment in path.split("/")))
+
+
+PATTERNS = [(pattern_of(path), methods) for path, methods in ROUTES]
+
+
+def route(path):
+    """The methods of a path, and the login or the id in it."""
+    for pattern, methods in PATTERNS:
+        match = pattern.fullmatch(path)
+        if match:
+            found = match.groupdict()
+            if int(found.get("id") or 1) <= 2147483647:
+                return methods, int(found["id"]) if "id" in found else found.get("login")
+    raise Refusal("NoPath")
+
+
+def text_of(value):
+    """JSON with its keys in byte order and without spaces."""
+    return json.dumps(value, sort_keys=True, separators=(",", ":"), ensure_ascii=False).encode()
+
+
+class Front:
+    """Answers requests from a tailnet. The clock and the words answer when they are called."""
+
+    def __init__(self, tailnet, settings, clock, words):
+        self.tailnet, self.settings, self.clock, self.words = tailnet, settings, clock, words
+
+    def answer(self, request):
+        """The status and the body of the answer to a request."""
+        try:
+            body = self.act(request)
+            return 200, body if isinstance(body, bytes) else text_of(body)
+        except BodyFault as fault:
+            return 400, json.dumps(fault.answer, separators=(",", ":")).encode()
+        except Refusal as refusal:
+            # (a key or a machine that nobody knows: of the machine that asks, or of an operator's path)
+            status = STATUSES.get(refusal.error) or (401 if request["path"].startswith("/machine/") else 404)
+            return status, json.dumps(refusal.answer, separators=(",", ":")).encode()
+
+    def act(self, request):
+        methods, segment = route(request["path"].split("?")[0])
+        if request["method"] not in methods:
+            raise Refusal("BadMethod")
+        act = getattr(self, methods[request["method"]])
+        if request["path"].startswith("/machine/"):
+            return act(self.machine_key(request["machine"]), request["body"])
+        if request["token"] is None or request["token"].strip(" \t") != "Bearer " + self.settings["token"]:
+            raise Refusal("BadToken")
+        return act(segment, request["body"])
+
+    def machine_key(self, header):
+        if header is None:
+            raise BodyFault("Missing", "Ts-Machine-Key")
+        key = key_of("mkey:", header)
+        if key in (None, ZERO_KEY):
+            raise BodyFault("BadField", "Ts-Machine-Key")
+        return key
+
+    def at_once(self):
+        """The tailnet at the time of an ask."""
+        self.tailnet.come_to(self.clock())
+        return self.tailnet
+
+    # Machines
+
+    def register(self, machine, body):
+        form = read_register(body)
+        words = None if form["auth"] else self.words()
+        answer = self.at_once().register(machine, form, words)
+        if isinstance(answer, str):
+            return self.registration(self.settings["server_url"] + "/register/" + answer, False, False, 0, "")
+        user, has_expired = answer
+        return self.registration("", True, has_expired, user.id, user.login)
+
+    def registration(self, url, is_authorized, has_expired, user, login):
+        return {
+            "AuthURL": url,
+            "Error": "",
+            "Login": {"ID": user, "LoginName": login},
+            "MachineAuthorized": is_authorized,
+            "NodeKeyExpired": has_expired,
+            "User": {"DisplayName": login.partition("@")[0], "ID": user},
+        }
+
+    def map(self, machine, body):
+        form = read_map_request(body)
+        row = self.at_once().asking(machine, form["node"])
+        if not form["reads_only"]:
+            self.tailnet.update(row, form)
+        if form["omits_peers"] and not form["reads_only"]:
+            return b""
+        text = text_of(self.whole_map(row))
+        return len(text).to_bytes(4, "little") + text
+
+    def whole_map(self, row):
+        """Without a policy every live machine is a peer of every other, and all may send to it."""
+        peers = [other for other in self.tailnet.machines.values() if other is not row and self.tailnet.is_live(other)]
+        ports = {"First": 0, "Last": 65535}
+        whole = {
+            "DNSConfig": {
+                "Domains": [self.settings["base_domain"]],
+                "ExtraRecords": [],
+                "Proxied": True,
+                "Resolvers": [],
+                "Routes": {},
+            },
+            "Domain": self.settings["base_domain"],
+            "Node": self.node(row),
+            "PacketFilter": [
+                {
+                    "DstPorts": [{"IP": str(address), "Ports": ports} for address in (row.v4, row.v6)],
+                    "IPProto": [1, 6, 17, 58],
+                    "SrcIPs": ["*"],
+                }
+            ],
+            "UserProfiles": [self.profile(user) for user in sorted({other.user for other in [row, *peers]})],
+        }
+        return {**whole, "Peers": [self.node(peer) for peer in peers]} if peers else whole
+
+    def node(self, row):
+        addresses = [f"{row.v4}/32", f"{row.v6}/128"]
+        return {
+            "Addresses": addresses,
+            "AllowedIPs": addresses,
+            "Created": moment_text(row.created),
+            "DiscoKey": "discokey:" + row.disco,
+            "Endpoints": row.endpoints,
+            "HomeDERP": row.derp,
+            "Hostinfo": {"Hostname": row.host},
+            "ID": row.id,
+            "Key": "nodekey:" + row.node,
+            "KeyExpiry": moment_text(row.expiry),
+            "Machine": "mkey:" + row.machine,
+            "MachineAuthorized": True,
+            "Name": f"{row.name}.{self.settings['base_domain']}.",
+            "Online": False,
+            "StableID": f"n{row.id}",
+            "Tags": row.tags,
+            "User": row.user,
+        }
+
+    def profile(self, user):
+        login = self.tailnet.users[user].login
+        return {"DisplayName": login.partition("@")[0], "ID": user, "LoginName": login}
+
+    # Operators
+
+    def users(self, _, body):
+        return {"users": [vars(user) for user in self.at_once().users.values()]}
+
+    def add_user(self, _, body):
+        name = Fields(object_of(body)).text("name")
+        return vars(self.at_once().add_user(name))
+
+    def drop_user(self, login, body):
+        self.at_once().drop_user(login)
+        return {}
+
+    def key_line(self, key):
+        return {
+            "ephemeral": key.ephemeral,
+            "expiry": moment_text(key.expiry),
+            "id": key.id,
+            "key": key.text,
+            "reusable": key.reusable,
+            "tags": key.tags,
+            "used": key.used,
+            "user": self.tailnet.users[key.user].login,
+        }
+
+    def keys(self, _, body):
+        return {"keys": [self.key_line(key) for key in self.at_once().keys.values()]}
+
+    def add_key(self, _, body):
+        form = read_key_form(body)
+        words = self.words()
+        return self.key_line(self.at_once().add_key(form, words))
+
+    def expire_key(self, id, body):
+        self.at_once().expire_key(id)
+        return {}
+
+    def node_line(self, row):
+        return {
+            "addresses": [str(row.v4), str(row.v6)],
+            "advertised": [str(route) for route in row.routes],
+            "approved": [],
+            "expiry": moment_text(row.expiry),
+            "id": row.id,
+            "live": self.tailnet.is_live(row),
+            "name": row.name,
+            "online": False,
+            "served": [],
+            "tags": row.tags,
+            "user": self.tailnet.users[row.user].login,
+        }
+
+    def nodes(self, _, body):
+        return {"nodes": [self.node_line(row) for row in self.at_once().machines.values()]}
+
+    def drop_node(self, id, body):
+        self.at_once().drop_node(id)
+        return {}
+
+    def expire_node(self, id, body):
+        expiry = Fields(object_of(body)).time("expiry")
+        return self.node_line(self.at_once().expire_node(id, expiry))
+
+    def rename(self, id, body):
+        name = Fields(object_of(body)).text("name")
+        return self.node_line(self.at_once().rename(id, name))
+
+    def set_tags(self, id, body):
+        tags = read_tags_form(body)
+        return self.node_line(self.at_once().set_tags(id, tags))
+
+    def waiting(self, _, body):
+        return {
+            "pending": [
+                {
+                    "host": entry.form["host"],
+                    "id": entry.text,
+                    "machine": "mkey:" + entry.machine,
+                    "node": "nodekey:" + entry.form["node"],
+                }
+                for entry in self.at_once().pending.values()
+            ]
+        }
+
+    def admit(self, _, body):
+        form = read_admit_form(body)
+        return self.node_line(self.at_once().admit(form["text"], form["login"]))
+
+    def sweep(self, _, body):
+        object_of(body)
+        machines, pending = self.at_once().sweep()
+        return {"machines": machines, "pending": pending}
+
+
+def request_bytes(request):
+    lines = [f"{request['method']} {request['path']} HTTP/1.1", "Host: tail"]
+    if request["machine"] is not None:
+        lines.append("Ts-Machine-Key: " + request["machine"])
+    if request["token"] is not None:
+        lines.append("Authorization: " + request["token"])
+    if request["close"]:
+        lines.append("Connection: close")
+    if request["body"] or request["method"] not in ("GET", "DELETE"):
+        lines.append(f"Content-Length: {len(request['body'])}")
+    return "\r\n".join([*lines, "", ""]).encode() + request["body"]
+
+
+def answer_bytes(status, body, ends):
+    lines = [f"HTTP/1.1 {status} {PHRASES[status]}", "Content-Type: application/json", f"Content-Length: {len(body)}"]
+    return "\r\n".join([*lines, *(["Connection: close"] if ends else []), "", ""]).encode() + body

@@ -1,0 +1,322 @@
+"""The Tailnet machine: its rows, and what each ask comes to by the rules of docs/PROTOCOL.md."""
+
+import ipaddress
+from dataclasses import dataclass, field
+
+from texts import LAST_MOMENT, ZERO_KEY, clamped, is_label, label_of_host, login_of, numbered
+
+COUNTER_LIMIT = 2147483647
+LIMITS = {"User": 256, "Key": 1024, "Pending": 256, "Machine": 512}
+RESERVED_V4 = [ipaddress.ip_network("100.100.100.100/32"), ipaddress.ip_network("100.115.92.0/23")]
+RESERVED_V6 = [ipaddress.ip_network("fd7a:115c:a1e0::53/128")]
+
+
+class Refusal(Exception):
+    """An ask is refused, and changes the time alone."""
+
+    def __init__(self, error, **more):
+        super().__init__(error)
+        self.error = error
+        self.answer = {"error": error, **more}
+
+
+@dataclass
+class User:
+    id: int
+    login: str
+
+
+@dataclass
+class Key:
+    id: int
+    text: str
+    user: int
+    reusable: bool
+    ephemeral: bool
+    expiry: int | None
+    used: bool = False
+    tags: list = field(default_factory=list)
+
+
+@dataclass
+class Pending:
+    id: int
+    text: str
+    machine: str
+    made: int
+    form: dict
+
+
+@dataclass
+class Machine:
+    id: int
+    name: str
+    v4: ipaddress.IPv4Address
+    v6: ipaddress.IPv6Address
+    created: int
+    machine: str
+    offline_since: int
+    node: str = ""
+    user: int = 0
+    host: str = ""
+    routes: list = field(default_factory=list)
+    tags: list = field(default_factory=list)
+    ephemeral: bool = False
+    expiry: int | None = None
+    disco: str = ZERO_KEY
+    endpoints: list = field(default_factory=list)
+    derp: int = 0
+
+
+class Tailnet:
+    """Rows by id, the time, and the settings. No machine is ever online, as there are no polls yet."""
+
+    def __init__(self, settings, moment):
+        self.settings = settings
+        self.now = clamped(moment)
+        self.users, self.keys, self.pending, self.machines = {}, {}, {}, {}
+        self.next = dict.fromkeys(LIMITS, 1)
+
+    def come_to(self, moment):
+        self.now = max(self.now, clamped(moment))
+
+    # Rows
+
+    def later(self, moment, seconds):
+        return min(LAST_MOMENT, moment + seconds)
+
+    def is_live(self, machine):
+        if machine.expiry is not None and machine.expiry <= self.now:
+            return False
+        return not machine.ephemeral or self.now < self.later(machine.offline_since, self.settings["ephemeral_seconds"])
+
+    def is_overdue(self, entry):
+        return self.later(entry.made, self.settings["pending_seconds"]) <= self.now
+
+    def machine_of(self, key):
+        return next((row for row in self.machines.values() if row.machine == key), None)
+
+    def entry_of(self, key):
+        return next((row for row in self.pending.values() if row.machine == key), None)
+
+    def machine_with(self, id):
+        if id not in self.machines:
+            raise Refusal("UnknownMachine")
+        return self.machines[id]
+
+    def user_named(self, text):
+        login = login_of(text)
+        for user in self.users.values():
+            if user.login == login:
+                return user
+        raise Refusal("UnknownUser")
+
+    def take_id(self, kind, gone=0):
+        """The next id of a kind, where there is room once so many rows are gone."""
+        rows = {"User": self.users, "Key": self.keys, "Pending": self.pending, "Machine": self.machines}[kind]
+        if len(rows) - gone >= LIMITS[kind] or self.next[kind] >= COUNTER_LIMIT:
+            raise Refusal("Full", what=kind)
+        return self.next[kind]
+
+    def put(self, kind, rows, row):
+        rows[row.id] = row
+        self.next[kind] = row.id + 1
+
+    # Names and addresses
+
+    def free_address(self, prefix, reserved, taken):
+        first, last = int(prefix.network_address), int(prefix.broadcast_address)
+        for number in range(first + 1, last):
+            address = type(prefix.network_address)(number)
+            if address not in taken and not any(address in block for block in reserved):
+                return address
+        raise Refusal("AddressesSpent", family=prefix.version)
+
+    def free_name(self, host):
+        label, taken = label_of_host(host), {row.name for row in self.machines.values()}
+        if label not in taken:
+            return label
+        return next(name for number in range(1, 1000) if (name := numbered(label, number)) not in taken)
+
+    def new_machine(self, key, host):
+        id = self.take_id("Machine")
+        rows = self.machines.values()
+        v4 = self.free_address(self.settings["prefix_v4"], RESERVED_V4, {row.v4 for row in rows})
+        v6 = self.free_address(self.settings["prefix_v6"], RESERVED_V6, {row.v6 for row in rows})
+        return Machine(id, self.free_name(host), v4, v6, self.now, key, self.now)
+
+    def enter(self, key, user, form, tags, ephemeral):
+        """The machine's row is made, or renewed in its place, and its pending entry goes."""
+        held = self.machine_of(key) or self.new_machine(key, form["host"])
+        row = Machine(held.id, held.name, held.v4, held.v6, held.created, key, self.now)
+        row.node, row.user, row.host, row.routes = form["node"], user, form["host"], form["routes"]
+        row.tags, row.ephemeral, row.expiry = sorted(set(tags)), ephemeral, form["expiry"]
+        if row.expiry is None and not row.tags and self.settings["key_seconds"]:
+            row.expiry = self.later(self.now, self.settings["key_seconds"])
+        self.machines[row.id] = row
+        self.next["Machine"] = max(self.next["Machine"], row.id + 1)
+        entry = self.entry_of(key)
+        if entry:
+            del self.pending[entry.id]
+        return row
+
+    # What machines ask
+
+    def seed(self, text):
+        if self.users or text.startswith("tnkey-"):
+            return
+        self.put("User", self.users, User(self.next["User"], "seed@"))
+        self.put("Key", self.keys, Key(self.next["Key"], text, self.next["User"] - 1, True, False, None))
+
+    def register(self, key, form, words):
+        """The user, and whether the node key has expired; or the text under which the machine waits."""
+        row = self.machine_of(key)
+        if form["expiry"] is not None and form["expiry"] <= self.now:
+            return self.log_out(row, form)
+        if row and self.is_live(row) and row.node == form["node"]:
+            return self.users[row.user], False
+        self.refuse_taken(key, form["node"])
+        if form["auth"]:
+            return self.register_by_key(key, form)
+        if row and self.is_live(row) and row.node == form["old"]:
+            row.node = form["node"]
+            return self.users[row.user], False
+        return self.wait(key, form, words)
+
+    def log_out(self, row, form):
+        if row is None or row.node != form["node"]:
+            raise Refusal("UnknownMachine")
+        if row.ephemeral:
+            del self.machines[row.id]
+        elif row.expiry is None or row.expiry > self.now:
+            row.expiry = self.now
+        return self.users[row.user], True
+
+    def refuse_taken(self, key, node):
+        if any(row.node == node and row.machine != key for row in self.machines.values()):
+            raise Refusal("NodeKeyTaken")
+
+    def register_by_key(self, machine, form):
+        key = next((key for key in self.keys.values() if key.text == form["auth"]), None)
+        if key is None:
+            raise Refusal("KeyUnknown")
+        if key.expiry is not None and key.expiry <= self.now:
+            raise Refusal("KeyExpired")
+        if key.used and not key.reusable:
+            raise Refusal("KeyUsed")
+        if form["tags"]:
+            raise Refusal("TagUndefined")
+        row = self.enter(machine, key.user, form, key.tags + form["tags"], key.ephemeral or form["ephemeral"])
+        key.used = True
+        return self.users[row.user], row.expiry is not None and row.expiry <= self.now
+
+    def wait(self, key, form, words):
+        entry = self.entry_of(key)
+        if entry and entry.form["node"] == form["node"] and not self.is_overdue(entry):
+            return entry.text
+        id = self.take_id("Pending", gone=1 if entry else 0)
+        if words is None:
+            raise Refusal("EntropyFault")
+        if entry:
+            del self.pending[entry.id]
+        text = f"reg-{id}-{words[0]:016x}{words[1]:016x}"
+        self.put("Pending", self.pending, Pending(id, text, key, self.now, form))
+        return text
+
+    def asking(self, key, node):
+        row = self.machine_of(key)
+        if row is None or row.node != node:
+            raise Refusal("UnknownMachine")
+        if not self.is_live(row):
+            raise Refusal("NotLive")
+        return row
+
+    def update(self, row, form):
+        row.endpoints = form["endpoints"]
+        row.disco = form["disco"] or row.disco
+        host = form["host"]
+        if host is not None:
+            row.host = row.host if host["name"] is None else host["name"]
+            row.derp = row.derp if host["derp"] is None else host["derp"]
+            row.routes = host["routes"]
+
+    # What operators ask
+
+    def add_user(self, name):
+        login = login_of(name if "@" in name else name + "@")
+        if login is None:
+            raise Refusal("BadName")
+        if any(user.login == login for user in self.users.values()):
+            raise Refusal("NameTaken")
+        user = User(self.take_id("User"), login)
+        self.put("User", self.users, user)
+        return user
+
+    def drop_user(self, text):
+        user = self.user_named(text)
+        if any(row.user == user.id for row in self.machines.values()):
+            raise Refusal("UserHasMachines")
+        del self.users[user.id]
+        self.keys = {id: key for id, key in self.keys.items() if key.user != user.id}
+
+    def add_key(self, form, words):
+        user = self.user_named(form["login"])
+        if form["tags"]:
+            raise Refusal("TagUndefined")
+        id = self.take_id("Key")
+        if words is None:
+            raise Refusal("EntropyFault")
+        text = f"tnkey-{id}-" + "".join(f"{word:016x}" for word in words)
+        key = Key(id, text, user.id, form["reusable"], form["ephemeral"], form["expiry"])
+        self.put("Key", self.keys, key)
+        return key
+
+    def expire_key(self, id):
+        if id not in self.keys:
+            raise Refusal("KeyUnknown")
+        key = self.keys[id]
+        if key.expiry is None or key.expiry > self.now:
+            key.expiry = self.now
+
+    def admit(self, text, login):
+        entry = next((row for row in self.pending.values() if row.text == text), None)
+        if entry is None or self.is_overdue(entry):
+            raise Refusal("PendingUnknown")
+        user, form = self.user_named(login), entry.form
+        self.refuse_taken(entry.machine, form["node"])
+        if form["tags"]:
+            raise Refusal("TagUndefined")
+        return self.enter(entry.machine, user.id, form, form["tags"], form["ephemeral"])
+
+    def expire_node(self, id, expiry):
+        row = self.machine_with(id)
+        row.expiry = self.now if expiry is None else expiry
+        return row
+
+    def rename(self, id, name):
+        row = self.machine_with(id)
+        if not is_label(name):
+            raise Refusal("BadName")
+        if any(other.name == name for other in self.machines.values() if other is not row):
+            raise Refusal("NameTaken")
+        row.name = name
+        return row
+
+    def set_tags(self, id, tags):
+        row = self.machine_with(id)
+        if tags:
+            raise Refusal("TagUndefined")
+        row.tags = []
+        return row
+
+    def drop_node(self, id):
+        del self.machines[self.machine_with(id).id]
+
+    def sweep(self):
+        gone = [row.id for row in self.machines.values() if row.ephemeral and not self.is_live(row)]
+        overdue = [row.id for row in self.pending.values() if self.is_overdue(row)]
+        for id in gone:
+            del self.machines[id]
+        for id in overdue:
+            del self.pending[id]
+        return len(gone), len(overdue)

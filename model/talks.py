@@ -1,0 +1,221 @@
+"""Random requests: mostly sound ones about rows that are there, and some with each kind of fault."""
+
+import json
+
+from texts import FIRST_MOMENT, LAST_MOMENT, moment_text
+
+HOSTS = [
+    "Alice's MacBook Pro!", "office", "Office", "office-1", "", "--", "node", "node-1", "laptop.local",
+    "a" * 60 + "-bb", "a" * 63, "a" * 70, "a" * 255, "a" * 256, "é" * 127, "é" * 128, "日本", 'x"y\\z\n\t\x01\x7f',
+]
+NAMES = ["laptop", "office", "Office", "a" * 63, "a" * 64, "-a", "a-", "", "a.b", "é"]
+LOGINS = [
+    "ann@", "Ann", "bob@example.org", "BOB@Example.org", "seed@", "eve", "no login", "@x", "a@b@c", "", "a" * 63,
+    "a" * 64, "a_b.c+d-e@x-y.z", "a@" + "b" * 63, "a@" + "b" * 64, "é@", "ann@x_y",
+]
+TIMES = [
+    "x", "2001-09-09", "2001-13-01T00:00:00Z", "2001-09-09T24:00:00Z", "2001-09-09T01:46:60Z", "2001-09-09t01:46:40Z",
+    "2001-09-09T01:46:40z", "2001-09-09T01:46:40", "2001-02-29T00:00:00Z", "0000-01-01T00:00:00Z",
+    "2001-09-09T01:46:40.Z", "0001-01-01T00:00:00+00:01", "9999-12-31T23:59:59-00:01", " 2001-09-09T01:46:40Z",
+    "0001-01-01T00:00:00Z", "0001-01-01T02:00:00+02:00", "2000-02-29T00:00:00.5+23:59",
+]
+ROUTES = [
+    "10.0.0.0/8", "10.0.0.0/9", "10.1.0.0/16", "192.168.5.0/24", "0.0.0.0/0", "::/0", "0::/0", "fd00::/8", "100.64.0.1/32",
+    "2001:DB8:0:0:1::/80", "1:0:0:2:0:0:0:3/128",
+]
+NO_ROUTES = [
+    "10.0.0.1/8", "10.0.0.0/33", "10/8", "x", "", "10.0.0.0", "::1/64", "10.0.0.0/08", "fd00::/129", "::1.2.3.4/128",
+]
+ENDPOINTS = ["192.0.2.7:41641", "[2001:DB8::1]:41641", "192.0.2.8:0", "[::ffff:1]:65535", "[1:2:3:4:5:6:7::]:1"]
+NO_ENDPOINTS = [
+    "192.0.2.7", "192.0.2.7:65536", "2001:db8::1:41641", "", "192.0.2.7:01", "[192.0.2.7]:1", "[::1%x]:1", "1.2.3:1",
+]
+TAGS = ["tag:web", "tag:Db-1", "tag:a"]
+NO_TAGS = ["tag:", "tag:1", "web", "tag:a_b", "tag:" + "a" * 64, "Tag:a"]
+OTHER_TYPES = [None, 5, True, [], {}, "x", -1, 1.5]
+IDS = ["0", "01", "2147483647", "2147483648", "x", "-1", "1x", "99999999999", "+1", "7"]
+BODIES = [
+    b"", b"[]", b"{", b"null", b'"x"', b'{"a":1}x', b"\xff", b'{"NodeKey":"\xff"}', b'{"name":"a","name":"dup"}', b'{"user":-0}',
+]
+STRAY = [
+    ("GET", "/"), ("GET", "/machine/map"), ("PUT", "/machine/map"), ("POST", "/machine/map/"), ("GET", "/api/v1/node/1"),
+    ("GET", "/api/v1/policy"), ("POST", "/api/v1/node/1/routes"), ("GET", "/api/v1/dns"), ("DELETE", "/api/v1/user/"),
+    ("PATCH", "/api/v1/user"), ("GET", "/api/v1/user?x=1"), ("post", "/api/v1/sweep"), ("GET", "//api/v1/user"),
+    ("GET", "/api/v1/user/"), ("DELETE", "/api/v1/node/0"), ("GET", "/api/v1/node/01"), ("GET", "/api/v1/node/1/"),
+]
+
+
+class Talk:
+    """Draws requests for a tailnet, whose rows it looks at."""
+
+    def __init__(self, random, tailnet, settings):
+        self.random, self.tailnet, self.settings = random, tailnet, settings
+
+    def once_in(self, times):
+        return self.random.randrange(times) == 0
+
+    def one_of(self, *lists):
+        return self.random.choice([item for items in lists for item in items])
+
+    def some(self, texts, faulty, most):
+        """A list of texts, which once in a while has a fault."""
+        if self.once_in(25):
+            return self.one_of(OTHER_TYPES, [[faulty[0]], [None], texts[:1] * most, texts[:1] * (most + 1)])
+        return [self.one_of(texts, faulty if self.once_in(30) else []) for _ in range(self.random.randrange(4))]
+
+    def text(self, *lists):
+        return self.one_of(OTHER_TYPES) if self.once_in(40) else self.one_of(*lists)
+
+    def flag(self):
+        return self.one_of(OTHER_TYPES) if self.once_in(30) else self.one_of([True, False])
+
+    def key(self, head, digits):
+        if self.once_in(40):
+            digits = ["", "0" * 63, "0" * 65, "g" * 64, "0" * 64, " " + "a" * 64]
+            return self.one_of([head + text for text in digits], [head.upper() + "a" * 64])
+        return head + self.one_of(digits + digits.upper()) * 64
+
+    def time(self):
+        if self.once_in(5):
+            return self.one_of(TIMES, OTHER_TYPES)
+        offset = self.one_of([0, 0, 60, -60, 90, -330, 720])
+        moment = self.tailnet.now + self.one_of([-2, -1, 0, 1, 2, 3, 5, 10, 100])
+        text = moment_text(max(FIRST_MOMENT, min(LAST_MOMENT, moment + 60 * offset)))[:-1]
+        hours, minutes = divmod(abs(offset), 60)
+        return text + self.one_of(["", ".25"]) + (f"{'-' if offset < 0 else '+'}{hours:02}:{minutes:02}" if offset else "Z")
+
+    def object(self, **fields):
+        """Each field with its odds in a hundred, and a way to draw it."""
+        return {name: draw() for name, (odds, draw) in fields.items() if self.random.randrange(100) < odds}
+
+    def inner(self, **fields):
+        return self.one_of(OTHER_TYPES) if self.once_in(40) else self.object(**fields)
+
+    def register(self):
+        keys = [key.text for key in self.tailnet.keys.values()]
+        body = self.object(
+            NodeKey=(98, lambda: self.key("nodekey:", "abcdefgh")),
+            OldNodeKey=(20, lambda: self.key("nodekey:", "abcdefgh")),
+            Auth=(60, lambda: self.inner(AuthKey=(95, lambda: self.text(["k1", "zz", ""], 3 * keys)))),
+            Expiry=(30, self.time),
+            Ephemeral=(30, self.flag),
+            Hostinfo=(60, lambda: self.inner(
+                Hostname=(70, lambda: self.text(HOSTS)),
+                RoutableIPs=(40, lambda: self.some(ROUTES, NO_ROUTES, 32)),
+                RequestTags=(10, lambda: self.some(TAGS, NO_TAGS, 16)),
+            )),
+            Unread=(10, lambda: self.one_of(OTHER_TYPES)),
+        )
+        machine = self.key("mkey:", "12345")
+        held = self.one_of(self.tailnet.machines.values(), 5 * [None])
+        waiting = self.one_of(self.tailnet.pending.values(), 3 * [None])
+        if held:
+            machine = "mkey:" + held.machine
+            body[self.one_of(["NodeKey", "NodeKey", "OldNodeKey"])] = "nodekey:" + held.node
+        elif waiting:
+            machine = "mkey:" + waiting.machine
+            body["NodeKey"] = "nodekey:" + waiting.form["node"]
+        if self.once_in(3):
+            body.pop("Auth", None)
+        return "POST", "/machine/register", machine, body
+
+    def map(self):
+        body = self.object(
+            Compress=(3, lambda: self.one_of(["", "zstd"], OTHER_TYPES)),
+            NodeKey=(98, lambda: self.key("nodekey:", "abcdefgh")),
+            Stream=(20, lambda: self.once_in(20)),
+            OmitPeers=(40, self.flag),
+            ReadOnly=(40, self.flag),
+            MapSessionHandle=(5, lambda: self.text(["x", ""])),
+            MapSessionSeq=(8, lambda: self.one_of([0, 1, 2**64 - 1, 2**64], OTHER_TYPES)),
+            Endpoints=(40, lambda: self.some(ENDPOINTS, NO_ENDPOINTS, 32)),
+            DiscoKey=(30, lambda: self.key("discokey:", "1234")),
+            Hostinfo=(50, lambda: self.inner(
+                Hostname=(40, lambda: self.text(HOSTS)),
+                NetInfo=(40, lambda: self.inner(
+                    PreferredDERP=(80, lambda: self.one_of(3 * [0, 1, 65535], [65536], OTHER_TYPES)),
+                )),
+                RoutableIPs=(40, lambda: self.some(ROUTES, NO_ROUTES, 32)),
+            )),
+        )
+        machine = self.key("mkey:", "12345")
+        held = self.one_of(4 * list(self.tailnet.machines.values()), [None])
+        if held:
+            machine, body["NodeKey"] = "mkey:" + held.machine, "nodekey:" + held.node
+        return "POST", "/machine/map", machine, body
+
+    def id(self, rows):
+        return self.one_of(IDS if self.once_in(10) else [], [str(id) for id in rows], ["1"])
+
+    def user(self):
+        logins = [user.login for user in self.tailnet.users.values()]
+        path = "/api/v1/user/" + self.one_of(LOGINS, 3 * logins).replace(" ", "+").replace("é", "e")
+        return self.one_of([
+            ("GET", "/api/v1/user", None, None),
+            ("POST", "/api/v1/user", None, {"name": self.text(LOGINS)}),
+            ("DELETE", path, None, None),
+        ])
+
+    def pre_auth_key(self):
+        logins = [user.login for user in self.tailnet.users.values()]
+        body = self.object(
+            user=(98, lambda: self.text(LOGINS, 6 * logins)),
+            reusable=(50, self.flag),
+            ephemeral=(40, self.flag),
+            expiry=(40, self.time),
+            tags=(10, lambda: self.some(TAGS, NO_TAGS, 16)),
+        )
+        return self.one_of([
+            ("GET", "/api/v1/preauthkey", None, None),
+            ("POST", "/api/v1/preauthkey", None, body),
+            ("POST", "/api/v1/preauthkey", None, body),
+            ("DELETE", "/api/v1/preauthkey/" + self.id(self.tailnet.keys), None, None),
+        ])
+
+    def node(self):
+        path = "/api/v1/node/" + self.id(self.tailnet.machines)
+        names = [row.name for row in self.tailnet.machines.values()]
+        return self.one_of([
+            ("GET", "/api/v1/node", None, None),
+            ("DELETE", path, None, None),
+            ("POST", path + "/expire", None, self.object(expiry=(70, self.time))),
+            ("POST", path + "/rename", None, {"name": self.text(NAMES, names)}),
+            ("POST", path + "/tags", None, self.object(tags=(95, lambda: self.one_of([[], [], self.some(TAGS, NO_TAGS, 32)])))),
+        ])
+
+    def waiting(self):
+        texts = [entry.text for entry in self.tailnet.pending.values()]
+        logins = [user.login for user in self.tailnet.users.values()]
+        body = {"id": self.text(["reg-9-x"], 6 * texts), "user": self.text(LOGINS[:5], 4 * logins)}
+        return self.one_of([
+            ("GET", "/api/v1/register", None, None),
+            ("POST", "/api/v1/register", None, body),
+            ("POST", "/api/v1/register", None, body),
+            ("POST", "/api/v1/sweep", None, {}),
+        ])
+
+    def stray(self):
+        method, path = self.one_of(STRAY)
+        return method, path, self.key("mkey:", "12345"), {} if method in ("POST", "PUT") else None
+
+    def token(self):
+        token = self.settings["token"]
+        if self.once_in(50):
+            return self.one_of(["Bearer x", "bearer " + token, None, "", "Bearer  " + token, token, f"Bearer {token}x"])
+        return "Bearer " + token
+
+    def request(self):
+        draws = 10 * [self.register] + 5 * [self.map] + 3 * [self.node] + [self.user, self.pre_auth_key, self.waiting]
+        draw = self.stray if self.once_in(40) else self.random.choice(draws)
+        method, path, machine, body = draw()
+        body = b"" if body is None else json.dumps(body, ensure_ascii=self.once_in(2)).encode()
+        if self.once_in(80):
+            body = self.one_of(BODIES, [body + b" "])
+        return {
+            "method": method,
+            "path": path,
+            "machine": None if self.once_in(60) else machine,
+            "token": self.token(),
+            "body": body,
+            "close": self.once_in(150),
+        }
