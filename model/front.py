@@ -1,8 +1,7 @@
-"""Requests and answers: which ask a request is, in the order of docs/PROTOCOL.md, and the answer's bytes."""
+"""What a request asks, in the order of docs/PROTOCOL.md, and the body of its answer."""
 
 import json
 import re
-from http import HTTPStatus
 
 from bodies import (
     BodyFault,
@@ -14,6 +13,7 @@ from bodies import (
     read_register,
     read_tags_form,
 )
+from heads import HeadFault, refuse_head, values_of
 from tailnet import Refusal
 from texts import ZERO_KEY, key_of, moment_text
 
@@ -35,7 +35,6 @@ STATUSES = {
     "Full": 507,
     "AddressesSpent": 507,
 }
-PHRASES = {status.value: status.phrase for status in HTTPStatus}
 
 ROUTES = [
     ("/machine/register", {"POST": "register"}),
@@ -87,8 +86,11 @@ class Front:
     def answer(self, request):
         """The status and the body of the answer to a request."""
         try:
+            refuse_head(request)
             body = self.act(request)
             return 200, body if isinstance(body, bytes) else text_of(body)
+        except HeadFault as fault:
+            return fault.status, json.dumps(fault.answer, separators=(",", ":")).encode()
         except BodyFault as fault:
             return 400, json.dumps(fault.answer, separators=(",", ":")).encode()
         except Refusal as refusal:
@@ -102,15 +104,15 @@ class Front:
             raise Refusal("BadMethod")
         act = getattr(self, methods[request["method"]])
         if request["path"].startswith("/machine/"):
-            return act(self.machine_key(request["machine"]), request["body"])
-        if request["token"] is None or request["token"].strip(" \t") != "Bearer " + self.settings["token"]:
+            return act(self.machine_key(values_of(request, "ts-machine-key")[:1]), request["body"])
+        if values_of(request, "authorization")[:1] != ["Bearer " + self.settings["token"]]:
             raise Refusal("BadToken")
         return act(segment, request["body"])
 
-    def machine_key(self, header):
-        if header is None:
+    def machine_key(self, texts):
+        if not texts:
             raise BodyFault("Missing", "Ts-Machine-Key")
-        key = key_of("mkey:", header)
+        key = key_of("mkey:", texts[0])
         if key in (None, ZERO_KEY):
             raise BodyFault("BadField", "Ts-Machine-Key")
         return key
@@ -294,21 +296,3 @@ class Front:
         object_of(body)
         machines, pending = self.at_once().sweep()
         return {"machines": machines, "pending": pending}
-
-
-def request_bytes(request):
-    lines = [f"{request['method']} {request['path']} HTTP/1.1", "Host: tail"]
-    if request["machine"] is not None:
-        lines.append("Ts-Machine-Key: " + request["machine"])
-    if request["token"] is not None:
-        lines.append("Authorization: " + request["token"])
-    if request["close"]:
-        lines.append("Connection: close")
-    if request["body"] or request["method"] not in ("GET", "DELETE"):
-        lines.append(f"Content-Length: {len(request['body'])}")
-    return "\r\n".join([*lines, "", ""]).encode() + request["body"]
-
-
-def answer_bytes(status, body, ends):
-    lines = [f"HTTP/1.1 {status} {PHRASES[status]}", "Content-Type: application/json", f"Content-Length: {len(body)}"]
-    return "\r\n".join([*lines, *(["Connection: close"] if ends else []), "", ""]).encode() + body

@@ -201,21 +201,56 @@ class Talk:
     def token(self):
         token = self.settings["token"]
         if self.once_in(50):
-            return self.one_of(["Bearer x", "bearer " + token, None, "", "Bearer  " + token, token, f"Bearer {token}x"])
+            return self.one_of(["Bearer x", "bearer " + token, "", "Bearer  " + token, token, f"Bearer {token}x"])
         return "Bearer " + token
+
+    def field(self, name, value):
+        """A field line, whose name is compared without regard to case."""
+        name = self.one_of([name, name, name, name.lower(), name.upper()])
+        return name, self.one_of([" ", " ", "", "\t "]) + value + self.one_of(["", "", " \t"])
+
+    def length_fields(self, method, body):
+        """None where they may be left out; and once in a while some that break a rule."""
+        if method not in ("POST", "PUT") and not body and self.once_in(2):
+            return []
+        length = str(len(body))
+        if self.once_in(60):
+            faulty = ["1048577", "9999999999", "1" * 11, "", "+1", "1 1"]
+            texts = self.one_of([[], [length, "0" + length], [length, length + "0"]], [[text] for text in faulty])
+            return [self.field("Content-Length", text) for text in texts]
+        return [self.field("Content-Length", length) for _ in range(2 if self.once_in(20) else 1)]
+
+    def stray_fields(self):
+        """Field lines that mostly say nothing."""
+        if self.once_in(60):
+            count = self.one_of([58, 59, 60, 61, 62, 63, 64, 65])
+            return [self.field("X-Line", str(number)) for number in range(count)]
+        if self.once_in(80):
+            return [self.field("X-Long", "a" * self.one_of(range(15900, 16384)))]
+        names = self.one_of([[], [], ["Host"], ["Transfer-Encoding"]]) if self.once_in(25) else ["X-Empty", "Accept"]
+        return [self.field(name, self.one_of(["", "chunked", "é"])) for name in names]
+
+    def fields(self, method, machine, body):
+        fields = self.length_fields(method, body) + self.stray_fields()
+        fields += [] if self.once_in(150) else [self.field("Host", self.one_of(["tail", "", "a b"]))]
+        fields += [] if self.once_in(100) else [self.field("Authorization", self.token())]
+        fields += [] if machine is None or self.once_in(100) else [self.field("Ts-Machine-Key", machine)]
+        fields += [self.field("Ts-Machine-Key", "x")] if self.once_in(100) else []
+        if self.once_in(50):
+            fields.append(self.field("Connection", self.one_of(["close", "Close", "close, x", "keep-alive"])))
+        return fields
 
     def request(self):
         draws = 10 * [self.register] + 5 * [self.map] + 3 * [self.node] + [self.user, self.pre_auth_key, self.waiting]
         draw = self.stray if self.once_in(40) else self.random.choice(draws)
         method, path, machine, body = draw()
         body = b"" if body is None else json.dumps(body, ensure_ascii=self.once_in(2)).encode()
-        if self.once_in(80):
+        if self.once_in(80) and method == "POST":
             body = self.one_of(BODIES, [body + b" "])
         return {
             "method": method,
             "path": path,
-            "machine": None if self.once_in(60) else machine,
-            "token": self.token(),
+            "version": self.one_of(["HTTP/1.0", "HTTP/1.2", "HTTP/2.0", "http/1.1"]) if self.once_in(100) else "HTTP/1.1",
+            "fields": self.fields(method, machine, body),
             "body": body,
-            "close": self.once_in(150),
         }
