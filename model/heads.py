@@ -28,6 +28,9 @@ def values_of(request, name):
 def refuse_head(request):
     """Refuses a head that breaks a rule, the first in their order."""
     lengths = values_of(request, "content-length")
+    if request["version"] not in ("HTTP/1.0", "HTTP/1.1"):
+        # (what names another version begins no head, however long it is)
+        raise HeadFault(400, "BadHead")
     if len(head_bytes(request)) > 16384 or len(request["fields"]) > 64:
         raise HeadFault(431, "HeadTooLong")
     if request["version"] != "HTTP/1.1" or len(values_of(request, "host")) != 1:
