@@ -2,11 +2,14 @@ ghost use Rattle.std.specs.Prelude.{◌≡◌, [], ◌∷◌, None, IfOk};
 ghost use Rattle.net_rows.specs.Rows.{after, empty_rows};
 ghost use Rattle.net_rows.specs.Damage.{damage};
 
-use crate::{AuthKey, Change, Counters, Damage, Kind, Pending, Row, Rows, Settings, Tables, User};
+use crate::{
+    AuthKey, Change, Counters, Damage, Extra, Kind, Pending, Row, Rows, Settings, Tables, User,
+};
 use moments::Moment;
+use net_addr::Addr;
 use std::alloc::Global;
 use std::test::Fail;
-use tail_base::{Items, Login, MachineKey, NoMemory, NodeKey, Text};
+use tail_base::{Duplicate, Items, Login, MachineKey, NoMemory, NodeKey, Text};
 
 fn text(rt: &HostRuntime, text: &str) -> Result<Text, Fail>
     ensures value { IfOk result (λ made. made ≡ text.now) }
@@ -149,5 +152,14 @@ fn settings_have_defaults(rt: HostRuntime) -> Result<(), Fail> {
     );
     let settings = made.ok().ok_or("memory")?;
     assert!(rt; settings.fields().prefix_v4.len() == 10 && settings.fields().workers == 4);
+    Ok(())
+}
+
+#[test]
+fn extra_records_are_copied(rt: HostRuntime) -> Result<(), Fail> {
+    let addr = Addr::read(b"192.168.5.9").ok_or("no address")?;
+    let name = text(&rt, "nas.tail.example")?;
+    let copy = Extra { name, addr }.copy(rt.alloc()).ok().ok_or("memory")?;
+    assert!(rt; copy.name.as_str() == "nas.tail.example" && copy.addr == addr);
     Ok(())
 }
