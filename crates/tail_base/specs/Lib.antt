@@ -1,6 +1,10 @@
 pub mod Keys
 pub mod Labels
 pub mod Logins
+pub mod Numerals
+pub mod Places
+pub mod Searches
+pub mod Sorted
 pub mod SpellsLabel
 pub mod SpellsLogin
 pub mod SpellsTag

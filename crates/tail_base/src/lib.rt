@@ -4,6 +4,7 @@
 
 mod ascii;
 mod bytes;
+mod failure;
 mod items;
 mod key;
 mod label;
@@ -11,19 +12,25 @@ mod laws;
 mod login;
 mod memory;
 mod naming;
+mod numerals;
+mod sorted;
 mod tag;
 #[cfg(test)]
 mod tests;
 mod text;
 
 pub use bytes::Bytes;
+pub use failure::Failure;
 pub use items::Items;
 pub use key::{DiscoKey, MachineKey, NodeKey};
 pub use label::Label;
 pub use laws::{
-    key_texts_differ, labels_are_read_again, logins_are_read_again, tags_are_read_again,
+    key_texts_differ, labels_are_read_again, logins_are_read_again, searches_find,
+    sorted_lists_rise, tags_are_read_again,
 };
 pub use login::Login;
 pub use memory::{Duplicate, NoMemory};
+pub use numerals::{digits_in, number_in, short_numeral};
+pub use sorted::sorted_once;
 pub use tag::Tag;
 pub use text::Text;

@@ -26,6 +26,21 @@ pub trait Duplicate: Drop + Sized {
         ensures equal { IfOk result (λ made. made ≡ self.now) };
 }
 
+impl<T: Duplicate> Duplicate for Option<T> {
+    fn copy(&self, alloc: Global) -> Result<Self, NoMemory> {
+        match self {
+            Some(value) => Ok(Some(value.copy(alloc)?)),
+            None => Ok(None),
+        }
+    }
+}
+
+impl Duplicate for u8 {
+    fn copy(&self, _: Global) -> Result<Self, NoMemory> {
+        Ok(*self)
+    }
+}
+
 impl Duplicate for u32 {
     fn copy(&self, _: Global) -> Result<Self, NoMemory> {
         Ok(*self)

@@ -1,5 +1,9 @@
 //! Tags.
-ghost use Rattle.std.specs.Prelude.{◌≡◌, ◌↔◌, ℕ, List, true, IfOk};
+ghost use Rattle.std.specs.Prelude.{◌≡◌, ◌↔◌, ℕ, List, Some, true, IfOk, refl};
+ghost use Rattle.std.specs.Cmp.{partial_equiv_from_equiv};
+ghost use Rattle.std.specs.Cmp.Lexicographic.{nat_list_cmp_total, nat_list_eq_equiv, slice_cmp, texts_po, texts_ties};
+ghost use Rattle.std.specs.Ordering.{nat_cmp};
+ghost use Rattle.std.specs.Str.{bytes_eq};
 ghost use Rattle.std.specs.List.{list_all};
 ghost use Rattle.tail_base.specs.Tags.{is_letter, is_tag, is_tag_byte, is_tag_name, tag_of};
 ghost use Rattle.tail_base.specs.SpellsTag.{SpellsTag};
@@ -7,10 +11,11 @@ ghost use Rattle.tail_base.specs.SpellsTag.{SpellsTag};
 use crate::memory::{Duplicate, NoMemory};
 use crate::text::Text;
 use std::alloc::Global;
+use std::cmp::Ordering;
 use std::marker::Model;
 
 /// A tag of the Tailscale policy file: `tag:`, a letter, and up to 62 letters, digits or hyphens.
-/// Contracts see it as its bytes.
+/// Contracts see it as its bytes, by which tags are ordered.
 #[derive(Drop)]
 pub struct Tag {
     text: Text,
@@ -95,6 +100,44 @@ impl Tag {
         ensures tag { is_tag self.now ≡ true }
     {
         self.text.as_slice()
+    }
+}
+
+impl PartialEq for Tag {
+    ghost eq = { λ a b. bytes_eq a b };
+
+    ghost laws = { partial_equiv_from_equiv nat_list_eq_equiv };
+
+    fn eq(&self, other: &Tag) -> bool {
+        self.as_slice() == other.as_slice()
+    }
+}
+
+impl Eq for Tag {
+    ghost laws = { nat_list_eq_equiv };
+}
+
+impl PartialOrd for Tag {
+    ghost partial_cmp = { λ a b. Some (slice_cmp nat_cmp a b) };
+
+    ghost laws = { texts_po };
+
+    fn partial_cmp(&self, other: &Tag) -> Option<Ordering> {
+        Some(self.cmp(other))
+    }
+}
+
+impl Ord for Tag {
+    ghost cmp = { slice_cmp nat_cmp };
+
+    ghost total = { nat_list_cmp_total };
+
+    ghost matches_partial_cmp = { λ a b. refl };
+
+    ghost matches_eq = { λ a b. texts_ties a b };
+
+    fn cmp(&self, other: &Tag) -> Ordering {
+        self.as_slice().cmp(other.as_slice())
     }
 }
 
