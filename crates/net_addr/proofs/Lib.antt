@@ -11,6 +11,7 @@ pub mod PartLemmas
 pub mod PrefixLemmas
 pub mod QuadLemmas
 pub mod ReadLemmas
+mod RouteLemmas
 pub mod SplitLemmas
 pub mod TextLemmas
 pub mod TidyLemmas

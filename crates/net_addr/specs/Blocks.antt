@@ -1,7 +1,7 @@
 -- Which addresses a prefix holds.
 use Rattle.std.specs.Prelude.{◌≡◌, ◌+◌, ◌-◌, ℕ, Bool, true, ◌&&◌, nat_le}
 use Rattle.std.specs.Bool.{beq}
-use Rattle.net_addr.specs.Bits.{Address, Block, size_of}
+use Rattle.net_addr.specs.Bits.{Address, Block, family_bits, size_of}
 
 -- the highest address of a prefix, as a number
 abbrev pub last_of : Block → ℕ
@@ -25,3 +25,7 @@ is_within inner outer = beq inner.base.v6 outer.base.v6 && nat_le outer.base.bit
 
 abbrev pub overlap : Block → Block → Bool
 overlap p q = beq p.base.v6 q.base.v6 && nat_le p.base.bits (last_of q) && nat_le q.base.bits (last_of p)
+
+-- the prefix of one address
+abbrev pub prefix_of_addr : Address → Block
+prefix_of_addr addr = record { base = addr; len = family_bits addr.v6 }

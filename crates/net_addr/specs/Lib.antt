@@ -8,7 +8,9 @@ pub mod Numerals
 pub mod Parts
 pub mod PrefixTexts
 pub mod QuadTexts
+pub mod Routes
 pub mod SpellsAddr
 pub mod SpellsEndpoint
 pub mod SpellsPrefix
+pub mod Tailnet
 pub mod V6Texts

@@ -1,11 +1,14 @@
 //! What the texts of addresses, prefixes and endpoints come to. None of these functions does
 //! anything: each states a law.
-ghost use Rattle.std.specs.Prelude.{◌≡◌, ◌<◌, ◌^◌};
+ghost use Rattle.std.specs.Prelude.{◌≡◌, ◌<◌, ◌^◌, Bool, List};
+ghost use Rattle.std.specs.List.{list_any};
+ghost use Rattle.std.specs.List.Sorted.{IsStrictlySortedBy};
 ghost use Rattle.net_addr.specs.AddrTexts.{addr_text};
 ghost use Rattle.net_addr.specs.Bits.{Address, Block, IsBlock, family_size};
 ghost use Rattle.net_addr.specs.declared.endpoint.Endpoint.{Endpoint};
 ghost use Rattle.net_addr.specs.EndpointTexts.{endpoint_text};
 ghost use Rattle.net_addr.specs.PrefixTexts.{prefix_text};
+ghost use Rattle.net_addr.specs.Routes.{route_cmp, sorted_routes};
 
 /// No two addresses share a text.
 pub fn addr_texts_differ()
@@ -24,4 +27,12 @@ pub fn endpoint_texts_differ()
         → a.addr.bits < family_size a.addr.v6 → b.addr.bits < family_size b.addr.v6
         → a.port < 2 ^ 16 → b.port < 2 ^ 16
         → endpoint_text a ≡ endpoint_text b → a ≡ b }
+{}
+
+/// Routes in order rise strictly, and are those that were given: some route passes a test exactly
+/// where some given one does.
+pub fn sorted_routes_rise()
+    ensures rise { (routes : List Block) → IsStrictlySortedBy route_cmp (sorted_routes routes) }
+    ensures same { (test : Block → Bool) (routes : List Block)
+        → list_any test (sorted_routes routes) ≡ list_any test routes }
 {}

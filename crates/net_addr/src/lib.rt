@@ -11,11 +11,15 @@ mod parts;
 mod prefix;
 mod prefix_fault;
 mod quad;
+mod tailnet;
 #[cfg(test)]
 mod tests;
 
 pub use addr::Addr;
 pub use endpoint::Endpoint;
-pub use laws::{addr_texts_differ, endpoint_texts_differ, prefix_texts_differ};
-pub use prefix::Prefix;
+pub use laws::{addr_texts_differ, endpoint_texts_differ, prefix_texts_differ, sorted_routes_rise};
+pub use prefix::{Prefix, sorted_routes};
 pub use prefix_fault::PrefixFault;
+pub use tailnet::{
+    TAILNET_V4_BASE, TAILNET_V4_LEN, TAILNET_V6_BASE, TAILNET_V6_LEN, tailnet_v4, tailnet_v6,
+};

@@ -1,8 +1,13 @@
 //! Prefixes.
-ghost use Rattle.std.specs.Prelude.{◌≡◌, ℕ, ◌<◌, ◌≤◌, ◌-◌, ◌%◌, ◌^◌, ◌↔◌, IsTrue, IfOk};
+ghost use Rattle.std.specs.Prelude.{◌≡◌, ℕ, ◌<◌, ◌≤◌, ◌-◌, ◌%◌, ◌^◌, ◌↔◌, IsTrue, IfOk, length, refl};
+ghost use Rattle.std.proofs.Common.{rules};
+ghost use Rattle.std.specs.Cmp.{bool_cmp_total, nat_cmp_total, on_total, partial_order_from_own_ties, partial_order_from_total, then_total};
+ghost use Rattle.std.specs.Cmp.Rules.{comparing};
+ghost use Rattle.std.specs.Ordering.{as_partial_cmp};
 ghost use Rattle.net_addr.specs.Bits.{Block, IsBlock, family_bits, size_of};
+ghost use Rattle.net_addr.specs.Routes.{route_cmp, sorted_routes};
 ghost use Rattle.net_addr.specs.SpellsPrefix.{SpellsPrefix};
-ghost use Rattle.net_addr.specs.Blocks.{IsWithin, Overlaps, holds, is_within, last_of, overlap};
+ghost use Rattle.net_addr.specs.Blocks.{IsWithin, Overlaps, holds, is_within, last_of, overlap, prefix_of_addr};
 ghost use Rattle.net_addr.specs.PrefixTexts.{aligned, prefix_of_text, prefix_text};
 
 use crate::addr::Addr;
@@ -10,12 +15,13 @@ use crate::numerals::number_up_to;
 use crate::parts::place_of;
 use crate::prefix_fault::PrefixFault;
 use std::alloc::Global;
+use std::cmp::Ordering;
 use std::marker::Model;
-use tail_base::{Duplicate, NoMemory, Text};
+use tail_base::{Duplicate, Items, NoMemory, Text, sorted_once};
 
 /// An address prefix: the addresses that share the first `len` bits of the base. The base has no
 /// bit set past them. Prefixes go by family, IPv4 first, then by base, then by length.
-#[derive(Clone, Copy, Debug, PartialEq, Eq, PartialOrd, Ord, Drop)]
+#[derive(Clone, Copy, Debug, PartialEq, Eq, Drop)]
 pub struct Prefix {
     base: Addr,
     len: u8,
@@ -40,6 +46,14 @@ impl Prefix {
         ensures value { result ≡ record { base = base; len = len } }
     {
         Prefix { base, len }
+    }
+
+    /// The prefix of one address.
+    pub fn of_addr(addr: Addr) -> Prefix
+        ensures value { result ≡ prefix_of_addr addr }
+    {
+        let len = if addr.is_v6() { 128 } else { 32 };
+        Prefix::new(addr, len)
     }
 
     /// The prefix that a text spells: an address, a slash, and the length in decimal.
@@ -192,8 +206,44 @@ fn ones(count: u32) -> u128
     }
 }
 
+impl Ord for Prefix {
+    ghost cmp = { route_cmp };
+
+    ghost total = { then_total (on_total (λ p. p.base.v6) bool_cmp_total)
+        (then_total (on_total (λ p. p.base.bits) nat_cmp_total) (on_total (λ p. p.len) nat_cmp_total)) };
+
+    ghost matches_partial_cmp = { λ a b. refl };
+
+    ghost matches_eq = { Prim.search (comparing, rules) };
+
+    fn cmp(&self, other: &Prefix) -> Ordering {
+        let family = self.base.is_v6().cmp(&other.base.is_v6());
+        let start = self.base.bits().cmp(&other.base.bits());
+        family.then(start.then(self.len.cmp(&other.len)))
+    }
+}
+
+impl PartialOrd for Prefix {
+    ghost partial_cmp = { as_partial_cmp route_cmp };
+
+    ghost laws = { partial_order_from_own_ties (partial_order_from_total (then_total (on_total (λ p. p.base.v6) bool_cmp_total)
+        (then_total (on_total (λ p. p.base.bits) nat_cmp_total) (on_total (λ p. p.len) nat_cmp_total)))) (Prim.search (comparing, rules)) };
+
+    fn partial_cmp(&self, other: &Prefix) -> Option<Ordering> {
+        Some(self.cmp(other))
+    }
+}
+
 impl Duplicate for Prefix {
     fn copy(&self, _: Global) -> Result<Self, NoMemory> {
         Ok(*self)
     }
+}
+
+/// Routes by family, IPv4 first, then by base, then by length, each once.
+pub fn sorted_routes(alloc: Global, routes: &[Prefix]) -> Result<Items<Prefix>, NoMemory>
+    ensures value { IfOk result (λ made. made ≡ sorted_routes routes.now) }
+    ensures short { IfOk result (λ made. length made ≤ length routes.now) }
+{
+    sorted_once(alloc, routes)
 }

@@ -90,3 +90,15 @@ fold_any cmp same test held (x ∷ xs) =
 pub sorted_once_any : {T : Type 0} (cmp : T → T → Ordering) (same : (a b : T) → cmp a b ≡ Equal → a ≡ b) (test : T → Bool) (xs : List T)
     → list_any test (sorted_once cmp xs) ≡ list_any test xs
 sorted_once_any cmp same test xs = fold_any cmp same test [] xs ∙ or_false (list_any test xs)
+
+with_element_same : {T : Type 0} (cmp other : T → T → Ordering) → ((x y : T) → cmp x y ≡ other x y) → (ys : List T) (x : T) → with_element cmp ys x ≡ with_element other ys x
+with_element_same cmp other same [] x = refl
+with_element_same cmp other same (y ∷ ys) x = rw (same x y, with_element_same cmp other same ys x) refl
+
+fold_same : {T : Type 0} (cmp other : T → T → Ordering) → ((x y : T) → cmp x y ≡ other x y) → (held xs : List T) → fold (with_element cmp) held xs ≡ fold (with_element other) held xs
+fold_same cmp other same held [] = refl
+fold_same cmp other same held (x ∷ xs) = rw (with_element_same cmp other same held x) (fold_same cmp other same (with_element other held x) xs)
+
+-- two comparisons that agree give one list
+pub sorted_once_same : {T : Type 0} (cmp other : T → T → Ordering) → ((x y : T) → cmp x y ≡ other x y) → (xs : List T) → sorted_once cmp xs ≡ sorted_once other xs
+sorted_once_same cmp other same xs = fold_same cmp other same [] xs
