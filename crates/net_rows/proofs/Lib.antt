@@ -1,6 +1,5 @@
 pub mod Bools
 pub mod Members
-pub mod ShelfLemmas
 pub mod HeldLemmas
 pub mod Empty
 pub mod PutLemmas
@@ -9,6 +8,8 @@ pub mod Scan
 pub mod Stands
 pub mod RemoveLemmas
 pub mod RowAt
+pub mod MapLemmas
+pub mod ShelfLemmas
 pub mod SoundPut
 pub mod SoundRemove
 pub mod SoundRows

@@ -3,7 +3,7 @@ use Rattle.std.proofs.Common.{◌≡◌, zero, suc, Bool, true, false, List, [],
 use Rattle.std.specs.Prelude.{Contains, Some, None}
 use Rattle.std.specs.List.{find, list_any, list_all}
 use Rattle.std.proofs.lemmas.List.Elements.{Contains-append_cases}
-use Rattle.net_rows.proofs.Bools.{truth}
+use Rattle.std.proofs.lemmas.Bool.{cases_Bool}
 
 pub no_member : {T : Type 0} (x : T) → Contains [] x → ⊥
 no_member x (k, lt, is) = omega arith
@@ -31,7 +31,7 @@ cut_last xs x a m =
 pub find_member : {T : Type 0} (test : T → Bool) (xs : List T) (x : T) → find test xs ≡ Some x → Contains xs x × (test x ≡ true)
 find_member test [] x h = absurd (cc)
 find_member {T} test (y ∷ ys) x h =
-    elim (truth (test y)) [
+    elim (cases_Bool (test y)) [
       | inl passes ↦
           let same : Some y ≡ Some x = rw passes at h in
           let e : y ≡ x = cc in
@@ -43,7 +43,7 @@ find_member {T} test (y ∷ ys) x h =
 pub find_none : {T : Type 0} (test : T → Bool) (xs : List T) → find test xs ≡ None → (a : T) → Contains xs a → test a ≡ false
 find_none test [] h a m = absurd (no_member a m)
 find_none {T} test (y ∷ ys) h a m =
-    elim (truth (test y)) [
+    elim (cases_Bool (test y)) [
       | inl passes ↦ let bad : Some y ≡ None = rw passes at h in absurd (cc)
       | inr fails ↦ elim (cut_member y ys a m) [ inl e ↦ rw e fails | inr r ↦ find_none test ys (rw fails at h) a r ]
     ]
@@ -56,7 +56,7 @@ find_nothing {T} test (y ∷ ys) h = rw (h y (first_member y ys)) (find_nothing 
 pub list_any_member : {T : Type 0} (test : T → Bool) (xs : List T) → list_any test xs ≡ false → (a : T) → Contains xs a → test a ≡ false
 list_any_member test [] h a m = absurd (no_member a m)
 list_any_member {T} test (y ∷ ys) h a m =
-    elim (truth (test y)) [
+    elim (cases_Bool (test y)) [
       | inl passes ↦ let bad : true ≡ false = rw passes at h in absurd (cc)
       | inr fails ↦ elim (cut_member y ys a m) [ inl e ↦ rw e fails | inr r ↦ list_any_member test ys (rw fails at h) a r ]
     ]
@@ -65,7 +65,7 @@ list_any_member {T} test (y ∷ ys) h a m =
 pub list_any_found : {T : Type 0} (test : T → Bool) (xs : List T) → list_any test xs ≡ true → (a : T) × Contains xs a × (test a ≡ true)
 list_any_found test [] h = absurd (cc)
 list_any_found {T} test (y ∷ ys) h =
-    elim (truth (test y)) [
+    elim (cases_Bool (test y)) [
       | inl passes ↦ (y, first_member y ys, passes)
       | inr fails ↦ let rest = list_any_found test ys (rw fails at h) in (rest.0, rest_member y ys rest.0 rest.1, rest.2)
     ]
@@ -73,7 +73,7 @@ list_any_found {T} test (y ∷ ys) h =
 pub list_any_is : {T : Type 0} (test : T → Bool) (xs : List T) (a : T) → Contains xs a → test a ≡ true → list_any test xs ≡ true
 list_any_is test [] a m h = absurd (no_member a m)
 list_any_is {T} test (y ∷ ys) a m h =
-    elim (truth (test y)) [
+    elim (cases_Bool (test y)) [
       | inl passes ↦ rw passes refl
       | inr fails ↦ rw fails (elim (cut_member y ys a m) [
         | inl e ↦ let bad : false ≡ true = sym fails ∙ ap test (sym e) ∙ h in absurd (cc)
@@ -84,7 +84,7 @@ list_any_is {T} test (y ∷ ys) a m h =
 pub list_all_member : {T : Type 0} (test : T → Bool) (xs : List T) → list_all test xs ≡ true → (a : T) → Contains xs a → test a ≡ true
 list_all_member test [] h a m = absurd (no_member a m)
 list_all_member {T} test (y ∷ ys) h a m =
-    elim (truth (test y)) [
+    elim (cases_Bool (test y)) [
       | inl passes ↦ elim (cut_member y ys a m) [ inl e ↦ rw e passes | inr r ↦ list_all_member test ys (rw passes at h) a r ]
       | inr fails ↦ let bad : false ≡ true = rw fails at h in absurd (cc)
     ]

@@ -7,7 +7,7 @@ use Rattle.std.proofs.lemmas.Slice.Eq.{starts_is}
 use Rattle.std.proofs.lemmas.Bool.Decides.{Decides-eqb}
 use Rattle.std.proofs.Math.Seq.{drop-append_seam}
 use Rattle.net_rows.specs.Damage.{names_id}
-use Rattle.net_rows.proofs.Bools.{false_unless}
+use Rattle.std.proofs.lemmas.Bool.{false_from_ne_true}
 
 pub digit_found : (n : ℕ) (text rest : List ℕ) → n < 10 → text ≡ (48 + n) ∷ rest → text ≡ decimal n ++ rest
 digit_found n text rest small e = rw (decimal_digit n small) e
@@ -43,7 +43,7 @@ starts_after (x ∷ xs) text needle = rw (same_byte x) (starts_after xs text nee
 
 pub starts_never : (text needle : List ℕ) → ((rest : List ℕ) → text ≢ needle ++ rest) → starts_with nat_eq text needle ≡ false
 starts_never text needle never =
-    false_unless (starts_with nat_eq text needle)
+    false_from_ne_true (starts_with nat_eq text needle)
     (λ h. never (drop (length needle) text) ((starts_is Decides-eqb text needle (starts_with nat_eq text needle) refl).0 h))
 
 regroup : (head digits tail rest : List ℕ) → head ++ digits ++ tail ++ rest ≡ head ++ (digits ++ (tail ++ rest))

@@ -2,16 +2,16 @@
 use Rattle.std.proofs.Common.{◌≡◌, ◌<◌, ◌≤◌, ◌+◌, ℕ, suc, List, [], ◌∷◌, length, arith, ◌⊎◌, inl, inr, sym, ◌∙◌, ap, refl, ◌==◌, nat_lt}
 use Rattle.std.specs.Prelude.{Contains}
 use Rattle.net_rows.specs.Shelf.{put_row, IsAscending, AreBelow, Tells, IsOwn, HasRow}
-use Rattle.net_rows.proofs.Bools.{truth}
+use Rattle.std.proofs.lemmas.Bool.{cases_Bool}
 use Rattle.net_rows.proofs.Members.{no_member, cut_member, first_member, rest_member}
 
 -- what is put is the row or one that was there
 pub put_member : {T : Type 0} (id : T → ℕ) (xs : List T) (x a : T) → Contains (put_row id xs x) a → (a ≡ x) ⊎ Contains xs a
 put_member id [] x a h = cut_member x [] a h
 put_member {T} id (y ∷ ys) x a h =
-    elim (truth (id y == id x)) [
+    elim (cases_Bool (id y == id x)) [
       | inl same ↦ elim (cut_member x ys a (rw same at h)) [ inl e ↦ inl e | inr r ↦ inr (rest_member y ys a r) ]
-      | inr other ↦ elim (truth (nat_lt (id y) (id x))) [
+      | inr other ↦ elim (cases_Bool (nat_lt (id y) (id x))) [
         | inl before ↦ elim (cut_member y (put_row id ys x) a (rw (other, before) at h)) [
           | inl e ↦ inr (0, omega arith, sym e)
           | inr r ↦ elim (put_member id ys x a r) [ inl e ↦ inl e | inr s ↦ inr (rest_member y ys a s) ]
@@ -23,9 +23,9 @@ put_member {T} id (y ∷ ys) x a h =
 pub put_there : {T : Type 0} (id : T → ℕ) (xs : List T) (x : T) → Contains (put_row id xs x) x
 put_there id [] x = first_member x []
 put_there {T} id (y ∷ ys) x =
-    elim (truth (id y == id x)) [
+    elim (cases_Bool (id y == id x)) [
       | inl same ↦ rw same (first_member x ys)
-      | inr other ↦ elim (truth (nat_lt (id y) (id x))) [
+      | inr other ↦ elim (cases_Bool (nat_lt (id y) (id x))) [
         | inl before ↦ rw (other, before) (rest_member y (put_row id ys x) x (put_there id ys x))
         | inr after ↦ rw (other, after) (first_member x (y ∷ ys))
       ]
@@ -47,9 +47,9 @@ Tells-put id f xs x old own a b ina inb e =
 pub IsAscending-put : {T : Type 0} (id : T → ℕ) (xs : List T) (x : T) → IsAscending id xs → IsAscending id (put_row id xs x)
 IsAscending-put id [] x h = (λ y m. absurd (no_member y m), tt)
 IsAscending-put {T} id (y ∷ ys) x h =
-    elim (truth (id y == id x)) [
+    elim (cases_Bool (id y == id x)) [
       | inl same ↦ rw same (λ z m. let e : id y ≡ id x = grind arith in rw (← e) (h.0 z m), h.1)
-      | inr other ↦ elim (truth (nat_lt (id y) (id x))) [
+      | inr other ↦ elim (cases_Bool (nat_lt (id y) (id x))) [
         | inl before ↦
             let lt : id y < id x = grind arith in
             rw (other, before) (
@@ -76,12 +76,12 @@ AreBelow-put id next next' xs x old one below up a m =
 pub HasRow-put : {T : Type 0} (id : T → ℕ) (xs : List T) (x : T) (n : ℕ) → HasRow id xs n → HasRow id (put_row id xs x) n
 HasRow-put id [] x n (a, inside, is) = absurd (no_member a inside)
 HasRow-put {T} id (y ∷ ys) x n (a, inside, is) =
-    elim (truth (id y == id x)) [
+    elim (cases_Bool (id y == id x)) [
       | inl same ↦ elim (cut_member y ys a inside) [
         | inl e ↦ let here : id x ≡ n = grind (arith, ap id e) in (x, rw same (0, omega arith, refl), here)
         | inr r ↦ (a, rw same (rest_member x ys a r), is)
       ]
-      | inr other ↦ elim (truth (nat_lt (id y) (id x))) [
+      | inr other ↦ elim (cases_Bool (nat_lt (id y) (id x))) [
         | inl before ↦ elim (cut_member y ys a inside) [
           | inl e ↦ (a, rw (other, before) (0, omega arith, sym e), is)
           | inr r ↦ let rest = HasRow-put id ys x n (a, r, is) in (rest.0, rw (other, before) (rest_member y (put_row id ys x) rest.0 rest.1), rest.2)
@@ -94,9 +94,9 @@ HasRow-put {T} id (y ∷ ys) x n (a, inside, is) =
 pub length-put : {T : Type 0} (id : T → ℕ) (xs : List T) (x : T) → length (put_row id xs x) ≤ length xs + 1
 length-put id [] x = omega arith
 length-put {T} id (y ∷ ys) x =
-    elim (truth (id y == id x)) [
+    elim (cases_Bool (id y == id x)) [
       | inl same ↦ rw same (omega arith)
-      | inr other ↦ elim (truth (nat_lt (id y) (id x))) [
+      | inr other ↦ elim (cases_Bool (nat_lt (id y) (id x))) [
         | inl before ↦ let rest = length-put id ys x in rw (other, before) (omega arith)
         | inr after ↦ rw (other, after) (omega arith)
       ]
@@ -106,11 +106,11 @@ length-put {T} id (y ∷ ys) x =
 pub length-replace : {T : Type 0} (id : T → ℕ) (xs : List T) (x : T) → IsAscending id xs → HasRow id xs (id x) → length (put_row id xs x) ≡ length xs
 length-replace id [] x h (a, inside, is) = absurd (no_member a inside)
 length-replace {T} id (y ∷ ys) x h (a, inside, is) =
-    elim (truth (id y == id x)) [
+    elim (cases_Bool (id y == id x)) [
       | inl same ↦ rw same refl
       | inr other ↦
           let apart : id y ≡ id x → ⊥ = λ e. absurd (grind arith) in
-          elim (truth (nat_lt (id y) (id x))) [
+          elim (cases_Bool (nat_lt (id y) (id x))) [
             | inl before ↦ rw (other, before) (elim (cut_member y ys a inside) [
               | inl e ↦ absurd (apart (sym (ap id e) ∙ is))
               | inr r ↦ ap suc (length-replace id ys x h.1 (a, r, is))

@@ -2,7 +2,7 @@
 use Rattle.std.proofs.Common.{◌≡◌, ◌<◌, ℕ, true, false, List, [], ◌∷◌, arith, inl, inr, sym, ◌∙◌, ap, refl, ◌==◌, nat_lt}
 use Rattle.std.specs.Prelude.{Contains, Some, None}
 use Rattle.net_rows.specs.Shelf.{row_at, IsAscending}
-use Rattle.net_rows.proofs.Bools.{truth}
+use Rattle.std.proofs.lemmas.Bool.{cases_Bool}
 use Rattle.net_rows.proofs.Members.{no_member, cut_member, first_member, find_nothing}
 
 -- below the least id there is no row
@@ -26,7 +26,7 @@ above_rest id x xs k p lt z m = elim (cut_member x xs z m) [ inl e ↦ rw e lt |
 same_rest : {T : Type 0} (id : T → ℕ) (x : T) (xs ys : List T) → IsAscending id (x ∷ xs) → IsAscending id (x ∷ ys)
     → ((k : ℕ) → row_at id (x ∷ xs) k ≡ row_at id (x ∷ ys) k) → (k : ℕ) → row_at id xs k ≡ row_at id ys k
 same_rest {T} id x xs ys p q h k =
-    elim (truth (id x == k)) [
+    elim (cases_Bool (id x == k)) [
       | inl here ↦
           let is : id x ≡ k = grind arith in
           row_at_below id xs k (λ z m. rw (← is) (p.0 z m)) ∙ sym (row_at_below id ys k (λ z m. rw (← is) (q.0 z m)))
@@ -42,7 +42,7 @@ same_rows {T} id (x ∷ xs) [] p q h =
     let bad : Some x ≡ None = sym (row_at_is id (x ∷ xs) x p (first_member x xs)) ∙ h (id x) in absurd (cc)
 same_rows {T} id (x ∷ xs) (y ∷ ys) p q h =
     let first : row_at id (x ∷ xs) (id x) ≡ Some x = row_at_is id (x ∷ xs) x p (first_member x xs) in
-    elim (truth (id x == id y)) [
+    elim (cases_Bool (id x == id y)) [
       | inl here ↦
           let is : id x ≡ id y = grind arith in
           let second : row_at id (y ∷ ys) (id y) ≡ Some y = row_at_is id (y ∷ ys) y q (first_member y ys) in
@@ -51,7 +51,7 @@ same_rows {T} id (x ∷ xs) (y ∷ ys) p q h =
           let q' : IsAscending id (x ∷ ys) = rw e q in
           let h' = rw (← e) at h in
           ap (λ z. z ∷ xs) e ∙ ap (λ zs. y ∷ zs) (same_rows id xs ys p.1 q.1 (same_rest id x xs ys p q' h'))
-      | inr apart ↦ elim (truth (nat_lt (id x) (id y))) [
+      | inr apart ↦ elim (cases_Bool (nat_lt (id x) (id y))) [
         | inl less ↦
             let lt : id x < id y = grind arith in
             let none = row_at_below id (y ∷ ys) (id x) (above_rest id y ys (id x) q lt) in

@@ -5,7 +5,7 @@ use Rattle.std.proofs.lemmas.List.{append-nil}
 use Rattle.std.proofs.Math.Seq.{take-suc, drop-cons}
 use Rattle.std.proofs.Math.ListN.{drop_of_length-le}
 use Rattle.net_rows.specs.Damage.{first_misfit}
-use Rattle.net_rows.proofs.Bools.{truth}
+use Rattle.std.proofs.lemmas.Bool.{cases_Bool}
 
 -- what each fitting row keeps holds of all rows
 pub misfit_keeps : {T : Type 0} (id : T → ℕ) (fits : List T → T → Bool) (P : List T → Type 0)
@@ -13,7 +13,7 @@ pub misfit_keeps : {T : Type 0} (id : T → ℕ) (fits : List T → T → Bool) 
     → (before xs : List T) → P before → first_misfit id fits before xs ≡ None → P (before ++ xs)
 misfit_keeps id fits P step before [] p h = rw append-nil p
 misfit_keeps {T} id fits P step before (x ∷ xs) p h =
-    elim (truth (fits before x)) [
+    elim (cases_Bool (fits before x)) [
       | inl passes ↦ rw (← append_assoc before (x ∷ []) xs) (misfit_keeps id fits P step (before ++ x ∷ []) xs (step before x p passes) (rw passes at h))
       | inr fails ↦ let bad : Some (id x) ≡ None = rw fails at h in absurd (cc)
     ]

@@ -8,7 +8,7 @@ use Rattle.net_rows.specs.declared.key.AuthKey.{AuthKey}
 use Rattle.net_rows.specs.declared.machine.Machine.{Machine}
 use Rattle.net_rows.specs.declared.change.RowKey.{RowKey}
 use Rattle.net_rows.specs.declared.change.RowKey.TheVariants as key
-use Rattle.net_rows.proofs.Bools.{both}
+use Rattle.std.proofs.lemmas.Bool.{and_parts}
 use Rattle.net_rows.proofs.Members.{cut_member, no_member}
 use Rattle.net_rows.proofs.RemoveLemmas.{without_member}
 use Rattle.net_rows.proofs.SoundRemove.{sound_without_key, sound_without_pending, sound_without_machine}
@@ -30,7 +30,7 @@ sound_take_out t (key.Machine id) h s = sound_without_machine t id s
 pub sound_take_all_out : (t : Rows) (ks : List RowKey) → list_all is_unnamed ks ≡ true → AreSound t → AreSound (take_all_out t ks)
 sound_take_all_out t [] h s = s
 sound_take_all_out t (k ∷ ks) h s =
-    let all = both (is_unnamed k) (list_all is_unnamed ks) h in
+    let all = and_parts (is_unnamed k) (list_all is_unnamed ks) h in
     sound_take_all_out (take_out t k) ks all.1 (sound_take_out t k all.0 s)
 
 -- lists go one after the other

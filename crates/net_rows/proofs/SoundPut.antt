@@ -1,7 +1,7 @@
 -- Sound tables stay sound when a row that fits is put, and its counter raised.
 use Rattle.std.proofs.Common.{◌<◌, ◌≤◌, ℕ, arith, List}
 use Rattle.std.specs.Prelude.{Some, length}
-use Rattle.net_rows.specs.Limits.{counter_limit, user_limit, key_limit, pending_limit, machine_limit, extra_limit, policy_limit}
+use Rattle.net_rows.specs.declared.limits.TheConstants.{COUNTER_LIMIT, USER_LIMIT, KEY_LIMIT, PENDING_LIMIT, MACHINE_LIMIT, EXTRA_LIMIT, POLICY_LIMIT}
 use Rattle.net_rows.specs.Shelf.{put_row}
 use Rattle.net_rows.specs.Rows.{Rows}
 use Rattle.net_rows.specs.Sound.{AreSound, KeyKeeps, MachineKeeps, PendingKeeps, FitsUser, FitsKey, FitsPending, FitsMachine}
@@ -33,14 +33,14 @@ machine_keeps users u m h = record {
 }
 
 -- the user is put, and the next id is above it
-pub sound_user : (t : Rows) (u : User) (next : ℕ) → AreSound t → FitsUser t u → u.id < next → t.next.user ≤ next → next ≤ counter_limit
+pub sound_user : (t : Rows) (u : User) (next : ℕ) → AreSound t → FitsUser t u → u.id < next → t.next.user ≤ next → next ≤ COUNTER_LIMIT
     → AreSound (record t { users = put_row (λ r. r.id) t.users u; next = record t.next { user = next } })
 sound_user t u next s f below up top = record {
   counters = record { user = (omega (arith, f.id), top); key = s.counters.key; pending = s.counters.pending; machine = s.counters.machine };
   users = record {
     ascend = IsAscending-put (λ (r : User). r.id) t.users u s.users.ascend;
     ids = AreBelow-put (λ (r : User). r.id) t.next.user next t.users u s.users.ids f.id below up;
-    count = count-put (λ (r : User). r.id) user_limit t.users u s.users.ascend s.users.count f.room;
+    count = count-put (λ (r : User). r.id) USER_LIMIT t.users u s.users.ascend s.users.count f.room;
     logins = Tells-put (λ (r : User). r.id) (λ (r : User). r.login) t.users u s.users.logins f.login;
   };
   keys = record {
@@ -67,7 +67,7 @@ sound_user t u next s f below up top = record {
 }
 
 -- the key is put, and the next id is above it
-pub sound_key : (t : Rows) (k : AuthKey) (next : ℕ) → AreSound t → FitsKey t k → k.id < next → t.next.key ≤ next → next ≤ counter_limit
+pub sound_key : (t : Rows) (k : AuthKey) (next : ℕ) → AreSound t → FitsKey t k → k.id < next → t.next.key ≤ next → next ≤ COUNTER_LIMIT
     → AreSound (record t { keys = put_row (λ r. r.id) t.keys k; next = record t.next { key = next } })
 sound_key t k next s f below up top = record {
   counters = record { user = s.counters.user; key = (omega (arith, f.id), top); pending = s.counters.pending; machine = s.counters.machine };
@@ -75,7 +75,7 @@ sound_key t k next s f below up top = record {
   keys = record {
     ascend = IsAscending-put (λ (r : AuthKey). r.id) t.keys k s.keys.ascend;
     ids = AreBelow-put (λ (r : AuthKey). r.id) t.next.key next t.keys k s.keys.ids f.id below up;
-    count = count-put (λ (r : AuthKey). r.id) key_limit t.keys k s.keys.ascend s.keys.count f.room;
+    count = count-put (λ (r : AuthKey). r.id) KEY_LIMIT t.keys k s.keys.ascend s.keys.count f.room;
     texts = Tells-put (λ (r : AuthKey). r.id) (λ (r : AuthKey). r.text) t.keys k s.keys.texts f.text;
     keeps = keeps-put (λ (r : AuthKey). r.id) (λ (r : AuthKey). KeyKeeps t.users r) t.keys k s.keys.keeps f.keeps;
   };
@@ -86,7 +86,7 @@ sound_key t k next s f below up top = record {
 }
 
 -- the pending entry is put, and the next id is above it
-pub sound_pending : (t : Rows) (p : Pending) (next : ℕ) → AreSound t → FitsPending t p → p.id < next → t.next.pending ≤ next → next ≤ counter_limit
+pub sound_pending : (t : Rows) (p : Pending) (next : ℕ) → AreSound t → FitsPending t p → p.id < next → t.next.pending ≤ next → next ≤ COUNTER_LIMIT
     → AreSound (record t { pending = put_row (λ r. r.id) t.pending p; next = record t.next { pending = next } })
 sound_pending t p next s f below up top = record {
   counters = record { user = s.counters.user; key = s.counters.key; pending = (omega (arith, f.id), top); machine = s.counters.machine };
@@ -95,7 +95,7 @@ sound_pending t p next s f below up top = record {
   pending = record {
     ascend = IsAscending-put (λ (r : Pending). r.id) t.pending p s.pending.ascend;
     ids = AreBelow-put (λ (r : Pending). r.id) t.next.pending next t.pending p s.pending.ids f.id below up;
-    count = count-put (λ (r : Pending). r.id) pending_limit t.pending p s.pending.ascend s.pending.count f.room;
+    count = count-put (λ (r : Pending). r.id) PENDING_LIMIT t.pending p s.pending.ascend s.pending.count f.room;
     texts = Tells-put (λ (r : Pending). r.id) (λ (r : Pending). r.text) t.pending p s.pending.texts f.text;
     machine_keys = Tells-put (λ (r : Pending). r.id) (λ (r : Pending). r.machine.0) t.pending p s.pending.machine_keys f.machine_key;
     keeps = keeps-put (λ (r : Pending). r.id) PendingKeeps t.pending p s.pending.keeps f.keeps;
@@ -106,7 +106,7 @@ sound_pending t p next s f below up top = record {
 }
 
 -- the machine is put, and the next id is above it
-pub sound_machine : (t : Rows) (m : Machine) (next : ℕ) → AreSound t → FitsMachine t m → m.id < next → t.next.machine ≤ next → next ≤ counter_limit
+pub sound_machine : (t : Rows) (m : Machine) (next : ℕ) → AreSound t → FitsMachine t m → m.id < next → t.next.machine ≤ next → next ≤ COUNTER_LIMIT
     → AreSound (record t { machines = put_row (λ r. r.id) t.machines m; next = record t.next { machine = next } })
 sound_machine t m next s f below up top = record {
   counters = record { user = s.counters.user; key = s.counters.key; pending = s.counters.pending; machine = (omega (arith, f.id), top) };
@@ -116,7 +116,7 @@ sound_machine t m next s f below up top = record {
   machines = record {
     ascend = IsAscending-put (λ (r : Machine). r.id) t.machines m s.machines.ascend;
     ids = AreBelow-put (λ (r : Machine). r.id) t.next.machine next t.machines m s.machines.ids f.id below up;
-    count = count-put (λ (r : Machine). r.id) machine_limit t.machines m s.machines.ascend s.machines.count f.room;
+    count = count-put (λ (r : Machine). r.id) MACHINE_LIMIT t.machines m s.machines.ascend s.machines.count f.room;
     machine_keys = Tells-put (λ (r : Machine). r.id) (λ (r : Machine). r.machine.0) t.machines m s.machines.machine_keys f.machine_key;
     node_keys = Tells-put (λ (r : Machine). r.id) (λ (r : Machine). r.node.0) t.machines m s.machines.node_keys f.node_key;
     names = Tells-put (λ (r : Machine). r.id) (λ (r : Machine). r.name) t.machines m s.machines.names f.name;
@@ -129,7 +129,7 @@ sound_machine t m next s f below up top = record {
 }
 
 -- the extra records are replaced
-pub sound_extras : (t : Rows) (xs : List Extra) → AreSound t → length xs ≤ extra_limit → AreSound (record t { extras = xs })
+pub sound_extras : (t : Rows) (xs : List Extra) → AreSound t → length xs ≤ EXTRA_LIMIT → AreSound (record t { extras = xs })
 sound_extras t xs s h = record {
   counters = s.counters;
   users = s.users;
@@ -141,7 +141,7 @@ sound_extras t xs s h = record {
 }
 
 -- the policy is replaced
-pub sound_policy : (t : Rows) (text : List ℕ) → AreSound t → length text ≤ policy_limit → AreSound (record t { policy = Some text })
+pub sound_policy : (t : Rows) (text : List ℕ) → AreSound t → length text ≤ POLICY_LIMIT → AreSound (record t { policy = Some text })
 sound_policy t text s h = record {
   counters = s.counters;
   users = s.users;

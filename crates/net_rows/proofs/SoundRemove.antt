@@ -1,7 +1,7 @@
 -- Sound tables stay sound when a row goes that no other row names.
 use Rattle.std.proofs.Common.{◌≢◌, ℕ, List}
 use Rattle.std.specs.Prelude.{Contains}
-use Rattle.net_rows.specs.Limits.{user_limit, key_limit, pending_limit, machine_limit}
+use Rattle.net_rows.specs.declared.limits.TheConstants.{USER_LIMIT, KEY_LIMIT, PENDING_LIMIT, MACHINE_LIMIT}
 use Rattle.net_rows.specs.Shelf.{without}
 use Rattle.net_rows.specs.Rows.{Rows}
 use Rattle.net_rows.specs.Sound.{AreSound, KeyKeeps, MachineKeeps, PendingKeeps}
@@ -38,7 +38,7 @@ sound_without_user t id s keys machines = record {
   users = record {
     ascend = IsAscending-without (λ (r : User). r.id) t.users id s.users.ascend;
     ids = AreBelow-without (λ (r : User). r.id) t.next.user t.users id s.users.ids;
-    count = count-without (λ (r : User). r.id) user_limit t.users id s.users.count;
+    count = count-without (λ (r : User). r.id) USER_LIMIT t.users id s.users.count;
     logins = Tells-without (λ (r : User). r.id) (λ (r : User). r.login) t.users id s.users.logins;
   };
   keys = record {
@@ -71,7 +71,7 @@ sound_without_key t id s = record {
   keys = record {
     ascend = IsAscending-without (λ (r : AuthKey). r.id) t.keys id s.keys.ascend;
     ids = AreBelow-without (λ (r : AuthKey). r.id) t.next.key t.keys id s.keys.ids;
-    count = count-without (λ (r : AuthKey). r.id) key_limit t.keys id s.keys.count;
+    count = count-without (λ (r : AuthKey). r.id) KEY_LIMIT t.keys id s.keys.count;
     texts = Tells-without (λ (r : AuthKey). r.id) (λ (r : AuthKey). r.text) t.keys id s.keys.texts;
     keeps = keeps-without (λ (r : AuthKey). r.id) (λ (r : AuthKey). KeyKeeps t.users r) t.keys id s.keys.keeps;
   };
@@ -89,7 +89,7 @@ sound_without_pending t id s = record {
   pending = record {
     ascend = IsAscending-without (λ (r : Pending). r.id) t.pending id s.pending.ascend;
     ids = AreBelow-without (λ (r : Pending). r.id) t.next.pending t.pending id s.pending.ids;
-    count = count-without (λ (r : Pending). r.id) pending_limit t.pending id s.pending.count;
+    count = count-without (λ (r : Pending). r.id) PENDING_LIMIT t.pending id s.pending.count;
     texts = Tells-without (λ (r : Pending). r.id) (λ (r : Pending). r.text) t.pending id s.pending.texts;
     machine_keys = Tells-without (λ (r : Pending). r.id) (λ (r : Pending). r.machine.0) t.pending id s.pending.machine_keys;
     keeps = keeps-without (λ (r : Pending). r.id) PendingKeeps t.pending id s.pending.keeps;
@@ -108,7 +108,7 @@ sound_without_machine t id s = record {
   machines = record {
     ascend = IsAscending-without (λ (r : Machine). r.id) t.machines id s.machines.ascend;
     ids = AreBelow-without (λ (r : Machine). r.id) t.next.machine t.machines id s.machines.ids;
-    count = count-without (λ (r : Machine). r.id) machine_limit t.machines id s.machines.count;
+    count = count-without (λ (r : Machine). r.id) MACHINE_LIMIT t.machines id s.machines.count;
     machine_keys = Tells-without (λ (r : Machine). r.id) (λ (r : Machine). r.machine.0) t.machines id s.machines.machine_keys;
     node_keys = Tells-without (λ (r : Machine). r.id) (λ (r : Machine). r.node.0) t.machines id s.machines.node_keys;
     names = Tells-without (λ (r : Machine). r.id) (λ (r : Machine). r.name) t.machines id s.machines.names;

@@ -9,7 +9,8 @@ use Rattle.net_addr.specs.Bits.{Address}
 use Rattle.net_rows.specs.Shelf.{IsAscending, AreBelow, Tells, HasRow}
 use Rattle.net_rows.specs.Damage.{stands, is_new, is_new_address, address_eq, has_user}
 use Rattle.net_rows.specs.declared.user.User.{User}
-use Rattle.net_rows.proofs.Bools.{both, and_both, all4, and4, beq_of, beq_is, not_true, false_unless, le_of, le_is, lt_of, lt_is, bytes_of, bytes_is}
+use Rattle.std.proofs.lemmas.Bool.{and_parts, and_from, not-true, false_from_ne_true, leb-true, le-leb, ltb-true, lt-ltb}
+use Rattle.tail_base.proofs.Bools.{all4, and4, beq-true, beq-from, bytes_eq-true, bytes_eq-from}
 use Rattle.net_rows.proofs.Members.{no_member, cut_member, first_member, rest_member, cut_last, list_all_member, list_all_is, list_any_found, list_any_is}
 
 -- The row's id is in range and above those before, and there is room.
@@ -23,18 +24,18 @@ pub stands_after : {T : Type 0} (id : T → ℕ) (next limit : ℕ) (before : Li
 stands_after id next limit before x h =
     let all = all4 (nat_le 1 (id x)) (nat_lt (id x) next) (list_all (λ y. nat_lt (id y) (id x)) before) (nat_lt (length before) limit) h in
     record {
-      one = le_of 1 (id x) all.0;
-      below = lt_of (id x) next all.1;
-      above = λ y m. lt_of (id y) (id x) (list_all_member (λ y. nat_lt (id y) (id x)) before all.2 y m);
-      room = lt_of (length before) limit all.3;
+      one = leb-true 1 (id x) all.0;
+      below = ltb-true (id x) next all.1;
+      above = λ y m. ltb-true (id y) (id x) (list_all_member (λ y. nat_lt (id y) (id x)) before all.2 y m);
+      room = ltb-true (length before) limit all.3;
     }
 
 pub stands_is : {T : Type 0} (id : T → ℕ) (next limit : ℕ) (before : List T) (x : T) → StandsAfter id next limit before x → stands id next limit before x ≡ true
 stands_is id next limit before x s =
     and4 (nat_le 1 (id x)) (nat_lt (id x) next) (list_all (λ y. nat_lt (id y) (id x)) before) (nat_lt (length before) limit)
-    (le_is 1 (id x) s.one) (lt_is (id x) next s.below)
-    (list_all_is (λ y. nat_lt (id y) (id x)) before (λ y m. lt_is (id y) (id x) (s.above y m)))
-    (lt_is (length before) limit s.room)
+    (le-leb 1 (id x) s.one) (lt-ltb (id x) next s.below)
+    (list_all_is (λ y. nat_lt (id y) (id x)) before (λ y m. lt-ltb (id y) (id x) (s.above y m)))
+    (lt-ltb (length before) limit s.room)
 
 -- a row that stands after others makes them rise and stay in range
 pub IsAscending-last : {T : Type 0} (id : T → ℕ) (before : List T) (x : T) → IsAscending id before → ((y : T) → Contains before y → id y < id x) → IsAscending id (before ++ x ∷ [])
@@ -70,38 +71,38 @@ count-last limit before x h = omega (arith, length-append before (x ∷ []))
 pub new_of : {T : Type 0} (f : T → List ℕ) (before : List T) (x : T) → is_new f before x ≡ true → (y : T) → Contains before y → f y ≡ f x → ⊥
 new_of f before x h y m e =
     let passes = list_all_member (λ y. not (bytes_eq (f y) (f x))) before h y m in
-    let fails : bytes_eq (f y) (f x) ≡ false = not_true (bytes_eq (f y) (f x)) passes in
-    let bad : false ≡ true = sym fails ∙ bytes_is (f y) (f x) e in
+    let fails : bytes_eq (f y) (f x) ≡ false = not-true (bytes_eq (f y) (f x)) passes in
+    let bad : false ≡ true = sym fails ∙ bytes_eq-from (f y) (f x) e in
     absurd (cc)
 
 pub new_is : {T : Type 0} (f : T → List ℕ) (before : List T) (x : T) → ((y : T) → Contains before y → f y ≡ f x → ⊥) → is_new f before x ≡ true
 new_is f before x h =
     list_all_is (λ y. not (bytes_eq (f y) (f x))) before
-    (λ y m. rw (false_unless (bytes_eq (f y) (f x)) (λ e. h y m (bytes_of (f y) (f x) e))) refl)
+    (λ y m. rw (false_from_ne_true (bytes_eq (f y) (f x)) (λ e. h y m (bytes_eq-true (f y) (f x) e))) refl)
 
 pub address_of : (a b : Address) → address_eq a b ≡ true → a ≡ b
 address_of a b h =
-    let all = both (beq a.v6 b.v6) (a.bits == b.bits) h in
-    let family = beq_of a.v6 b.v6 all.0 in
+    let all = and_parts (beq a.v6 b.v6) (a.bits == b.bits) h in
+    let family = beq-true a.v6 b.v6 all.0 in
     let bits : a.bits ≡ b.bits = grind (arith, all.1) in
     λ i. record { v6 = family i; bits = bits i }
 
 pub address_is : (a b : Address) → a ≡ b → address_eq a b ≡ true
 address_is a b h =
     let bits : a.bits ≡ b.bits = ap (λ (c : Address). c.bits) h in
-    and_both (beq a.v6 b.v6) (a.bits == b.bits) (beq_is a.v6 b.v6 (ap (λ (c : Address). c.v6) h)) (grind (arith, bits))
+    and_from (beq a.v6 b.v6) (a.bits == b.bits) (beq-from a.v6 b.v6 (ap (λ (c : Address). c.v6) h)) (grind (arith, bits))
 
 pub new_address_of : {T : Type 0} (f : T → Address) (before : List T) (x : T) → is_new_address f before x ≡ true → (y : T) → Contains before y → f y ≡ f x → ⊥
 new_address_of f before x h y m e =
     let passes = list_all_member (λ y. not (address_eq (f y) (f x))) before h y m in
-    let fails : address_eq (f y) (f x) ≡ false = not_true (address_eq (f y) (f x)) passes in
+    let fails : address_eq (f y) (f x) ≡ false = not-true (address_eq (f y) (f x)) passes in
     let bad : false ≡ true = sym fails ∙ address_is (f y) (f x) e in
     absurd (cc)
 
 pub new_address_is : {T : Type 0} (f : T → Address) (before : List T) (x : T) → ((y : T) → Contains before y → f y ≡ f x → ⊥) → is_new_address f before x ≡ true
 new_address_is f before x h =
     list_all_is (λ y. not (address_eq (f y) (f x))) before
-    (λ y m. rw (false_unless (address_eq (f y) (f x)) (λ e. h y m (address_of (f y) (f x) e))) refl)
+    (λ y m. rw (false_from_ne_true (address_eq (f y) (f x)) (λ e. h y m (address_of (f y) (f x) e))) refl)
 
 -- the user of an id is there
 pub user_of : (users : List User) (n : ℕ) → has_user users n ≡ true → HasRow (λ r. r.id) users n

@@ -7,7 +7,9 @@ use Rattle.std.specs.Str.{bytes_eq}
 use Rattle.std.specs.Bool.{beq}
 use Rattle.std.specs.Fmt.{decimal}
 use Rattle.net_addr.specs.Bits.{Address}
-use Rattle.net_rows.specs.Limits.{counter_limit, user_limit, key_limit, pending_limit, machine_limit, extra_limit, endpoint_limit, route_limit, asked_tag_limit, tag_limit, host_limit, policy_limit, tailnet_v4, tailnet_v6, is_inside}
+use Rattle.net_rows.specs.declared.limits.TheConstants.{COUNTER_LIMIT, USER_LIMIT, KEY_LIMIT, PENDING_LIMIT, MACHINE_LIMIT, EXTRA_LIMIT, ENDPOINT_LIMIT, ROUTE_LIMIT, ASKED_TAG_LIMIT, TAG_LIMIT, HOST_LIMIT, POLICY_LIMIT}
+use Rattle.net_addr.specs.Tailnet.{tailnet_v4, tailnet_v6}
+use Rattle.net_addr.specs.Blocks.{holds}
 use Rattle.net_rows.specs.Rows.{Rows}
 use Rattle.net_rows.specs.declared.user.User.{User}
 use Rattle.net_rows.specs.declared.key.AuthKey.{AuthKey}
@@ -20,7 +22,7 @@ use Rattle.net_rows.specs.declared.change.Kind.TheVariants as kind
 
 -- a counter may have this value
 abbrev pub is_counter : ℕ → Bool
-is_counter n = nat_le 1 n && nat_le n counter_limit
+is_counter n = nat_le 1 n && nat_le n COUNTER_LIMIT
 
 -- all counters may
 abbrev pub are_counters : Counters → Bool
@@ -57,30 +59,30 @@ names_key id text = not (starts_with nat_eq text (codes "tnkey-")) || names_id (
 
 -- A user has a place and a login of its own.
 abbrev pub user_fits : Rows → List User → User → Bool
-user_fits t before u = stands (λ r. r.id) t.next.user user_limit before u && is_new (λ r. r.login) before u
+user_fits t before u = stands (λ r. r.id) t.next.user USER_LIMIT before u && is_new (λ r. r.login) before u
 
 -- A key has a place, a text of its own and a user, and its text and tags keep their rules.
 abbrev pub key_fits : Rows → List AuthKey → AuthKey → Bool
 key_fits t before k =
-    stands (λ r. r.id) t.next.key key_limit before k && is_new (λ r. r.text) before k
-    && has_user t.users k.user && names_key k.id k.text && nat_le (length k.tags) asked_tag_limit
+    stands (λ r. r.id) t.next.key KEY_LIMIT before k && is_new (λ r. r.text) before k
+    && has_user t.users k.user && names_key k.id k.text && nat_le (length k.tags) ASKED_TAG_LIMIT
 
 -- the lists of a pending entry keep their limits
 abbrev pub is_short_pending : Pending → Bool
 is_short_pending p =
-    nat_le (length p.host) host_limit && nat_le (length p.routes) route_limit && nat_le (length p.tags) asked_tag_limit
+    nat_le (length p.host) HOST_LIMIT && nat_le (length p.routes) ROUTE_LIMIT && nat_le (length p.tags) ASKED_TAG_LIMIT
 
 -- A pending entry has a place, a text and a machine key of its own, and its text and lists keep their rules.
 abbrev pub pending_fits : Rows → List Pending → Pending → Bool
 pending_fits t before p =
-    stands (λ r. r.id) t.next.pending pending_limit before p && is_new (λ r. r.text) before p
+    stands (λ r. r.id) t.next.pending PENDING_LIMIT before p && is_new (λ r. r.text) before p
     && is_new (λ r. r.machine.0) before p && names_id (codes "reg-") p.id p.text && is_short_pending p
 
 -- the lists of a machine keep their limits
 abbrev pub is_short_machine : Machine → Bool
 is_short_machine m =
-    nat_le (length m.host) host_limit && nat_le (length m.endpoints) endpoint_limit && nat_le (length m.routes) route_limit
-    && nat_le (length m.approved) route_limit && nat_le (length m.tags) tag_limit
+    nat_le (length m.host) HOST_LIMIT && nat_le (length m.endpoints) ENDPOINT_LIMIT && nat_le (length m.routes) ROUTE_LIMIT
+    && nat_le (length m.approved) ROUTE_LIMIT && nat_le (length m.tags) TAG_LIMIT
 
 -- no machine before has its keys, name or addresses
 abbrev pub is_new_machine : List Machine → Machine → Bool
@@ -91,8 +93,8 @@ is_new_machine before m =
 -- A machine has a place, keys, a name and addresses of its own, a user, addresses of the tailnet, and short lists.
 abbrev pub machine_fits : Rows → List Machine → Machine → Bool
 machine_fits t before m =
-    stands (λ r. r.id) t.next.machine machine_limit before m && is_new_machine before m && has_user t.users m.user
-    && is_inside tailnet_v4 m.v4 && is_inside tailnet_v6 m.v6 && is_short_machine m
+    stands (λ r. r.id) t.next.machine MACHINE_LIMIT before m && is_new_machine before m && has_user t.users m.user
+    && holds tailnet_v4 m.v4 && holds tailnet_v6 m.v6 && is_short_machine m
 
 -- the id of the first row that doesn't fit beside the rows before it
 abbrev pub first_misfit : {T : Type 0} → (T → ℕ) → (List T → T → Bool) → List T → List T → Option ℕ
@@ -110,11 +112,11 @@ damage_unless k passes = if passes then None else Some (record { kind = k; id = 
 
 -- the extra records are within their limit
 abbrev pub are_short_extras : Rows → Bool
-are_short_extras t = nat_le (length t.extras) extra_limit
+are_short_extras t = nat_le (length t.extras) EXTRA_LIMIT
 
 -- the policy text is within its limit
 abbrev pub is_short_policy : Rows → Bool
-is_short_policy t = option_map_or (λ text. nat_le (length text) policy_limit) t.policy true
+is_short_policy t = option_map_or (λ text. nat_le (length text) POLICY_LIMIT) t.policy true
 
 -- the first user that doesn't fit
 abbrev pub user_damage : Rows → Option Damage

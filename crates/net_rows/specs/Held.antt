@@ -17,19 +17,35 @@ pub record Held : Type 0 where
 
 abbrev pub is_user : Row → Bool
 is_user (row.User x) = true
-is_user _ = false
+is_user (row.Key x) = false
+is_user (row.Pending x) = false
+is_user (row.Machine x) = false
+is_user (row.Extras x) = false
+is_user (row.Policy x) = false
 
 abbrev pub is_key : Row → Bool
 is_key (row.Key x) = true
-is_key _ = false
+is_key (row.User x) = false
+is_key (row.Pending x) = false
+is_key (row.Machine x) = false
+is_key (row.Extras x) = false
+is_key (row.Policy x) = false
 
 abbrev pub is_pending : Row → Bool
 is_pending (row.Pending x) = true
-is_pending _ = false
+is_pending (row.User x) = false
+is_pending (row.Key x) = false
+is_pending (row.Machine x) = false
+is_pending (row.Extras x) = false
+is_pending (row.Policy x) = false
 
 abbrev pub is_machine : Row → Bool
 is_machine (row.Machine x) = true
-is_machine _ = false
+is_machine (row.User x) = false
+is_machine (row.Key x) = false
+is_machine (row.Pending x) = false
+is_machine (row.Extras x) = false
+is_machine (row.Policy x) = false
 
 -- The spare places suffice for these puts.
 pub record Suffices (spare : Spare) (puts : List Row) : Type 0 where

@@ -1,5 +1,5 @@
 -- Rows of one kind, by ascending id.
-use Rattle.std.specs.Prelude.{◌≡◌, ◌<◌, ◌≤◌, ℕ, List, [], ◌∷◌, ◌==◌, not, nat_lt, filter, Contains, if◌then◌else◌, Option}
+use Rattle.std.specs.Prelude.{◌≡◌, ◌<◌, ◌≤◌, ℕ, List, [], ◌∷◌, ◌==◌, not, nat_lt, filter, Contains, if◌then◌else◌, Option, Some, None, length, insert, slice_index_or, slice_set}
 use Rattle.std.specs.List.{find}
 
 -- The row replaces the row of its id, or stands where its id belongs.
@@ -38,3 +38,15 @@ IsOwn {T} id f xs x = (a : T) → Contains xs a → f a ≡ f x → id a ≡ id 
 -- A row has this id.
 abbrev pub HasRow : {T : Type 0} → (T → ℕ) → List T → ℕ → Type 0
 HasRow {T} id xs n = (x : T) × Contains xs x × (id x ≡ n)
+
+-- The row of the id stands at this place.
+pub record StandsAt {T : Type 0} (id : T → ℕ) (xs : List T) (k i : ℕ) : Type 0 where
+  pub inside : i < length xs
+  pub is : (d : T) → row_at id xs k ≡ Some (slice_index_or xs i d)
+  pub put : (x : T) → id x ≡ k → put_row id xs x ≡ slice_set xs i x
+
+-- No row has the id; one that had it would go to this place.
+pub record BelongsAt {T : Type 0} (id : T → ℕ) (xs : List T) (k i : ℕ) : Type 0 where
+  pub inside : i ≤ length xs
+  pub none : row_at id xs k ≡ None
+  pub put : (x : T) → id x ≡ k → put_row id xs x ≡ insert xs i x

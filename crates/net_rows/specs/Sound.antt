@@ -1,6 +1,8 @@
 -- The rules of the tables, one by one: what holds wherever there is no damage.
 use Rattle.std.specs.Prelude.{◌≡◌, ◌≤◌, ◌<◌, ℕ, true, List, length, codes, Contains, IfSome, ◌⊎◌}
-use Rattle.net_rows.specs.Limits.{counter_limit, user_limit, key_limit, pending_limit, machine_limit, extra_limit, endpoint_limit, route_limit, asked_tag_limit, tag_limit, host_limit, policy_limit, tailnet_v4, tailnet_v6, is_inside}
+use Rattle.net_rows.specs.declared.limits.TheConstants.{COUNTER_LIMIT, USER_LIMIT, KEY_LIMIT, PENDING_LIMIT, MACHINE_LIMIT, EXTRA_LIMIT, ENDPOINT_LIMIT, ROUTE_LIMIT, ASKED_TAG_LIMIT, TAG_LIMIT, HOST_LIMIT, POLICY_LIMIT}
+use Rattle.net_addr.specs.Tailnet.{tailnet_v4, tailnet_v6}
+use Rattle.net_addr.specs.Blocks.{holds}
 use Rattle.net_rows.specs.Shelf.{IsAscending, AreBelow, Tells, IsOwn, HasRow}
 use Rattle.net_rows.specs.Damage.{names_id, names_key}
 use Rattle.net_rows.specs.Rows.{Rows}
@@ -12,7 +14,7 @@ use Rattle.net_rows.specs.declared.change.Counters.{Counters}
 
 -- A counter is from 1 to its limit.
 abbrev pub IsCounter : ℕ → Type 0
-IsCounter n = (1 ≤ n) × (n ≤ counter_limit)
+IsCounter n = (1 ≤ n) × (n ≤ COUNTER_LIMIT)
 
 pub record AreCounters (next : Counters) : Type 0 where
   pub user : IsCounter next.user
@@ -24,38 +26,38 @@ pub record AreCounters (next : Counters) : Type 0 where
 pub record KeyKeeps (users : List User) (k : AuthKey) : Type 0 where
   pub user : HasRow (λ r. r.id) users k.user
   pub text : names_key k.id k.text ≡ true
-  pub tags : length k.tags ≤ asked_tag_limit
+  pub tags : length k.tags ≤ ASKED_TAG_LIMIT
 
 -- What a pending entry keeps, whatever other entries there are.
 pub record PendingKeeps (p : Pending) : Type 0 where
   pub text : names_id (codes "reg-") p.id p.text ≡ true
-  pub host : length p.host ≤ host_limit
-  pub routes : length p.routes ≤ route_limit
-  pub tags : length p.tags ≤ asked_tag_limit
+  pub host : length p.host ≤ HOST_LIMIT
+  pub routes : length p.routes ≤ ROUTE_LIMIT
+  pub tags : length p.tags ≤ ASKED_TAG_LIMIT
 
 -- What a machine's row keeps, whatever other machines there are.
 pub record MachineKeeps (users : List User) (m : Machine) : Type 0 where
   pub user : HasRow (λ r. r.id) users m.user
-  pub v4 : is_inside tailnet_v4 m.v4 ≡ true
-  pub v6 : is_inside tailnet_v6 m.v6 ≡ true
-  pub host : length m.host ≤ host_limit
-  pub endpoints : length m.endpoints ≤ endpoint_limit
-  pub routes : length m.routes ≤ route_limit
-  pub approved : length m.approved ≤ route_limit
-  pub tags : length m.tags ≤ tag_limit
+  pub v4 : holds tailnet_v4 m.v4 ≡ true
+  pub v6 : holds tailnet_v6 m.v6 ≡ true
+  pub host : length m.host ≤ HOST_LIMIT
+  pub endpoints : length m.endpoints ≤ ENDPOINT_LIMIT
+  pub routes : length m.routes ≤ ROUTE_LIMIT
+  pub approved : length m.approved ≤ ROUTE_LIMIT
+  pub tags : length m.tags ≤ TAG_LIMIT
 
 -- Users stand by id below the next one, are within the limit, and have logins of their own.
 pub record AreUsers (users : List User) (next : ℕ) : Type 0 where
   pub ascend : IsAscending (λ r. r.id) users
   pub ids : AreBelow (λ r. r.id) next users
-  pub count : length users ≤ user_limit
+  pub count : length users ≤ USER_LIMIT
   pub logins : Tells (λ r. r.id) (λ r. r.login) users
 
 -- The same of keys and their texts, which belong to these users.
 pub record AreKeys (users : List User) (keys : List AuthKey) (next : ℕ) : Type 0 where
   pub ascend : IsAscending (λ r. r.id) keys
   pub ids : AreBelow (λ r. r.id) next keys
-  pub count : length keys ≤ key_limit
+  pub count : length keys ≤ KEY_LIMIT
   pub texts : Tells (λ r. r.id) (λ r. r.text) keys
   pub keeps : (k : AuthKey) → Contains keys k → KeyKeeps users k
 
@@ -63,7 +65,7 @@ pub record AreKeys (users : List User) (keys : List AuthKey) (next : ℕ) : Type
 pub record ArePending (pending : List Pending) (next : ℕ) : Type 0 where
   pub ascend : IsAscending (λ r. r.id) pending
   pub ids : AreBelow (λ r. r.id) next pending
-  pub count : length pending ≤ pending_limit
+  pub count : length pending ≤ PENDING_LIMIT
   pub texts : Tells (λ r. r.id) (λ r. r.text) pending
   pub machine_keys : Tells (λ r. r.id) (λ r. r.machine.0) pending
   pub keeps : (p : Pending) → Contains pending p → PendingKeeps p
@@ -72,7 +74,7 @@ pub record ArePending (pending : List Pending) (next : ℕ) : Type 0 where
 pub record AreMachines (users : List User) (machines : List Machine) (next : ℕ) : Type 0 where
   pub ascend : IsAscending (λ r. r.id) machines
   pub ids : AreBelow (λ r. r.id) next machines
-  pub count : length machines ≤ machine_limit
+  pub count : length machines ≤ MACHINE_LIMIT
   pub machine_keys : Tells (λ r. r.id) (λ r. r.machine.0) machines
   pub node_keys : Tells (λ r. r.id) (λ r. r.node.0) machines
   pub names : Tells (λ r. r.id) (λ r. r.name) machines
@@ -87,32 +89,32 @@ pub record AreSound (t : Rows) : Type 0 where
   pub keys : AreKeys t.users t.keys t.next.key
   pub pending : ArePending t.pending t.next.pending
   pub machines : AreMachines t.users t.machines t.next.machine
-  pub extras : length t.extras ≤ extra_limit
-  pub policy : IfSome t.policy (λ text. length text ≤ policy_limit)
+  pub extras : length t.extras ≤ EXTRA_LIMIT
+  pub policy : IfSome t.policy (λ text. length text ≤ POLICY_LIMIT)
 
 -- The row may be put: it breaks no rule beside the rows of other ids, and either there is room or it
 -- replaces the row of its id.
 pub record FitsUser (t : Rows) (u : User) : Type 0 where
   pub id : 1 ≤ u.id
-  pub room : (length t.users < user_limit) ⊎ HasRow (λ r. r.id) t.users u.id
+  pub room : (length t.users < USER_LIMIT) ⊎ HasRow (λ r. r.id) t.users u.id
   pub login : IsOwn (λ r. r.id) (λ r. r.login) t.users u
 
 pub record FitsKey (t : Rows) (k : AuthKey) : Type 0 where
   pub id : 1 ≤ k.id
-  pub room : (length t.keys < key_limit) ⊎ HasRow (λ r. r.id) t.keys k.id
+  pub room : (length t.keys < KEY_LIMIT) ⊎ HasRow (λ r. r.id) t.keys k.id
   pub text : IsOwn (λ r. r.id) (λ r. r.text) t.keys k
   pub keeps : KeyKeeps t.users k
 
 pub record FitsPending (t : Rows) (p : Pending) : Type 0 where
   pub id : 1 ≤ p.id
-  pub room : (length t.pending < pending_limit) ⊎ HasRow (λ r. r.id) t.pending p.id
+  pub room : (length t.pending < PENDING_LIMIT) ⊎ HasRow (λ r. r.id) t.pending p.id
   pub text : IsOwn (λ r. r.id) (λ r. r.text) t.pending p
   pub machine_key : IsOwn (λ r. r.id) (λ r. r.machine.0) t.pending p
   pub keeps : PendingKeeps p
 
 pub record FitsMachine (t : Rows) (m : Machine) : Type 0 where
   pub id : 1 ≤ m.id
-  pub room : (length t.machines < machine_limit) ⊎ HasRow (λ r. r.id) t.machines m.id
+  pub room : (length t.machines < MACHINE_LIMIT) ⊎ HasRow (λ r. r.id) t.machines m.id
   pub machine_key : IsOwn (λ r. r.id) (λ r. r.machine.0) t.machines m
   pub node_key : IsOwn (λ r. r.id) (λ r. r.node.0) t.machines m
   pub name : IsOwn (λ r. r.id) (λ r. r.name) t.machines m

@@ -2,7 +2,8 @@
 ghost use Rattle.std.specs.Prelude.{◌≡◌, ℕ, Bool, List, length, nat_le, nat_lt};
 ghost use Rattle.std.specs.List.{list_all};
 ghost use Rattle.net_rows.specs.declared.rows.Rows.{Rows};
-ghost use Rattle.net_rows.specs.Limits.{tailnet_v4, tailnet_v6, is_inside};
+ghost use Rattle.net_addr.specs.Tailnet.{tailnet_v4, tailnet_v6};
+ghost use Rattle.net_addr.specs.Blocks.{holds};
 ghost use Rattle.net_rows.specs.Damage.{stands, is_new, is_new_address, has_user, user_fits, key_fits, pending_fits, machine_fits, is_short_pending, is_short_machine, is_new_machine};
 
 use crate::id::HasId;
@@ -16,7 +17,7 @@ use crate::named::{names_key, names_pending};
 use crate::pending::Pending;
 use crate::rows::Rows;
 use crate::user::User;
-use net_addr::Addr;
+use net_addr::{tailnet_v4, tailnet_v6};
 
 /// A row of one of the tables.
 pub trait TableRow: HasId + Sized {
@@ -119,22 +120,6 @@ fn is_new_machine(before: &[Machine], row: &Machine) -> bool
         && is_new_v6(before, row)
 }
 
-/// Whether an address lies in 100.64.0.0/10.
-fn is_tailnet_v4(addr: &Addr) -> bool
-    ensures value { result ≡ is_inside tailnet_v4 addr.now }
-{
-    !addr.is_v6() && 0x6440_0000 <= addr.bits() && addr.bits() < 0x6480_0000
-}
-
-/// Whether an address lies in fd7a:115c:a1e0::/48.
-fn is_tailnet_v6(addr: &Addr) -> bool
-    ensures value { result ≡ is_inside tailnet_v6 addr.now }
-{
-    addr.is_v6()
-        && 0xfd7a_115c_a1e0_0000_0000_0000_0000_0000 <= addr.bits()
-        && addr.bits() < 0xfd7a_115c_a1e1_0000_0000_0000_0000_0000
-}
-
 fn is_short_pending(row: &Pending) -> bool
     ensures value { result ≡ is_short_pending row.now }
 {
@@ -192,8 +177,8 @@ impl TableRow for Machine {
         stands(self, rows.next.machine, MACHINE_LIMIT, before)
             && is_new_machine(before, self)
             && has_user(rows.users.as_slice(), self.user)
-            && is_tailnet_v4(&self.v4)
-            && is_tailnet_v6(&self.v6)
+            && tailnet_v4().contains(&self.v4)
+            && tailnet_v6().contains(&self.v6)
             && is_short_machine(self)
     }
 }

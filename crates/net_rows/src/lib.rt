@@ -8,6 +8,7 @@ mod extra;
 mod fits;
 mod id;
 mod key;
+mod laws;
 mod limits;
 mod lists;
 mod machine;
@@ -27,6 +28,7 @@ pub use extra::Extra;
 pub use fits::TableRow;
 pub use id::HasId;
 pub use key::AuthKey;
+pub use laws::{rows_are_maps, sound_rows_have_no_damage};
 pub use limits::{
     ASKED_TAG_LIMIT, COUNTER_LIMIT, ENDPOINT_LIMIT, EXTRA_LIMIT, HOST_LIMIT, KEY_LIMIT,
     MACHINE_LIMIT, PENDING_LIMIT, POLICY_LIMIT, ROUTE_LIMIT, TAG_LIMIT, USER_LIMIT,
@@ -36,6 +38,6 @@ pub use machine::Machine;
 pub use pending::Pending;
 pub use rows::Rows;
 pub use settings::{DnsSettings, DomainRoute, Settings, SettingsFields};
-pub use shelf::Shelf;
+pub use shelf::{Shelf, row_of};
 pub use tables::Tables;
 pub use user::User;

@@ -1,8 +1,10 @@
 //! Rows of all kinds with spare places, whatever rules they break.
-ghost use Rattle.std.specs.Prelude.{◌≡◌, ℕ, ◌<◌, ◌≤◌, ◌+◌, List, [], ◌∷◌, OnOk, IfOk};
+ghost use Rattle.std.specs.Prelude.{◌≡◌, ℕ, ◌<◌, ◌≤◌, ◌+◌, List, [], ◌∷◌, None, OnOk, IfOk};
 ghost use Rattle.net_rows.specs.declared.change.Row.{Row};
 ghost use Rattle.net_rows.specs.Rows.{put, take_out, put_all, take_all_out, after, empty_rows};
+ghost use Rattle.net_rows.specs.Damage.{damage};
 ghost use Rattle.net_rows.specs.Held.{Suffices};
+ghost use Rattle.net_rows.specs.Shelf.{IsAscending};
 
 use crate::change::{Change, Counters, Row, RowKey};
 use crate::extra::Extra;
@@ -16,7 +18,7 @@ use std::alloc::Global;
 use std::marker::Model;
 use tail_base::{Duplicate, Items, NoMemory, Text};
 
-/// Rows of all kinds, whatever they are, and the places that are spare for more.
+/// Rows of all kinds, each by ascending id, and the places that are spare for more.
 #[derive(Drop)]
 pub struct Lists {
     users: Shelf<User>,
@@ -74,8 +76,9 @@ impl Lists {
         }
     }
 
-    /// These rows.
+    /// These rows, which keep the rules.
     pub fn from_rows(rows: Rows) -> Lists
+        requires sound { damage rows ≡ None }
         ensures rows { result.rows ≡ rows }
     {
         let Rows {
@@ -100,24 +103,28 @@ impl Lists {
 
     pub fn users(&self) -> &[User]
         ensures value { result.now ≡ self.now.rows.users }
+        ensures ascending { IsAscending (λ r. r.id) result.now }
     {
         self.users.as_slice()
     }
 
     pub fn keys(&self) -> &[AuthKey]
         ensures value { result.now ≡ self.now.rows.keys }
+        ensures ascending { IsAscending (λ r. r.id) result.now }
     {
         self.keys.as_slice()
     }
 
     pub fn pending(&self) -> &[Pending]
         ensures value { result.now ≡ self.now.rows.pending }
+        ensures ascending { IsAscending (λ r. r.id) result.now }
     {
         self.pending.as_slice()
     }
 
     pub fn machines(&self) -> &[Machine]
         ensures value { result.now ≡ self.now.rows.machines }
+        ensures ascending { IsAscending (λ r. r.id) result.now }
     {
         self.machines.as_slice()
     }
@@ -222,10 +229,7 @@ impl Lists {
             pending: self.pending.copy(alloc)?,
             machines: self.machines.copy(alloc)?,
             extras: self.extras.copy(alloc)?,
-            policy: match &self.policy {
-                Some(text) => Some(text.copy(alloc)?),
-                None => None,
-            },
+            policy: self.policy.copy(alloc)?,
             next: self.next,
         })
     }

@@ -15,6 +15,7 @@ use crate::lists::Lists;
 use crate::machine::Machine;
 use crate::pending::Pending;
 use crate::rows::Rows;
+use crate::shelf::row_of;
 use crate::user::User;
 use std::alloc::Global;
 use std::marker::Model;
@@ -152,18 +153,18 @@ impl Tables {
     pub fn user(&self, id: u32) -> Option<&User>
         ensures value { option_copied result ≡ user_with self.now.rows.users id }
     {
-        self.users().iter().find(|row| row.id == id)
+        row_of(self.lists.users(), id)
     }
 
     /// The machine of an id.
     pub fn machine(&self, id: u32) -> Option<&Machine>
         ensures value { option_copied result ≡ machine_with self.now.rows.machines id }
     {
-        self.machines().iter().find(|row| row.id == id)
+        row_of(self.lists.machines(), id)
     }
 
     /// The machine of a machine key.
-    pub fn by_key(&self, key: &MachineKey) -> Option<&Machine>
+    pub fn machine_of(&self, key: &MachineKey) -> Option<&Machine>
         ensures value { option_copied result ≡ machine_of self.now.rows.machines key.now.0 }
     {
         self.machines().iter().find(|row| row.machine == *key)
@@ -173,11 +174,11 @@ impl Tables {
     pub fn key(&self, id: u32) -> Option<&AuthKey>
         ensures value { option_copied result ≡ key_with self.now.rows.keys id }
     {
-        self.keys().iter().find(|row| row.id == id)
+        row_of(self.lists.keys(), id)
     }
 
     /// The pre-auth key of a text.
-    pub fn by_text(&self, text: &str) -> Option<&AuthKey>
+    pub fn key_of(&self, text: &str) -> Option<&AuthKey>
         ensures value { option_copied result ≡ key_of self.now.rows.keys text.now }
     {
         self.keys().iter().find(|row| row.text.as_str() == text)

@@ -1,26 +1,12 @@
-use Rattle.std.proofs.Common.{arith}
-use Rattle.net_rows.proofs.ShelfLemmas.{replaced, added}
+use Rattle.std.proofs.Common.{rules}
+use Rattle.std.proofs.lemmas.List.Sorted.{answers_always}
+use Rattle.net_rows.proofs.ShelfLemmas.{placed}
 use Rattle.net_rows.proofs.shelf.place_of.Goals as goal
 
-pub returns-then-at-id-clause-there : goal.returns-then-at-id-clause-there
-returns-then-at-id-clause-there g c = (
-  c.loop-i-test.true,
-  λ x e. replaced g.T.HasId.id c.args.rows.now c.loop-i.i x c.index-rows-i.result
-      (λ j d l. rw e (c.loop-i.invariant j d l)) c.loop-i-test.true
-      (rw (← c.index-rows-i.is, ← c.id-at.ensures.value, e) c.if-at-id.true),
-)
-
-pub returns-then-at-id-2-clause-absent : goal.returns-then-at-id-2-clause-absent
-returns-then-at-id-2-clause-absent g c = (
-  omega arith,
-  λ x e. added g.T.HasId.id c.args.rows.now c.loop-i.i x c.index-rows-i.result
-      (λ j d l. rw e (c.loop-i.invariant j d l)) (omega arith)
-      (λ _. rw (← c.index-rows-i.is, ← c.id-at.ensures.value, e) c.if-at-id-2.true),
-)
-
-pub returns-clause-absent : goal.returns-clause-absent
-returns-clause-absent g c = (
-  omega arith,
-  λ x e. added g.T.HasId.id c.args.rows.now _ x x
-      (λ j d l. rw e (c.loop-i.invariant j d (omega arith))) (omega arith) (λ l. absurd (omega arith)),
-)
+-- the closure gives a row's id
+pub returns : goal.returns
+returns g c =
+    let facts = c.binary_search_by_key.ensures in
+    let by_id = facts.position g.T.HasId.id (answers_always _ _ _ (λ f a r k called. search rules)) in
+    let parts = placed g.T.HasId.id c.args.rows.now c.args.id c.binary_search_by_key.result c.requires.ascending facts.bound by_id in
+    record { there = parts.0; absent = parts.1 }
