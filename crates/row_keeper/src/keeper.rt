@@ -6,6 +6,7 @@ ghost use Rattle.net_rows.specs.declared.rows.Rows.{Rows};
 ghost use Rattle.net_rows.specs.Rows.{after};
 ghost use Rattle.net_rows.specs.Damage.{damage};
 ghost use Rattle.net_rows.specs.declared.change.Kind.{Kind};
+ghost use Rattle.row_keeper.specs.Calls.{one_more};
 
 use io_edge::EdgeFault;
 use net_rows::{Change, Kind, Tables};
@@ -19,24 +20,28 @@ pub enum LoadFault {
     /// What is kept breaks a rule of the tables: the kind of the row, and its id, which is 0 where the
     /// kind has no ids.
     Damaged { kind: Kind, id: u32 },
-    /// Memory was refused.
+    /// Out of memory.
     NoMemory,
 }
 
 /// Where tables are kept.
 pub trait Keeper: Drop {
-    /// The rows that it keeps, where they are told.
+    /// The rows that it keeps, if they are visible to the specification: a real store shows nothing.
     ghost told: { Self → Option Rows };
 
     /// How often a call has failed.
     ghost faults: { Self → ℕ };
 
-    /// The tables that it keeps, which are sound where they are told.
+    /// How often it was called, by either call and whatever the answer.
+    ghost calls: { Self → ℕ };
+
+    /// The tables that it keeps, which are sound if they are visible.
     fn load(&mut self, alloc: Global) -> Result<Tables, LoadFault>
         ensures loaded { IfOk result (λ tables. IsWhereTold tables.rows (told self.old)) }
         ensures whole { IfErr result (λ e. (kind : Kind) (id : ℕ) → e ≡ LoadFault.Damaged kind id → told self.old ≡ None) }
         ensures same { StillTells (told self.old) (told self.new) }
         ensures later { faults self.old ≤ faults self.new }
+        ensures called { calls self.new ≡ one_more (calls self.old) }
         ensures cause { IsErrOf result LoadFault.Failed → Rose (faults self.old) (faults self.new) };
 
     /// Keeps the change, or leaves what it keeps as it was.
@@ -45,5 +50,6 @@ pub trait Keeper: Drop {
         ensures ok { OnOk result (StillTells (option_map (λ rows. after rows change.now) (told self.old)) (told self.new)) }
         ensures err { OnErr result (StillTells (told self.old) (told self.new)) }
         ensures later { faults self.old ≤ faults self.new }
+        ensures called { calls self.new ≡ one_more (calls self.old) }
         ensures cause { IsErrOf result EdgeFault.Failed → Rose (faults self.old) (faults self.new) };
 }

@@ -33,6 +33,7 @@ impl MemoryKeeper {
     pub fn new(tables: Tables, fails: Items<u32>) -> MemoryKeeper
         ensures told { ⟦<MemoryKeeper as Keeper>⟧.told result ≡ Some tables.rows }
         ensures faults { ⟦<MemoryKeeper as Keeper>⟧.faults result ≡ 0 }
+        ensures calls { ⟦<MemoryKeeper as Keeper>⟧.calls result ≡ 0 }
         ensures planned { result.faults.fails ≡ fails }
     {
         MemoryKeeper {
@@ -46,6 +47,8 @@ impl Keeper for MemoryKeeper {
     ghost told = { λ k. Some k.tables.rows };
 
     ghost faults = { λ k. k.faults.count };
+
+    ghost calls = { λ k. k.faults.calls };
 
     fn load(&mut self, alloc: Global) -> Result<Tables, LoadFault> {
         if self.faults.next() {

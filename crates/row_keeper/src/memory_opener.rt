@@ -61,6 +61,7 @@ impl MemoryOpener {
 fn keeper_of(alloc: Global, tables: &Tables, fails: &Items<u32>) -> Result<MemoryKeeper, NoMemory>
     ensures told { IfOk result (λ keeper. ⟦<MemoryKeeper as Keeper>⟧.told keeper ≡ Some tables.now.rows) }
     ensures faults { IfOk result (λ keeper. ⟦<MemoryKeeper as Keeper>⟧.faults keeper ≡ 0) }
+    ensures calls { IfOk result (λ keeper. ⟦<MemoryKeeper as Keeper>⟧.calls keeper ≡ 0) }
     ensures planned { IfOk result (λ keeper. keeper.faults.fails ≡ fails.now) }
 {
     Ok(MemoryKeeper::new(tables.copy(alloc)?, fails.copy(alloc)?))

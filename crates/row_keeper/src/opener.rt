@@ -21,11 +21,12 @@ pub trait Opener {
     /// How often a call has failed, here and at keepers that were closed.
     ghost faults: { Self → ℕ };
 
-    /// A keeper of these rows that has not failed yet. While it is open, nothing is said of what the
+    /// A keeper of these rows that was not called yet. While it is open, nothing is said of what the
     /// opener tells to be kept.
     fn open(&mut self, alloc: Global, name: &str) -> Result<Self::Keeper, EdgeFault>
         ensures gives { IfOk result (λ keeper. IfSome (told self.old) (λ rows. Self.Keeper.told keeper ≡ Some rows)) }
         ensures fresh { IfOk result (λ keeper. Self.Keeper.faults keeper ≡ 0) }
+        ensures uncalled { IfOk result (λ keeper. Self.Keeper.calls keeper ≡ 0) }
         ensures asked { IsAsked result name.now (asked self.old) (asked self.new) }
         ensures same { OnErr result (StillTells (told self.old) (told self.new)) }
         ensures later { faults self.old ≤ faults self.new }
