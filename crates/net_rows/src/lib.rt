@@ -18,8 +18,6 @@ mod rows;
 mod settings;
 mod shelf;
 mod tables;
-#[cfg(test)]
-mod tests;
 mod user;
 
 pub use change::{Change, Counters, Damage, Kind, Row, RowKey};

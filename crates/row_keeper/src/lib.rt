@@ -5,8 +5,6 @@ mod keeper;
 mod memory_keeper;
 mod memory_opener;
 mod opener;
-#[cfg(test)]
-mod tests;
 
 pub use keeper::{Keeper, LoadFault};
 pub use memory_keeper::MemoryKeeper;

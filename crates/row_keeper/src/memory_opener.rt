@@ -64,7 +64,9 @@ fn keeper_of(alloc: Global, tables: &Tables, fails: &Items<u32>) -> Result<Memor
     ensures calls { IfOk result (λ keeper. ⟦<MemoryKeeper as Keeper>⟧.calls keeper ≡ 0) }
     ensures planned { IfOk result (λ keeper. keeper.faults.fails ≡ fails.now) }
 {
-    Ok(MemoryKeeper::new(tables.copy(alloc)?, fails.copy(alloc)?))
+    let fails = fails.copy(alloc)?;
+    let tables = tables.copy(alloc)?;
+    Ok(MemoryKeeper::new(tables, fails))
 }
 
 /// Adds a name to those that were asked for.

@@ -1,0 +1,5 @@
+//! Tests of keepers and openers in memory.
+#![tactic(auto)]
+
+#[cfg(test)]
+mod keepers;
