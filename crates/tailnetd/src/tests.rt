@@ -82,27 +82,26 @@ fn failing(alloc: Global, call: u32) -> Result<Items<u32>, NoMemory> {
 }
 
 fn files_of(alloc: Global, text: &[u8], call: u32) -> Result<MemoryFiles, NoMemory> {
+    let fails = failing(alloc, call)?;
+    let name = Text::from_str(alloc, "tailnet.toml")?;
+    let bytes = Bytes::from_slice(alloc, text)?;
     let mut files = Items::new(alloc);
-    files.push(NamedBytes {
-        name: Text::from_str(alloc, "tailnet.toml")?,
-        bytes: Bytes::from_slice(alloc, text)?,
-    })?;
-    Ok(MemoryFiles::new(files, failing(alloc, call)?))
+    files.push(NamedBytes { name, bytes })?;
+    Ok(MemoryFiles::new(files, fails))
 }
 
 fn entropy_of(alloc: Global, call: u32) -> Result<MemoryEntropy, NoMemory> {
+    let fails = failing(alloc, call)?;
     let mut answers = Items::new(alloc);
     answers.push([1, 2, 3, 4])?;
-    Ok(MemoryEntropy::new(answers, failing(alloc, call)?))
+    Ok(MemoryEntropy::new(answers, fails))
 }
 
 fn opener_of(alloc: Global, plan: &Plan) -> Result<MemoryOpener, NoMemory> {
-    Ok(MemoryOpener::new(
-        alloc,
-        Tables::empty(alloc),
-        failing(alloc, plan.open)?,
-        failing(alloc, plan.keep)?,
-    ))
+    let opens = failing(alloc, plan.open)?;
+    let keeps = failing(alloc, plan.keep)?;
+    let tables = Tables::empty(alloc);
+    Ok(MemoryOpener::new(alloc, tables, opens, keeps))
 }
 
 /// Runs `pipe tailnet.toml --seed k1` over the bytes, with this text in the file, at 2001-09-09T01:46:40Z.
@@ -117,37 +116,86 @@ pub(crate) fn piped(
     piped_at(alloc, MemoryClock::new(moments), settings, input, plan)
 }
 
-/// The same with this clock.
-pub(crate) fn piped_at(
+/// The streams of a run.
+#[derive(Drop)]
+struct Streams {
+    input: MemorySource,
+    output: MemorySink,
+    errors: MemorySink,
+}
+
+fn streams_of(alloc: Global, input: &[u8], plan: &Plan) -> Result<Streams, NoMemory> {
+    let reads = failing(alloc, plan.read)?;
+    let writes = failing(alloc, plan.write)?;
+    let errors = failing(alloc, plan.error)?;
+    let bytes = Bytes::from_slice(alloc, input)?;
+    Ok(Streams {
+        input: MemorySource::new(bytes, reads),
+        output: MemorySink::new(alloc, writes),
+        errors: MemorySink::new(alloc, errors),
+    })
+}
+
+/// What else a run is given.
+#[derive(Drop)]
+struct Stores {
+    files: MemoryFiles,
+    opener: MemoryOpener,
+    clock: MemoryClock,
+    entropy: MemoryEntropy,
+}
+
+fn stores_of(
     alloc: Global,
-    mut clock: MemoryClock,
+    clock: MemoryClock,
     settings: &[u8],
-    input: &[u8],
     plan: &Plan,
-) -> Result<Ran, NoMemory> {
-    let mut input = MemorySource::new(Bytes::from_slice(alloc, input)?, failing(alloc, plan.read)?);
-    let mut output = MemorySink::new(alloc, failing(alloc, plan.write)?);
-    let mut errors = MemorySink::new(alloc, failing(alloc, plan.error)?);
-    let mut opener = opener_of(alloc, plan)?;
+) -> Result<Stores, NoMemory> {
+    let entropy = entropy_of(alloc, plan.word)?;
+    let files = files_of(alloc, settings, plan.file)?;
+    let opener = opener_of(alloc, plan)?;
+    Ok(Stores {
+        files,
+        opener,
+        clock,
+        entropy,
+    })
+}
+
+/// The command, over these objects.
+fn run(alloc: Global, mut streams: Streams, mut stores: Stores) -> Ran {
     let status = pipe_command(
         alloc,
         "tailnet.toml",
         Some("k1"),
-        &mut input,
-        &mut output,
-        &mut errors,
-        &mut files_of(alloc, settings, plan.file)?,
-        &mut opener,
-        &mut clock,
-        &mut entropy_of(alloc, plan.word)?,
+        &mut streams.input,
+        &mut streams.output,
+        &mut streams.errors,
+        &mut stores.files,
+        &mut stores.opener,
+        &mut stores.clock,
+        &mut stores.entropy,
     );
-    let machines = opener.tables().machines().len();
-    Ok(Ran {
+    let machines = stores.opener.tables().machines().len();
+    Ran {
         status,
-        output,
-        errors,
+        output: streams.output,
+        errors: streams.errors,
         machines,
-    })
+    }
+}
+
+/// The same with this clock.
+pub(crate) fn piped_at(
+    alloc: Global,
+    clock: MemoryClock,
+    settings: &[u8],
+    input: &[u8],
+    plan: &Plan,
+) -> Result<Ran, NoMemory> {
+    let stores = stores_of(alloc, clock, settings, plan)?;
+    let streams = streams_of(alloc, input, plan)?;
+    Ok(run(alloc, streams, stores))
 }
 
 pub(crate) const REGISTERED: &[u8] =

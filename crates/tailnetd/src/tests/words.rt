@@ -14,43 +14,69 @@ use std::thread::Threads;
 use tail_base::{Bytes, Items, NoMemory};
 use tailnet_commands::Status;
 
-/// What the top call comes to, and what is on errors.
-fn said<R: Threads + Wait + Sync>(
-    rt: &R,
-    alloc: Global,
-    words: &[String],
-) -> Result<(Status, MemorySink), NoMemory> {
+/// What the top call is given.
+#[derive(Drop)]
+struct Outside {
+    input: MemorySource,
+    output: MemorySink,
+    errors: MemorySink,
+    files: MemoryFiles,
+    opener: MemoryOpener,
+    clock: MemoryClock,
+    entropy: MemoryEntropy,
+}
+
+fn outside(alloc: Global) -> Result<Outside, NoMemory> {
     let mut moments = Items::new(alloc);
     moments.push(1_000_000_000)?;
     let mut random = Items::new(alloc);
     random.push([1, 2, 3, 4])?;
-    let mut errors = MemorySink::new(alloc, Items::new(alloc));
-    let status = tailnetd(
-        rt,
-        alloc,
-        words,
-        &mut MemorySource::new(Bytes::from_slice(alloc, FIRST)?, Items::new(alloc)),
-        &mut MemorySink::new(alloc, Items::new(alloc)),
-        &mut errors,
-        &mut MemoryFiles::new(Items::new(alloc), Items::new(alloc)),
-        &mut MemoryOpener::new(
+    let bytes = Bytes::from_slice(alloc, FIRST)?;
+    Ok(Outside {
+        input: MemorySource::new(bytes, Items::new(alloc)),
+        output: MemorySink::new(alloc, Items::new(alloc)),
+        errors: MemorySink::new(alloc, Items::new(alloc)),
+        files: MemoryFiles::new(Items::new(alloc), Items::new(alloc)),
+        opener: MemoryOpener::new(
             alloc,
             Tables::empty(alloc),
             Items::new(alloc),
             Items::new(alloc),
         ),
-        &mut MemoryClock::new(moments),
-        &mut MemoryEntropy::new(random, Items::new(alloc)),
+        clock: MemoryClock::new(moments),
+        entropy: MemoryEntropy::new(random, Items::new(alloc)),
+    })
+}
+
+/// What the top call comes to, and what is on errors.
+fn said<R: Threads + Wait + Sync>(
+    rt: &R,
+    alloc: Global,
+    words: &[String],
+    mut given: Outside,
+) -> (Status, MemorySink) {
+    let status = tailnetd(
+        rt,
+        alloc,
+        words,
+        &mut given.input,
+        &mut given.output,
+        &mut given.errors,
+        &mut given.files,
+        &mut given.opener,
+        &mut given.clock,
+        &mut given.entropy,
         &mut NoDoors::new(),
         &NoPause,
         &mut NoLink::new(),
     );
-    Ok((status, errors))
+    (status, given.errors)
 }
 
 #[test]
 fn no_words_are_no_command(rt: HostRuntime) -> Result<(), Fail> {
-    let (status, errors) = said(&rt, rt.alloc(), &[])?;
+    let given = outside(rt.alloc())?;
+    let (status, errors) = said(&rt, rt.alloc(), &[], given);
     assert!(rt; status == Status::Usage);
     assert!(rt; errors.bytes() == b"tailnetd: usage\n".as_slice());
     Ok(())
