@@ -11,13 +11,13 @@ ghost use Rattle.net_addr.specs.Blocks.{IsWithin, Overlaps, holds, is_within, la
 ghost use Rattle.net_addr.specs.PrefixTexts.{aligned, prefix_of_text, prefix_text};
 
 use crate::addr::Addr;
-use crate::numerals::number_up_to;
+use crate::numbers::ones;
 use crate::parts::place_of;
 use crate::prefix_fault::PrefixFault;
 use std::alloc::Global;
 use std::cmp::Ordering;
 use std::marker::Model;
-use tail_base::{Duplicate, Items, NoMemory, Text, sorted_once};
+use tail_base::{Duplicate, Items, NoMemory, Text, number_in, sorted_once};
 
 /// An address prefix: the addresses that share the first `len` bits of the base. The base has no
 /// bit set past them. Prefixes go by family, IPv4 first, then by base, then by length.
@@ -82,7 +82,7 @@ impl Prefix {
 
     /// The highest of its addresses, as a number.
     #[tactic(auto, using(crate::proofs::BlockLemmas::prefix_fits, crate::proofs::BlockLemmas::family_top))]
-    fn last(&self) -> u128
+    pub fn last(&self) -> u128
         ensures value { result ≡ last_of self.now }
     {
         let base = self.base();
@@ -133,7 +133,8 @@ fn prefix_of_text(text: &[u8]) -> Result<Prefix, PrefixFault>
     let Some(base) = Addr::read(&text[..at]) else {
         return Err(PrefixFault::BadAddress);
     };
-    let Some(len) = number_up_to(&text[at + 1..], family_bits(base.is_v6())) else {
+    let bits = u64::from(family_bits(base.is_v6()));
+    let Some(len) = number_in(&text[at + 1..], 3, 0, bits) else {
         return Err(PrefixFault::BadLength);
     };
     aligned(base, len as u8)
@@ -192,18 +193,6 @@ fn family_bits(v6: bool) -> u32
     ensures value { result ≡ family_bits v6 }
 {
     if v6 { 128 } else { 32 }
-}
-
-/// The number with so many binary digits, all of them 1.
-fn ones(count: u32) -> u128
-    requires fits { count ≤ 128 }
-    ensures value { result ≡ 2 ^ count - 1 }
-{
-    if count == 128 {
-        u128::MAX
-    } else {
-        (1 << count) - 1
-    }
 }
 
 impl Ord for Prefix {
