@@ -52,8 +52,7 @@ impl Prefix {
     pub fn of_addr(addr: Addr) -> Prefix
         ensures value { result ≡ prefix_of_addr addr }
     {
-        let len = if addr.is_v6() { 128 } else { 32 };
-        Prefix::new(addr, len)
+        Prefix::new(addr, family_bits(addr.is_v6()))
     }
 
     /// The prefix that a text spells: an address, a slash, and the length in decimal.
@@ -86,7 +85,7 @@ impl Prefix {
         ensures value { result ≡ last_of self.now }
     {
         let base = self.base();
-        base.bits() + ones(family_bits(base.is_v6()) - u32::from(self.len()))
+        base.bits() + ones(family_bits(base.is_v6()) - self.len())
     }
 
     /// Whether the address is one of this prefix's.
@@ -173,7 +172,7 @@ fn host_bits(base: Addr, len: u8) -> u128
     requires fits { len ≤ family_bits base.v6 }
     ensures value { result ≡ base.bits % size_of (record { base = base; len = len }) }
 {
-    base.bits() & ones(family_bits(base.is_v6()) - u32::from(len))
+    base.bits() & ones(family_bits(base.is_v6()) - len)
 }
 
 /// The prefix of this base and length, if the base has no bit set past it.
@@ -189,7 +188,7 @@ fn aligned(base: Addr, len: u8) -> Result<Prefix, PrefixFault>
 }
 
 /// How many bits the addresses of a family have.
-fn family_bits(v6: bool) -> u32
+fn family_bits(v6: bool) -> u8
     ensures value { result ≡ family_bits v6 }
 {
     if v6 { 128 } else { 32 }
