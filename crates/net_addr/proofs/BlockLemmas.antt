@@ -36,7 +36,7 @@ prefix_fits p b =
 base_below : (p : Block) → p.base.bits ≤ last_of p
 base_below p = omega arith
 
-holds_from : (p : Block) (addr : Address) → p.base.v6 ≡ addr.v6 → p.base.bits ≤ addr.bits → addr.bits ≤ last_of p → holds p addr ≡ true
+pub holds_from : (p : Block) (addr : Address) → p.base.v6 ≡ addr.v6 → p.base.bits ≤ addr.bits → addr.bits ≤ last_of p → holds p addr ≡ true
 holds_from p addr family low high =
     and_from _ _ (and_from _ _ (beq-from _ _ family) (le-leb _ _ low)) (le-leb _ _ high)
 

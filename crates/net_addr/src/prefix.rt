@@ -4,7 +4,7 @@ ghost use Rattle.std.proofs.Common.{rules};
 ghost use Rattle.std.specs.Cmp.{bool_cmp_total, nat_cmp_total, on_total, partial_order_from_own_ties, partial_order_from_total, then_total};
 ghost use Rattle.std.specs.Cmp.Rules.{comparing};
 ghost use Rattle.std.specs.Ordering.{as_partial_cmp};
-ghost use Rattle.net_addr.specs.Bits.{Block, IsBlock, family_bits, size_of};
+ghost use Rattle.net_addr.specs.Bits.{Block, IsBlock, family_bits, family_size, size_of};
 ghost use Rattle.net_addr.specs.Routes.{route_cmp, sorted_routes};
 ghost use Rattle.net_addr.specs.SpellsPrefix.{SpellsPrefix};
 ghost use Rattle.net_addr.specs.Blocks.{IsWithin, Overlaps, holds, is_within, last_of, overlap, prefix_of_addr};
@@ -83,6 +83,7 @@ impl Prefix {
     #[tactic(auto, using(crate::proofs::BlockLemmas::prefix_fits, crate::proofs::BlockLemmas::family_top))]
     pub fn last(&self) -> u128
         ensures value { result ≡ last_of self.now }
+        ensures in_family { result < family_size self.now.base.v6 }
     {
         let base = self.base();
         base.bits() + ones(family_bits(base.is_v6()) - self.len())
