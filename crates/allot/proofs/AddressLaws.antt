@@ -1,121 +1,119 @@
--- What is known of an address that is allotted.
-use Rattle.std.proofs.Common.{◌≡◌, ◌≢◌, ◌<◌, ◌≤◌, ◌+◌, ℕ, Bool, true, false, not, ◌&&◌, ◌||◌, ◌==◌, List, Option, Some, None, nat_le, nat_lt, arith, sym, ap, ◌∙◌, refl, lit<, lit≤}
-use Rattle.std.specs.Prelude.{Contains}
+-- What is known of an address that is given.
+use Rattle.std.proofs.Common.{◌≡◌, ◌≢◌, ◌<◌, ◌≤◌, ◌+◌, Bool, true, false, not, ◌&&◌, List, Option, Some, None, nat_le, nat_lt, arith, ap, ◌∙◌, refl, inl, inr, lit<, lit≤}
+use Rattle.std.specs.Prelude.{◌↔◌, Contains}
 use Rattle.std.specs.Bool.{beq}
-use Rattle.std.specs.Cmp.{booleans_Decides}
 use Rattle.std.specs.Option.{option_map}
-use Rattle.std.proofs.lemmas.Bool.Decides.{nat_tests}
+use Rattle.std.proofs.Math.Pow.{pow_pos}
+use Rattle.std.proofs.lemmas.Bool.{and_cases, and_from, and_parts, both_ways, eq-eqb, leb-true, ltb-true, not-false, not-true, or_parts}
+use Rattle.tail_base.proofs.Bools.{beq-from, beq-true}
 use Rattle.net_addr.specs.Bits.{Address, Block, IsBlock, size_of}
+use Rattle.net_addr.specs.Blocks.{holds}
+use Rattle.net_addr.proofs.BlockLemmas.{holds_from, holds_parts}
+use Rattle.net_addr.proofs.PartLemmas.{map_some}
 use Rattle.net_rows.specs.Damage.{address_eq}
 use Rattle.net_rows.specs.Limits.{is_inside, tailnet_v4, tailnet_v6}
 use Rattle.net_rows.specs.Settings.{is_within, AreSettings}
-use Rattle.net_rows.proofs.Bools.{both, le_of, lt_of}
 use Rattle.net_rows.proofs.Members.{list_any_member}
 use Rattle.net_rows.specs.declared.settings.SettingsFields.{SettingsFields}
 use Rattle.net_rows.specs.declared.machine.Machine.{Machine}
-use Rattle.allot.specs.Addresses.{is_reserved, is_free, address_at, free_address}
+use Rattle.allot.specs.Addresses.{IsFree, address_at, free_address, has_address, is_free, may_be_given}
 use Rattle.allot.proofs.AddressLemmas.{free_at, free_bits}
 use Rattle.allot.proofs.PrefixLemmas.{within_ends, inside_is}
 use Rattle.allot.proofs.SearchLemmas.{least_from-passes, least_from-within, least_from-least, least_from-none}
-
--- The address is in the prefix, is neither its first nor its last, isn't reserved, and no machine has it.
-pub record IsFree (p : Block) (machines : List Machine) (a : Address) : Type 0 where
-  pub family : a.v6 ≡ p.base.v6
-  pub after_first : p.base.bits < a.bits
-  pub before_last : a.bits + 1 < p.base.bits + size_of p
-  pub unreserved : is_reserved a ≡ false
-  pub v4_fresh : (m : Machine) → Contains machines m → m.v4 ≢ a
-  pub v6_fresh : (m : Machine) → Contains machines m → m.v6 ≢ a
-
-neither : (a b : Bool) → (a || b) ≡ false → (a ≡ false) × (b ≡ false)
-neither false false h = (refl, refl)
-neither false true h = absurd (cc)
-neither true b h = absurd (cc)
-
--- what a map of an option holds is the image of what the option holds
-mapped : {A B : Type 0} (f : A → B) (o : Option A) (b : B) → option_map f o ≡ Some b → (a : A) × (o ≡ Some a) × (f a ≡ b)
-mapped f None b h = absurd (cc)
-mapped f (Some a) b h = (a, refl, cc)
 
 mapped_none : {A B : Type 0} (f : A → B) (o : Option A) → option_map f o ≡ None → o ≡ None
 mapped_none f None h = refl
 mapped_none f (Some a) h = absurd (cc)
 
--- an address is equal to itself
-address_eq-same : (a : Address) → address_eq a a ≡ true
-address_eq-same a =
-    let family : beq a.v6 a.v6 ≡ true = elim a.v6 as (λ v. beq v v ≡ true) [ true ↦ refl | false ↦ refl ] in
-    let bits : (a.bits == a.bits) ≡ true = grind arith in
-    rw (family, bits) refl
+address_eq-from : (a b : Address) → a ≡ b → address_eq a b ≡ true
+address_eq-from a b same =
+    and_from _ _ (beq-from _ _ (ap (λ (x : Address). x.v6) same)) (eq-eqb _ _ (ap (λ (x : Address). x.bits) same))
 
-differs_by_test : (a b : Address) → address_eq a b ≡ false → a ≢ b
-differs_by_test a b fails same =
-    let e : address_eq b b ≡ false = rw same at fails in
-    let bad : true ≡ false = sym (address_eq-same b) ∙ e in cc
+differs : (a b : Address) → address_eq a b ≡ false → a ≢ b
+differs a b fails same = both_ways (address_eq a b) fails (address_eq-from a b same)
 
--- the four parts of the test
-parts : (a b c d : Bool) → (not a && not b && not c && not d) ≡ true → (a ≡ false) × (b ≡ false) × (c ≡ false) × (d ≡ false)
-parts false false false false h = (refl, refl, refl, refl)
-parts true b c d h = absurd (cc)
-parts false true c d h = absurd (cc)
-parts false false true d h = absurd (cc)
-parts false false false true h = absurd (cc)
-
-free_is : (p : Block) (machines : List Machine) (a : Address) → a.v6 ≡ p.base.v6 → p.base.bits ≤ a.bits → a.bits < p.base.bits + size_of p
-    → is_free p machines a ≡ true → IsFree p machines a
-free_is p machines a family low high free =
-    let four = parts _ _ _ _ free in
-    let not_first : (a.bits == p.base.bits) ≡ false = four.0 in
-    let not_last : (a.bits + 1 == p.base.bits + size_of p) ≡ false = four.1 in
+free_is : (p : Block) (machines : List Machine) (a : Address) → holds p a ≡ true → is_free p machines a ≡ true → IsFree p machines a
+free_is p machines a held free =
+    let two = and_parts (may_be_given p a) (not (has_address machines a)) free in
     let nobody : (m : Machine) → Contains machines m → (address_eq m.v4 a ≡ false) × (address_eq m.v6 a ≡ false) =
-    λ (m : Machine) (inside : Contains machines m). neither _ _ (list_any_member _ machines four.3 m inside) in
+    λ (m : Machine) (inside : Contains machines m). or_parts _ _ (list_any_member _ machines (not-true _ two.1) m inside) in
     record {
-      family = family;
-      after_first = grind (arith, nat_tests);
-      before_last = grind (arith, nat_tests);
-      unreserved = four.2;
-      v4_fresh = λ m inside. differs_by_test m.v4 a (nobody m inside).0;
-      v6_fresh = λ m inside. differs_by_test m.v6 a (nobody m inside).1;
+      held = held;
+      given = two.0;
+      v4_fresh = λ m inside. differs m.v4 a (nobody m inside).0;
+      v6_fresh = λ m inside. differs m.v6 a (nobody m inside).1;
     }
 
 -- the address that is found is free
 pub address_fresh : (p : Block) (machines : List Machine) (a : Address) → free_address p machines ≡ Some a → IsFree p machines a
 address_fresh p machines a h =
-    let got = mapped (address_at p) (free_bits p machines) a h in
-    let passes : free_at p machines got.0 ≡ true = least_from-passes (free_at p machines) (size_of p) p.base.bits got.0 got.1 in
-    let within : (p.base.bits ≤ got.0) × (got.0 < p.base.bits + size_of p) = least_from-within (free_at p machines) (size_of p) p.base.bits got.0 got.1 in
-    let found = free_is p machines (address_at p got.0) refl within.0 within.1 passes in
+    let got = map_some (free_bits p machines) (address_at p) a h in
+    let passes = least_from-passes (free_at p machines) (size_of p) p.base.bits got.0 got.1 in
+    let within = least_from-within (free_at p machines) (size_of p) p.base.bits got.0 got.1 in
+    let found = free_is p machines (address_at p got.0) (holds_from p (address_at p got.0) refl within.0 (omega arith)) passes in
     rw got.2 at found
 
--- no address of a smaller number in the prefix is free
-pub address_least : (p : Block) (machines : List Machine) (a : Address) → free_address p machines ≡ Some a
-    → (n : ℕ) → p.base.bits ≤ n → n < a.bits → is_free p machines (address_at p n) ≡ false
-address_least p machines a h n low high =
-    let got = mapped (address_at p) (free_bits p machines) a h in
-    let bits : got.0 ≡ a.bits = ap (λ (x : Address). x.bits) got.2 in
-    least_from-least (free_at p machines) (size_of p) p.base.bits got.0 got.1 n low (omega arith)
+-- an address that isn't free, but may be given, is a machine's
+taken : (p : Block) (machines : List Machine) (b : Address) → may_be_given p b ≡ true → is_free p machines b ≡ false → has_address machines b ≡ true
+taken p machines b given fails = elim (and_cases (may_be_given p b) (not (has_address machines b)) fails) [
+  | inl bad ↦ absurd (both_ways (may_be_given p b) bad given)
+  | inr here ↦ not-false (has_address machines b) here
+]
 
--- where none is found, no address of the prefix is free
+-- an address of the prefix is that of its number
+by_number : (p : Block) (b : Address) → p.base.v6 ≡ b.v6 → (test : Address → Bool) → test (address_at p b.bits) ≡ false → test b ≡ false
+by_number p b family test h = rw family at h
+
+-- machines have each smaller address that may be given
+pub address_least : (p : Block) (machines : List Machine) (a : Address) → free_address p machines ≡ Some a
+    → (b : Address) → holds p b ≡ true → may_be_given p b ≡ true → b.bits < a.bits → has_address machines b ≡ true
+address_least p machines a h b held given less =
+    let got = map_some (free_bits p machines) (address_at p) a h in
+    let bits : got.0 ≡ a.bits = ap (λ (x : Address). x.bits) got.2 in
+    let ends = holds_parts p b held in
+    let fails = least_from-least (free_at p machines) (size_of p) p.base.bits got.0 got.1 b.bits ends.1 (omega arith) in
+    taken p machines b given (by_number p b ends.0 (is_free p machines) fails)
+
+-- where none is found, machines have all of them
 pub address_none : (p : Block) (machines : List Machine) → free_address p machines ≡ None
-    → (n : ℕ) → p.base.bits ≤ n → n < p.base.bits + size_of p → is_free p machines (address_at p n) ≡ false
-address_none p machines h n low high =
-    least_from-none (free_at p machines) (size_of p) p.base.bits (mapped_none (address_at p) (free_bits p machines) h) n low high
+    → (b : Address) → holds p b ≡ true → may_be_given p b ≡ true → has_address machines b ≡ true
+address_none p machines h b held given =
+    let some : 0 < size_of p = pow_pos _ in
+    let ends = holds_parts p b held in
+    let fails = least_from-none (free_at p machines) (size_of p) p.base.bits (mapped_none (address_at p) (free_bits p machines) h) b.bits ends.1 (omega (arith, ends.2)) in
+    taken p machines b given (by_number p b ends.0 (is_free p machines) fails)
+
+found_or_none : (p : Block) (machines : List Machine) (r : Option Address) → free_address p machines ≡ r
+    → ((b : Address) → holds p b ≡ true → may_be_given p b ≡ true → has_address machines b ≡ true) → r ≡ None
+found_or_none p machines None e all = refl
+found_or_none p machines (Some a) e all =
+    let got = map_some (free_bits p machines) (address_at p) a e in
+    let passes = least_from-passes (free_at p machines) (size_of p) p.base.bits got.0 got.1 in
+    let free = address_fresh p machines a e in
+    let two = and_parts (may_be_given p (address_at p got.0)) (not (has_address machines (address_at p got.0))) passes in
+    let has : has_address machines (address_at p got.0) ≡ true = ap (has_address machines) got.2 ∙ all a free.held free.given in
+    absurd (both_ways _ (not-true _ two.1) has)
+
+-- none is found exactly there
+pub none_is : (p : Block) (machines : List Machine) → (free_address p machines ≡ None) ↔ ((b : Address) → holds p b ≡ true → may_be_given p b ≡ true → has_address machines b ≡ true)
+none_is p machines = (address_none p machines, found_or_none p machines (free_address p machines) refl)
 
 -- the address that is found in a prefix lies in the prefix around it
 pub address_inside : (outer p : Block) (machines : List Machine) (a : Address) → IsBlock outer → IsBlock p → is_within outer p ≡ true
     → free_address p machines ≡ Some a → is_inside outer a ≡ true
 address_inside outer p machines a o b within h =
     let free = address_fresh p machines a h in
-    let two = both (nat_le outer.len p.len) _ within in
-    let rest = both (beq outer.base.v6 p.base.v6 && nat_le outer.base.bits p.base.bits) (nat_lt p.base.bits (outer.base.bits + size_of outer)) two.1 in
-    let first = both (beq outer.base.v6 p.base.v6) (nat_le outer.base.bits p.base.bits) rest.0 in
-    let family : outer.base.v6 ≡ p.base.v6 = (booleans_Decides outer.base.v6 p.base.v6).0 first.0 in
-    let len : outer.len ≤ p.len = le_of _ _ two.0 in
-    let low : outer.base.bits ≤ p.base.bits = le_of _ _ first.1 in
-    let below : p.base.bits < outer.base.bits + size_of outer = lt_of _ _ rest.1 in
+    let two = and_parts (nat_le outer.len p.len) _ within in
+    let rest = and_parts (beq outer.base.v6 p.base.v6 && nat_le outer.base.bits p.base.bits) (nat_lt p.base.bits (outer.base.bits + size_of outer)) two.1 in
+    let first = and_parts (beq outer.base.v6 p.base.v6) (nat_le outer.base.bits p.base.bits) rest.0 in
+    let family : outer.base.v6 ≡ p.base.v6 = beq-true _ _ first.0 in
+    let len : outer.len ≤ p.len = leb-true _ _ two.0 in
+    let low : outer.base.bits ≤ p.base.bits = leb-true _ _ first.1 in
+    let below : p.base.bits < outer.base.bits + size_of outer = ltb-true _ _ rest.1 in
     let end : p.base.bits + size_of p ≤ outer.base.bits + size_of outer = within_ends outer p o b family len below in
-    let high : a.bits < outer.base.bits + size_of outer = omega (arith, free.before_last) in
-    inside_is outer a (family ∙ sym free.family) (omega (arith, free.after_first)) high
+    let ends = holds_parts p a free.held in
+    let some : 0 < size_of p = pow_pos _ in
+    inside_is outer a (family ∙ ends.0) (omega (arith, ends.1)) (omega (arith, ends.2))
 
 -- the prefixes of the tailnet are prefixes
 pub tailnet_v4_block : IsBlock tailnet_v4

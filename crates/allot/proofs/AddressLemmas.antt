@@ -1,7 +1,10 @@
 -- The search for a free address.
-use Rattle.std.proofs.Common.{◌≡◌, ◌+◌, ℕ, Bool, true, false, not, ◌&&◌, ◌==◌, List, Option, Some, None, sym, ap, ◌∙◌, refl, arith}
+use Rattle.std.proofs.Common.{◌≡◌, ◌<◌, ◌+◌, ℕ, Bool, true, false, not, ◌&&◌, ◌==◌, List, Option, Some, None, sym, ap, ◌∙◌, refl, arith}
 use Rattle.std.specs.Option.{option_map}
+use Rattle.std.proofs.Math.Pow.{pow_pos}
+use Rattle.std.proofs.lemmas.Bool.{eq-eqb}
 use Rattle.net_addr.specs.Bits.{Address, Block, size_of}
+use Rattle.net_addr.specs.Blocks.{last_of}
 use Rattle.net_rows.specs.declared.machine.Machine.{Machine}
 use Rattle.allot.specs.Addresses.{is_free, address_at, least_from, free_address}
 
@@ -38,5 +41,5 @@ free_address-none p machines h = ap (option_map (address_at p)) (sym h)
 -- the last address of a prefix isn't free
 pub last_not_free : (p : Block) (machines : List Machine) (n : ℕ) → n + 1 ≡ p.base.bits + size_of p → free_at p machines n ≡ false
 last_not_free p machines n last =
-    let test : (n + 1 == p.base.bits + size_of p) ≡ true = grind arith in
-    and_not (not (n == p.base.bits)) (n + 1 == p.base.bits + size_of p) _ _ test
+    let some : 0 < size_of p = pow_pos _ in
+    and_not (not (n == p.base.bits)) (n == last_of p) _ _ (eq-eqb n (last_of p) (omega arith))

@@ -10,9 +10,10 @@ use Rattle.net_rows.specs.declared.machine.Machine.{Machine}
 use Rattle.allot.specs.Addresses.{least_from}
 use Rattle.allot.specs.Names.{has_name, free_number, free_label, free_name}
 use Rattle.allot.proofs.SearchLemmas.{least_from-passes, least_from-within, least_from-least}
-use Rattle.net_rows.proofs.Bools.{truth, not_true, bytes_is}
+use Rattle.std.proofs.lemmas.Bool.{both_ways, cases_Bool, not-false, not-true}
+use Rattle.tail_base.proofs.Bools.{bytes_eq-from}
 use Rattle.net_rows.proofs.Members.{list_any_member}
-use Rattle.allot.proofs.NameLemmas.{is_free_number, false_not, number_found}
+use Rattle.allot.proofs.NameLemmas.{is_free_number, number_found}
 
 -- the number that is found, and what is known of it
 pub record IsFreeNumber (machines : List Machine) (base : List ℕ) (n : ℕ) : Type 0 where
@@ -31,8 +32,8 @@ found_number machines base n h =
       found = h;
       low = within.0;
       high = omega arith;
-      free = not_true _ (least_from-passes test (length machines + 1) 1 n h);
-      least = λ k low high. false_not _ (least_from-least test (length machines + 1) 1 n h k low high);
+      free = not-true _ (least_from-passes test (length machines + 1) 1 n h);
+      least = λ k low high. not-false _ (least_from-least test (length machines + 1) 1 n h k low high);
     }
 
 some_number : (machines : List Machine) (base : List ℕ) → length machines ≤ machine_limit
@@ -47,13 +48,12 @@ number_free machines base few = some_number machines base few _ refl
 not_named : (machines : List Machine) (name : List ℕ) → has_name machines name ≡ false → (m : Machine) → Contains machines m → m.name ≢ name
 not_named machines name none m inside same =
     let differs : bytes_eq m.name name ≡ false = list_any_member (λ m. bytes_eq m.name name) machines none m inside in
-    let equal : bytes_eq m.name name ≡ true = bytes_is m.name name same in
-    cc
+    both_ways _ differs (bytes_eq-from m.name name same)
 
 -- no machine has the label that is given
 pub label_untaken : (machines : List Machine) (base : List ℕ) → length machines ≤ machine_limit → has_name machines (free_label machines base) ≡ false
 label_untaken machines base few =
-    elim (truth (has_name machines base)) [
+    elim (cases_Bool (has_name machines base)) [
       | inl taken ↦ rw taken (number_free machines base few).free
       | inr free ↦ rw free free
     ]
@@ -66,7 +66,7 @@ name_fresh machines host few = not_named machines (free_name machines host) (lab
 -- a label with a number is a label
 pub free_label_is_label : (machines : List Machine) (base : List ℕ) → length machines ≤ machine_limit → is_label base ≡ true → is_label (free_label machines base) ≡ true
 free_label_is_label machines base few label =
-    elim (truth (has_name machines base)) [
+    elim (cases_Bool (has_name machines base)) [
       | inl taken ↦
           let high : free_number machines base < length machines + 2 = (number_free machines base few).high in
           let numbered : is_label (numbered_label base (free_number machines base)) ≡ true = numbered_is_label base (free_number machines base) (omega arith) label in
@@ -83,6 +83,9 @@ pub name_bare : (machines : List Machine) (host : List ℕ) → has_name machine
 name_bare machines host free = rw free refl
 
 -- else the name with the least number that is free is given
-pub name_numbered : (machines : List Machine) (host : List ℕ) → has_name machines (label_of_host host) ≡ true
-    → free_name machines host ≡ numbered_label (label_of_host host) (free_number machines (label_of_host host))
-name_numbered machines host taken = rw taken refl
+pub name_numbered : (machines : List Machine) (host : List ℕ) → length machines ≤ machine_limit → has_name machines (label_of_host host) ≡ true
+    → (n : ℕ) × (1 ≤ n) × (free_name machines host ≡ numbered_label (label_of_host host) n)
+    × ((k : ℕ) → 1 ≤ k → k < n → has_name machines (numbered_label (label_of_host host) k) ≡ true)
+name_numbered machines host few taken =
+    let number = number_free machines (label_of_host host) few in
+    (free_number machines (label_of_host host), number.low, rw taken refl, number.least)

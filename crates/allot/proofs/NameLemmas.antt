@@ -2,6 +2,7 @@
 use Rattle.std.proofs.Common.{◌≡◌, ◌<◌, ◌≤◌, ◌+◌, ◌^◌, ℕ, suc, Bool, true, false, not, List, [], ◌∷◌, length, map, Some, None, unwrap_or, arith, sym, ap, ◌∙◌, refl}
 use Rattle.std.specs.Set.{is_member}
 use Rattle.std.specs.Str.{bytes_eq}
+use Rattle.std.proofs.lemmas.Bool.{not-false}
 use Rattle.tail_base.specs.Labels.{numbered_label}
 use Rattle.tail_base.proofs.NumberLemmas.{numbered_label-injective}
 use Rattle.net_rows.specs.Limits.{machine_limit}
@@ -27,10 +28,6 @@ found_name machines base name n is h = is ∙ ap (λ o. numbered_label base (unw
 names_of : List Machine → List (List ℕ)
 names_of machines = map (λ m. m.name) machines
 
-pub false_not : (b : Bool) → not b ≡ false → b ≡ true
-false_not true h = refl
-false_not false h = absurd (cc)
-
 -- a machine has the name exactly where it is one of their names
 member_of_names : (machines : List Machine) (name : List ℕ) → is_member bytes_eq (names_of machines) name ≡ has_name machines name
 unfolding names_of
@@ -54,5 +51,5 @@ number_found machines base few none =
     λ (k : ℕ) (low : 1 ≤ k) (high : k < 1 + (length (names_of machines) + 1)).
     let fails : is_free_number machines base k ≡ false =
     least_from-none (is_free_number machines base) (length machines + 1) 1 none k low (omega (arith, length_of_names machines)) in
-    member_of_names machines (numbered_label base k) ∙ false_not _ fails in
+    member_of_names machines (numbered_label base k) ∙ not-false _ fails in
     pigeonhole (numbered_label base) (names_of machines) (2 ^ 32) 1 (numbers_apart base) (omega (arith, length_of_names machines)) taken

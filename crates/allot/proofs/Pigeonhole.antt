@@ -5,7 +5,8 @@ use Rattle.std.specs.List.{IsDistinct, AllByRecursion}
 use Rattle.std.specs.Set.{is_member}
 use Rattle.std.specs.Str.{bytes_eq}
 use Rattle.std.proofs.lemmas.Map.Made.{length-le_from_is_member}
-use Rattle.net_rows.proofs.Bools.{truth, bytes_of, bytes_is}
+use Rattle.std.proofs.lemmas.Bool.{cases_Bool}
+use Rattle.tail_base.proofs.Bools.{bytes_eq-from, bytes_eq-true}
 
 -- the values of so many numbers, from the first on
 abbrev pub values : (ℕ → List ℕ) → ℕ → ℕ → List (List ℕ)
@@ -18,15 +19,15 @@ length-values f (suc more) n = ap suc (length-values f more (n + 1))
 
 pub bytes_eq_equiv : IsEquivalence bytes_eq
 bytes_eq_equiv = record {
-  refl = λ x. bytes_is x x refl;
-  symm = λ x y. elim (truth (bytes_eq x y)) [
-    | inl e ↦ e ∙ sym (bytes_is y x (sym (bytes_of x y e)))
-    | inr e ↦ elim (truth (bytes_eq y x)) [
-      | inl f ↦ let bad : true ≡ false = sym (bytes_is x y (sym (bytes_of y x f))) ∙ e in absurd (cc)
+  refl = λ x. bytes_eq-from x x refl;
+  symm = λ x y. elim (cases_Bool (bytes_eq x y)) [
+    | inl e ↦ e ∙ sym (bytes_eq-from y x (sym (bytes_eq-true x y e)))
+    | inr e ↦ elim (cases_Bool (bytes_eq y x)) [
+      | inl f ↦ let bad : true ≡ false = sym (bytes_eq-from x y (sym (bytes_eq-true y x f))) ∙ e in absurd (cc)
       | inr f ↦ e ∙ sym f
     ]
   ];
-  congr = λ x y z e. ap (λ k. bytes_eq k z) (bytes_of x y e);
+  congr = λ x y z e. ap (λ k. bytes_eq k z) (bytes_eq-true x y e);
 }
 
 -- The numbers give different values.
@@ -37,9 +38,9 @@ differs_from_later : (f : ℕ → List ℕ) (end : ℕ) → AreApart f end → (
     → AllByRecursion (λ y. bytes_eq (f n) y ≡ false) (values f more m)
 differs_from_later f end a n small zero m lt fits = tt
 differs_from_later f end a n small (suc more) m lt fits = (
-  elim (truth (bytes_eq (f n) (f m))) [
+  elim (cases_Bool (bytes_eq (f n) (f m))) [
     | inl e ↦
-        let same : n ≡ m = a.apart n m small (omega arith) (bytes_of (f n) (f m) e) in absurd (omega arith)
+        let same : n ≡ m = a.apart n m small (omega arith) (bytes_eq-true (f n) (f m) e) in absurd (omega arith)
     | inr e ↦ e
   ],
   differs_from_later f end a n small more (m + 1) (omega arith) (omega arith),
@@ -59,8 +60,8 @@ values_in : (f : ℕ → List ℕ) (held : List (List ℕ)) (more n : ℕ)
     → (q : List ℕ) → is_member bytes_eq (values f more n) q ≡ true → is_member bytes_eq held q ≡ true
 values_in f held zero n all q h = absurd (cc)
 values_in f held (suc more) n all q h =
-    elim (truth (bytes_eq q (f n))) [
-      | inl e ↦ let same : q ≡ f n = bytes_of q (f n) e in rw same (all n (omega arith) (omega arith))
+    elim (cases_Bool (bytes_eq q (f n))) [
+      | inl e ↦ let same : q ≡ f n = bytes_eq-true q (f n) e in rw same (all n (omega arith) (omega arith))
       | inr e ↦ values_in f held more (n + 1) (λ k low high. all k (omega arith) (omega arith)) q (rw e at h)
     ]
 

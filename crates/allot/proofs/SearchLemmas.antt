@@ -1,6 +1,6 @@
 -- The search for the least number that passes a test.
 use Rattle.std.proofs.Common.{◌≡◌, ◌<◌, ◌≤◌, ◌+◌, ◌-◌, ℕ, zero, suc, Bool, true, false, Option, Some, None, ◌⊎◌, inl, inr, arith, sym, ap, ◌∙◌, refl}
-use Rattle.net_rows.proofs.Bools.{truth}
+use Rattle.std.proofs.lemmas.Bool.{cases_Bool}
 use Rattle.allot.specs.Addresses.{least_from}
 
 -- a number that is no greater is equal, or at least one less
@@ -49,7 +49,7 @@ pub least_from-passes : (test : ℕ → Bool) (more n m : ℕ) → least_from te
 unfolding least_from
 least_from-passes test zero n m h = absurd (cc)
 least_from-passes test (suc more) n m h =
-    elim (truth (test n)) [
+    elim (cases_Bool (test n)) [
       | inl passes ↦
           let same : Some n ≡ Some m = rw passes at h in
           let e : n ≡ m = cc in rw (← e) passes
@@ -61,7 +61,7 @@ pub least_from-within : (test : ℕ → Bool) (more n m : ℕ) → least_from te
 unfolding least_from
 least_from-within test zero n m h = absurd (cc)
 least_from-within test (suc more) n m h =
-    elim (truth (test n)) [
+    elim (cases_Bool (test n)) [
       | inl passes ↦
           let same : Some n ≡ Some m = rw passes at h in
           let e : n ≡ m = cc in (omega arith, omega arith)
@@ -75,7 +75,7 @@ pub least_from-least : (test : ℕ → Bool) (more n m : ℕ) → least_from tes
 unfolding least_from
 least_from-least test zero n m h k low high = absurd (cc)
 least_from-least test (suc more) n m h k low high =
-    elim (truth (test n)) [
+    elim (cases_Bool (test n)) [
       | inl passes ↦
           let same : Some n ≡ Some m = rw passes at h in
           let e : n ≡ m = cc in absurd (omega arith)
@@ -91,7 +91,7 @@ pub least_from-none : (test : ℕ → Bool) (more n : ℕ) → least_from test m
 unfolding least_from
 least_from-none test zero n h k low high = absurd (omega arith)
 least_from-none test (suc more) n h k low high =
-    elim (truth (test n)) [
+    elim (cases_Bool (test n)) [
       | inl passes ↦
           let found : Some n ≡ None = rw passes at h in cc
       | inr fails ↦

@@ -2,9 +2,13 @@
 #![tactic(auto)]
 
 mod addresses;
+mod laws;
 mod names;
 #[cfg(test)]
 mod tests;
 
-pub use addresses::{least_address, least_free};
+pub use addresses::{
+    CHROMEOS_FIRST, CHROMEOS_LAST, SERVICE_V4, SERVICE_V6, least_address, least_free,
+};
+pub use laws::{the_least_free_address_is_given, the_least_free_name_is_given};
 pub use names::free_name;

@@ -19,7 +19,8 @@ fn has_name(machines: &[Machine], name: &Label) -> bool
 /// The label with the least number from 1 on with which no machine has it.
 fn numbered(alloc: Global, machines: &[Machine], base: &Label) -> Result<Label, NoMemory>
     requires few { length machines.now ≤ machine_limit }
-    ensures value { IfOk result (λ name. name ≡ numbered_label base.now (free_number machines.now base.now)) }
+    ensures value { IfOk result
+        (λ name. name ≡ numbered_label base.now (free_number machines.now base.now)) }
 {
     for n in 1..machines.len() as u32 + 2 {
         let name = base.numbered(alloc, n)?;
@@ -30,7 +31,7 @@ fn numbered(alloc: Global, machines: &[Machine], base: &Label) -> Result<Label, 
     unreachable!()
 }
 
-/// The label, or where a machine has it, the label with the least number from 1 on with which no
+/// The label, or if a machine has it, the label with the least number from 1 on with which no
 /// machine has it.
 pub(crate) fn free_label(
     alloc: Global,
@@ -47,8 +48,9 @@ pub(crate) fn free_label(
     }
 }
 
-/// The name for a new machine of this host name: the label that the host name gives, or where a machine
-/// has it, that label with the least number from 1 on with which no machine has it. There always is one.
+/// The name for a new machine of this host name: the label that the host name gives, or if a machine
+/// has it, that label with the least number from 1 on with which no machine has it. There always is
+/// one.
 #[tactic(auto, using(crate::proofs::TableLemmas::few_machines))]
 pub fn free_name(alloc: Global, tables: &Tables, host: &[u8]) -> Result<Label, NoMemory>
     ensures value { IfOk result (λ name. name ≡ free_name tables.now.rows.machines host.now) }

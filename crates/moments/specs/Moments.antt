@@ -1,13 +1,14 @@
 -- Moments as numbers of seconds since 1970-01-01T00:00:00Z (RFC 3339's years 1 to 9999).
-use Rattle.std.specs.Prelude.{ℤ, pos, negsuc, ◌≤ℤ◌, int_lt, if◌then◌else◌}
+use Rattle.std.specs.Prelude.{ℤ, ◌≤ℤ◌, int_lt, if◌then◌else◌}
+use Rattle.moments.specs.declared.moment.TheConstants.{FIRST_SECOND, LAST_SECOND}
 
 -- 0001-01-01T00:00:00Z
 abbrev pub first_moment : ℤ
-first_moment = negsuc 62135596799
+first_moment = FIRST_SECOND
 
 -- 9999-12-31T23:59:59Z
 abbrev pub last_moment : ℤ
-last_moment = pos 253402300799
+last_moment = LAST_SECOND
 
 -- it lies in the years 1 to 9999
 abbrev pub IsMoment : ℤ → Type 0

@@ -9,4 +9,4 @@ mod stamp;
 mod tests;
 
 pub use laws::moment_texts_differ;
-pub use moment::Moment;
+pub use moment::{FIRST_SECOND, LAST_SECOND, Moment};

@@ -33,20 +33,24 @@ impl Model for Moment {
 }
 
 /// 0001-01-01T00:00:00Z.
-const FIRST: i64 = -62135596800;
+pub const FIRST_SECOND: i64 = -62_135_596_800;
 
 /// 9999-12-31T23:59:59Z.
-const LAST: i64 = 253402300799;
+pub const LAST_SECOND: i64 = 253_402_300_799;
 
 impl Moment {
     /// The moment of these seconds, or the nearer end of the moments.
     pub fn clamp(seconds: i64) -> Moment
         ensures value { result ≡ clamped seconds }
     {
-        if seconds < FIRST {
-            Moment { seconds: FIRST }
-        } else if seconds > LAST {
-            Moment { seconds: LAST }
+        if seconds < FIRST_SECOND {
+            Moment {
+                seconds: FIRST_SECOND,
+            }
+        } else if seconds > LAST_SECOND {
+            Moment {
+                seconds: LAST_SECOND,
+            }
         } else {
             Moment { seconds }
         }
@@ -85,7 +89,7 @@ impl Moment {
     }
 
     /// The moment that an RFC 3339 text spells, as `2001-09-09T03:46:40.9+02:00`: with capital `T`
-    /// and `Z`, hours to 23, minutes and seconds to 59. The fraction is dropped. None where the
+    /// and `Z`, hours to 23, minutes and seconds to 59. The fraction is dropped. None if the
     /// text has another form, the date isn't one, or the value leaves the years 1 to 9999.
     pub fn read(text: &[u8]) -> Option<Moment>
         ensures value { result ≡ moment_of_text text.now }
@@ -123,7 +127,7 @@ fn moment_text(alloc: Global, moment: Moment) -> Result<Text, NoMemory>
     ensures value { IfOk result (λ text. text ≡ moment_text moment) }
     ensures moment { IsMoment moment }
 {
-    instant_text(alloc, (moment.seconds - FIRST) as u64)
+    instant_text(alloc, (moment.seconds - FIRST_SECOND) as u64)
 }
 
 /// The seconds since 1970 of a time on a day, at an offset.
@@ -151,7 +155,7 @@ fn after(text: &[u8], place: usize) -> &[u8]
 fn in_years(seconds: i64) -> Option<Moment>
     ensures value { result ≡ in_years seconds }
 {
-    if FIRST <= seconds && seconds <= LAST {
+    if FIRST_SECOND <= seconds && seconds <= LAST_SECOND {
         Some(Moment { seconds })
     } else {
         None

@@ -6,6 +6,7 @@ use Rattle.std.proofs.lemmas.Nat.{pow-add}
 use Rattle.std.specs.Prelude.{IsTrue, ◌↔◌, ◌&&◌, nat_le}
 use Rattle.std.specs.Bool.{beq}
 use Rattle.std.proofs.lemmas.Bool.{and_parts, and_from, leb-true, le-leb, cases_lt}
+use Rattle.tail_base.proofs.Bools.{beq-from, beq-true}
 use Rattle.net_addr.specs.Blocks.{IsWithin, Overlaps, holds, is_within, last_of, overlap}
 use Rattle.net_addr.specs.Bits.{family_bits, family_size, Address, Block, IsBlock, size_of}
 
@@ -32,28 +33,18 @@ prefix_fits p b =
     sym (pow-add 2 (family_bits p.base.v6 - p.len) p.len) ∙ ap (λ k. 2 ^ k) whole ∙ sym (family_is p.base.v6) in
     rw (← cut) (aligned_fits p.base.bits (size_of p) (2 ^ p.len) (pow_pos _) b.aligned (rw cut b.in_family))
 
-same_family : (a b : Bool) → beq a b ≡ true → a ≡ b
-same_family true true h = refl
-same_family false false h = refl
-same_family true false h = absurd (cc)
-same_family false true h = absurd (cc)
-
-family_self : (a : Bool) → beq a a ≡ true
-family_self true = refl
-family_self false = refl
-
 base_below : (p : Block) → p.base.bits ≤ last_of p
 base_below p = omega arith
 
-holds_from : (p : Block) (addr : Address) → p.base.v6 ≡ addr.v6 → p.base.bits ≤ addr.bits → addr.bits ≤ last_of p → holds p addr ≡ true
+pub holds_from : (p : Block) (addr : Address) → p.base.v6 ≡ addr.v6 → p.base.bits ≤ addr.bits → addr.bits ≤ last_of p → holds p addr ≡ true
 holds_from p addr family low high =
-    and_from _ _ (and_from _ _ (rw family (family_self addr.v6)) (le-leb _ _ low)) (le-leb _ _ high)
+    and_from _ _ (and_from _ _ (beq-from _ _ family) (le-leb _ _ low)) (le-leb _ _ high)
 
 pub holds_parts : (p : Block) (addr : Address) → holds p addr ≡ true → (p.base.v6 ≡ addr.v6) × (p.base.bits ≤ addr.bits) × (addr.bits ≤ last_of p)
 holds_parts p addr h =
     let parts = and_parts (beq p.base.v6 addr.v6 && nat_le p.base.bits addr.bits) (nat_le addr.bits (last_of p)) h in
     let front = and_parts (beq p.base.v6 addr.v6) (nat_le p.base.bits addr.bits) parts.0 in
-    (same_family _ _ front.0, leb-true _ _ front.1, leb-true _ _ parts.1)
+    (beq-true _ _ front.0, leb-true _ _ front.1, leb-true _ _ parts.1)
 
 -- the ends of the inner prefix lie in the outer one
 within_is : (p q : Block) → IsTrue (is_within p q) ↔ IsWithin p q
@@ -66,7 +57,7 @@ within_is p q = (to, from)
         let here = holds_parts p addr held in
         let low = leb-true _ _ front.1 in
         let high = leb-true _ _ parts.1 in
-        holds_from q addr (sym (same_family _ _ front.0) ∙ here.0) (omega arith) (omega arith)
+        holds_from q addr (sym (beq-true _ _ front.0) ∙ here.0) (omega arith) (omega arith)
 
     from : IsWithin p q → is_within p q ≡ true
     from h =
@@ -74,7 +65,7 @@ within_is p q = (to, from)
         let top : Address = record { v6 = p.base.v6; bits = last_of p } in
         let low = holds_parts q base (h base (holds_from p base refl (omega arith) (base_below p))) in
         let high = holds_parts q top (h top (holds_from p top refl (base_below p) (omega arith))) in
-        and_from _ _ (and_from _ _ (rw low.0 (family_self p.base.v6)) (le-leb _ _ low.1)) (le-leb _ _ high.2)
+        and_from _ _ (and_from _ _ (beq-from _ _ (sym low.0)) (le-leb _ _ low.1)) (le-leb _ _ high.2)
 
 pub within_means : (b : Bool) (p q : Block) → b ≡ is_within p q → IsTrue b ↔ IsWithin p q
 within_means b p q is = rw is (within_is p q)
@@ -87,7 +78,7 @@ overlap_is p q = (to, from)
     to h =
         let parts = and_parts (beq p.base.v6 q.base.v6 && nat_le p.base.bits (last_of q)) (nat_le q.base.bits (last_of p)) h in
         let front = and_parts (beq p.base.v6 q.base.v6) (nat_le p.base.bits (last_of q)) parts.0 in
-        let family = same_family _ _ front.0 in
+        let family = beq-true _ _ front.0 in
         let low = leb-true p.base.bits (last_of q) front.1 in
         let high = leb-true q.base.bits (last_of p) parts.1 in
         elim (cases_lt p.base.bits q.base.bits) [
@@ -99,7 +90,7 @@ overlap_is p q = (to, from)
     from (addr, first, second) =
         let here = holds_parts p addr first in
         let there = holds_parts q addr second in
-        let same : beq p.base.v6 q.base.v6 ≡ true = rw (here.0, there.0) (family_self addr.v6) in
+        let same : beq p.base.v6 q.base.v6 ≡ true = beq-from _ _ (here.0 ∙ sym there.0) in
         and_from _ _ (and_from _ _ same (le-leb p.base.bits (last_of q) (omega arith))) (le-leb q.base.bits (last_of p) (omega arith))
 
 pub overlap_means : (b : Bool) (p q : Block) → b ≡ overlap p q → IsTrue b ↔ Overlaps p q

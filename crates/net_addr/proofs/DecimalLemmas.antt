@@ -1,15 +1,16 @@
 -- The numbers that are read in decimal are those that are written.
-use Rattle.std.proofs.Common.{◌≡◌, ◌<◌, ◌≤◌, ◌+◌, ◌*◌, ◌^◌, ℕ, Bool, true, not, ◌&&◌, ◌||◌, List, [], ◌∷◌, length, get_or, ltb, leb, eqb, Option, Some, None, arith, rules, refl, sym, ap, ◌∙◌, inl, inr}
+use Rattle.std.proofs.Common.{◌≡◌, ◌<◌, ◌≤◌, ◌+◌, ◌*◌, ◌^◌, ℕ, Bool, true, false, ◌&&◌, List, [], ◌∷◌, length, get_or, cond, ltb, leb, Option, Some, None, arith, rules, refl, sym, ap, ◌∙◌, inl, inr}
 use Rattle.std.specs.Char.{digit_value}
 use Rattle.std.specs.Fmt.{decimal}
 use Rattle.std.specs.Str.Parse.{AllDigits, digits_value, digits_value_after}
 use Rattle.std.proofs.Math.Nat.{pow-le-pow_right}
-use Rattle.std.proofs.lemmas.Bool.{and_parts, and_from, or_left, or_right, or_cases, cases_lt, lt-ltb, le-leb, leb-true, ltb-true, eq-eqb, eqb-true, ne_eqb, not-true, not_from_false, both_ways, cond-true}
+use Rattle.std.proofs.lemmas.Bool.{and_parts, and_from, cases_lt, lt-ltb, le-leb, leb-true, ltb-true, cond-true, cond-false}
+use Rattle.std.proofs.lemmas.Bool.Decides.{nat_tests}
 use Rattle.std.proofs.lemmas.Fmt.{decimal_is_IsNumeral, decimal-digits_value, decimal_digit, decimal_nonempty, first_decimal, length-decimal-le}
 use Rattle.std.proofs.lemmas.Int.Digits.{digits_value-lt}
 use Rattle.std.proofs.lemmas.Str.Parse.{IsNumeralModel, numerals_by_value}
-use Rattle.net_addr.specs.Numerals.{numeral, numeral_after, up_to, number_up_to, has_number_form}
-use Rattle.net_addr.proofs.NumeralLemmas.{pick_some}
+use Rattle.tail_base.specs.Numerals.{digits_in, in_range, leads_with_zero, number_in, numeral, numeral_after, short_numeral}
+use Rattle.tail_base.proofs.NumeralLemmas.{pick_some}
 
 -- what is read is digits, and their number
 pub numeral_some : (radix n m : ℕ) (bs : List ℕ) → numeral_after radix n bs ≡ Some m → AllDigits radix bs × (digits_value_after radix n bs ≡ m)
@@ -28,55 +29,58 @@ numeral_of_digits radix n (b ∷ bs) h =
 own : IsNumeralModel (λ ds. AllDigits 10 ds) (digits_value 10)
 own = numerals_by_value _ (search rules)
 
-abbrev first_fits : List ℕ → Bool
-first_fits bs = not (eqb (get_or bs 0 0) 48) || eqb (length bs) 1
+else_some : (t : Bool) (o : Option ℕ) (n : ℕ) → cond t None o ≡ Some n → (t ≡ false) × (o ≡ Some n)
+else_some true o n h = absurd (cc)
+else_some false o n h = (refl, h)
 
--- what a form of a number's text says
-form_parts : (bs : List ℕ) → has_number_form bs ≡ true → (1 ≤ length bs) × (length bs ≤ 5) × (get_or bs 0 0 ≡ 48 → length bs ≡ 1)
-form_parts bs h =
-    let parts = and_parts (leb 1 (length bs) && leb (length bs) 5) (first_fits bs) h in
-    let sized = and_parts (leb 1 (length bs)) (leb (length bs) 5) parts.0 in (
-      leb-true 1 (length bs) sized.0,
-      leb-true (length bs) 5 sized.1,
-      λ zero_first. elim (or_cases _ (eqb (length bs) 1) parts.1) [
-        | inl other ↦ absurd (both_ways (eqb (get_or bs 0 0) 48) (not-true (eqb (get_or bs 0 0) 48) other) (eq-eqb (get_or bs 0 0) 48 zero_first))
-        | inr single ↦ eqb-true (length bs) 1 single
-      ],
-    )
+in_range_some : (least most n : ℕ) (o : Option ℕ) → in_range least most o ≡ Some n → o ≡ Some n
+in_range_some least most n (Some m) h = (pick_some (leb least m && leb m most) (Some m) n h).1
+in_range_some least most n None h = absurd (cc)
 
-up_to_some : (most n : ℕ) (o : Option ℕ) → up_to most o ≡ Some n → o ≡ Some n
-up_to_some most n (Some m) h = (pick_some (leb m most) (Some m) n h).1
-up_to_some most n None h = absurd (cc)
+-- a first zero stands alone
+zero_alone : (bs : List ℕ) → leads_with_zero bs ≡ false → get_or bs 0 0 ≡ 48 → length bs ≡ 1
+zero_alone [] h first = absurd (omega arith)
+zero_alone (b ∷ bs) h first = grind (arith, nat_tests)
 
 -- the text of a number that is read is the number's text
-pub number_text : (most n : ℕ) (bs : List ℕ) → number_up_to most bs ≡ Some n → bs ≡ decimal n
-number_text most n bs h =
-    let picked = pick_some (has_number_form bs) (up_to most (numeral 10 bs)) n h in
-    let form = form_parts bs picked.0 in
-    let read = numeral_some 10 0 n bs (up_to_some most n (numeral 10 bs) picked.1) in
+pub number_text : (k most n : ℕ) (bs : List ℕ) → k ≤ 5 → number_in k 0 most bs ≡ Some n → bs ≡ decimal n
+number_text k most n bs few h =
+    let form = else_some (leads_with_zero bs) (digits_in k 0 most bs) n h in
+    let picked = pick_some (leb 1 (length bs) && leb (length bs) k) (numeral 10 bs) n (in_range_some 0 most n (short_numeral 10 k bs) form.1) in
+    let sized = and_parts (leb 1 (length bs)) (leb (length bs) k) picked.0 in
+    let some = leb-true 1 (length bs) sized.0 in
+    let short = leb-true (length bs) k sized.1 in
+    let read = numeral_some 10 0 n bs picked.1 in
     let below = digits_value-lt 10 bs read.0 in
-    let top : 10 ^ length bs ≤ 10 ^ 5 = pow-le-pow_right {n = 10} (omega arith) {i = length bs} {j = 5} form.1 in
-    sym (decimal-digits_value own bs read.0 form.0 form.2 (omega arith)) ∙ ap decimal read.1
+    let top : 10 ^ length bs ≤ 10 ^ 5 = pow-le-pow_right {n = 10} (omega arith) {i = length bs} {j = 5} (omega arith) in
+    sym (decimal-digits_value own bs read.0 some (zero_alone bs form.0) (omega arith)) ∙ ap decimal read.1
 
-form_of_decimal : (n : ℕ) → n < 100000 → has_number_form (decimal n) ≡ true
-form_of_decimal n small =
-    let short = length-decimal-le 5 n (omega arith) (omega arith) (omega arith) in
-    let some = decimal_nonempty n (omega arith) in
-    let first : first_fits (decimal n) ≡ true = elim (cases_lt 0 n) [
-      | inl positive ↦
-          let high = first_decimal n positive (omega arith) in
-          or_left _ _ (not_from_false (eqb (get_or (decimal n) 0 0) 48) (ne_eqb (get_or (decimal n) 0 0) 48 (λ e. omega arith)))
-      | inr none ↦
-          let zero_is : n ≡ 0 = omega arith in
-          let text : decimal n ≡ 48 ∷ [] = ap decimal zero_is ∙ decimal_digit 0 (omega arith) in
-          or_right _ _ (eq-eqb (length (decimal n)) 1 (ap length text))
-    ] in
-    and_from _ _ (and_from _ _ (le-leb 1 (length (decimal n)) some) (le-leb (length (decimal n)) 5 short)) first
+leads_short : (bs : List ℕ) → length bs ≡ 1 → leads_with_zero bs ≡ false
+leads_short [] one = refl
+leads_short (b ∷ bs) one = grind (arith, nat_tests)
+
+leads_high : (bs : List ℕ) → 48 < get_or bs 0 0 → leads_with_zero bs ≡ false
+leads_high [] high = refl
+leads_high (b ∷ bs) high = grind (arith, nat_tests)
+
+decimal_leads : (n : ℕ) → n < 2 ^ 64 → leads_with_zero (decimal n) ≡ false
+decimal_leads n small = elim (cases_lt 0 n) [
+  | inl positive ↦ leads_high (decimal n) (first_decimal n positive small)
+  | inr none ↦
+      let zero_is : n ≡ 0 = omega arith in
+      let text : decimal n ≡ 48 ∷ [] = ap decimal zero_is ∙ decimal_digit 0 (omega arith) in
+      leads_short (decimal n) (ap length text)
+]
 
 -- a number's text is read
-pub number_of_decimal : (most n : ℕ) → n ≤ most → n < 100000 → number_up_to most (decimal n) ≡ Some n
-number_of_decimal most n fits small =
-    let digits = decimal_is_IsNumeral n (omega arith) in
-    let read : numeral 10 (decimal n) ≡ Some n = numeral_of_digits 10 0 (decimal n) digits.0.1 ∙ ap Some digits.1 in
-    cond-true (has_number_form (decimal n)) (up_to most (numeral 10 (decimal n))) None (form_of_decimal n small)
-    ∙ ap (up_to most) read ∙ cond-true (leb n most) (Some n) None (le-leb n most fits)
+pub number_of_decimal : (k most n : ℕ) → 1 ≤ k → n < 2 ^ 64 → n ≤ most → n < 10 ^ k → number_in k 0 most (decimal n) ≡ Some n
+number_of_decimal k most n digits word fits small =
+    let short = length-decimal-le k n digits small word in
+    let some = decimal_nonempty n word in
+    let form = decimal_is_IsNumeral n word in
+    let read : numeral 10 (decimal n) ≡ Some n = numeral_of_digits 10 0 (decimal n) form.0.1 ∙ ap Some form.1 in
+    let sized = and_from _ _ (le-leb 1 (length (decimal n)) some) (le-leb (length (decimal n)) k short) in
+    let numeral_is : short_numeral 10 k (decimal n) ≡ Some n = cond-true (leb 1 (length (decimal n)) && leb (length (decimal n)) k) (numeral 10 (decimal n)) None sized ∙ read in
+    let ranged = and_from _ _ (le-leb 0 n (omega arith)) (le-leb n most fits) in
+    cond-false (leads_with_zero (decimal n)) None (digits_in k 0 most (decimal n)) (decimal_leads n word)
+    ∙ ap (in_range 0 most) numeral_is ∙ cond-true (leb 0 n && leb n most) (Some n) None ranged

@@ -12,17 +12,17 @@ use Rattle.std.proofs.lemmas.List.{append_assoc, take_at, drop_at, take-append-d
 use Rattle.std.proofs.lemmas.List.Sums.{passes_at_first, split_at_first}
 use Rattle.net_addr.specs.declared.endpoint.Endpoint.{Endpoint}
 use Rattle.net_addr.specs.Bits.{family_size}
-use Rattle.net_addr.specs.EndpointTexts.{bracketed, bracketed_at, endpoint_of_text, endpoint_text, host_part, made, plain, plain_at, port_of}
+use Rattle.net_addr.specs.EndpointTexts.{bracketed, bracketed_at, endpoint_of_text, endpoint_text, host_part, made, plain, plain_at, port_behind_colon}
 use Rattle.net_addr.specs.GroupReads.{v6_of_text}
 use Rattle.net_addr.specs.QuadTexts.{quad_of_text}
 use Rattle.net_addr.specs.AddrTexts.{addr_text}
-use Rattle.net_addr.specs.Numerals.{number_up_to}
+use Rattle.tail_base.specs.Numerals.{number_in}
 use Rattle.net_addr.specs.SpellsAddr.{SpellsAddr}
 use Rattle.net_addr.specs.SpellsEndpoint.{SpellsEndpoint, before_port}
 use Rattle.net_addr.specs.V6Texts.{SpellsV6}
 use Rattle.net_addr.proofs.DecimalLemmas.{number_of_decimal, number_text}
 use Rattle.net_addr.proofs.FreeLemmas.{IsForeign, quad_other, v6_other}
-use Rattle.net_addr.proofs.NumeralLemmas.{number_fits, pick_some}
+use Rattle.tail_base.proofs.NumeralLemmas.{number_in_fits, pick_some}
 use Rattle.net_addr.proofs.PartLemmas.{and_then_some, map_some, quad_below, some_place}
 use Rattle.net_addr.proofs.PrefixLemmas.{addr_written, position_is}
 use Rattle.net_addr.proofs.AddrLemmas.{quad_no_colon}
@@ -54,8 +54,8 @@ digit_open b h = grind (arith, nat_tests)
 open_foreign : IsForeign 91
 open_foreign = record { hex = hex_open; digit = digit_open; colon = refl; dot = refl }
 
-port_read : (port : ℕ) → port < 2 ^ 16 → port_of (58 ∷ decimal port) ≡ Some port
-port_read port small = number_of_decimal 65535 port (omega arith) (omega arith)
+port_read : (port : ℕ) → port < 2 ^ 16 → port_behind_colon (58 ∷ decimal port) ≡ Some port
+port_read port small = number_of_decimal 5 65535 port (omega arith) (omega arith) (omega arith) (omega arith)
 
 not_open : (xs ys : List ℕ) → list_all (is_other 91) xs ≡ true → endpoint_of_text (xs ++ 58 ∷ ys) ≡ plain (xs ++ 58 ∷ ys)
 not_open [] ys h = refl
@@ -71,9 +71,9 @@ v4_read host bits port h small_port =
     let front : take (length host) whole ≡ host = take_at host ending (length host) refl in
     let back : drop (length host) whole ≡ ending = drop_at host ending (length host) refl in
     let addr : quad_of_text (take (length host) whole) ≡ Some bits = ap quad_of_text (front ∙ h.1) ∙ quad_read bits h.0 in
-    let tail : port_of (drop (length host) whole) ≡ Some port = ap port_of back ∙ port_read port small_port in
+    let tail : port_behind_colon (drop (length host) whole) ≡ Some port = ap port_behind_colon back ∙ port_read port small_port in
     not_open host (decimal port) (ap (list_all (is_other 91)) h.1 ∙ quad_other 91 open_foreign bits h.0) ∙ ap (option_and_then (plain_at whole)) place
-    ∙ ap (option_and_then (λ b. option_map (made false b) (port_of (drop (length host) whole)))) addr ∙ ap (option_map (made false bits)) tail
+    ∙ ap (option_and_then (λ b. option_map (made false b) (port_behind_colon (drop (length host) whole)))) addr ∙ ap (option_map (made false bits)) tail
 
 v6_read_behind : (host : List ℕ) (bits port : ℕ) → SpellsV6 host bits → port < 2 ^ 16 → bracketed (host ++ 93 ∷ 58 ∷ decimal port) ≡ Some (made true bits port)
 v6_read_behind host bits port spelled small_port =
@@ -83,9 +83,9 @@ v6_read_behind host bits port spelled small_port =
     let front : take (length host) rest ≡ host = take_at host (93 ∷ ending) (length host) refl in
     let back : drop (length host + 1) rest ≡ ending = drop-append-add host (93 ∷ ending) 1 in
     let addr : v6_of_text (take (length host) rest) ≡ Some bits = ap v6_of_text front ∙ v6_read host bits spelled in
-    let tail : port_of (drop (length host + 1) rest) ≡ Some port = ap port_of back ∙ port_read port small_port in
+    let tail : port_behind_colon (drop (length host + 1) rest) ≡ Some port = ap port_behind_colon back ∙ port_read port small_port in
     ap (option_and_then (bracketed_at rest)) place
-    ∙ ap (option_and_then (λ b. option_map (made true b) (port_of (drop (length host + 1) rest)))) addr ∙ ap (option_map (made true bits)) tail
+    ∙ ap (option_and_then (λ b. option_map (made true b) (port_behind_colon (drop (length host + 1) rest)))) addr ∙ ap (option_map (made true bits)) tail
 
 -- brackets round a host, and what follows
 closed : (host ending : List ℕ) → before_port true host ++ ending ≡ 91 ∷ host ++ 93 ∷ ending
@@ -106,13 +106,13 @@ pub record ShowsPort (text : List ℕ) (port : ℕ) : Type 0 where
   pub small : port < 65536
   pub is : text ≡ 58 ∷ decimal port
 
-port_shown : (text : List ℕ) (port : ℕ) → port_of text ≡ Some port → ShowsPort text port
+port_shown : (text : List ℕ) (port : ℕ) → port_behind_colon text ≡ Some port → ShowsPort text port
 port_shown [] port h = absurd (cc)
 port_shown (b ∷ bs) port h =
-    let found = pick_some (eqb b 58) (number_up_to 65535 bs) port h in
-    let fits = number_fits 65535 bs port found.1 in
+    let found = pick_some (eqb b 58) (number_in 5 0 65535 bs) port h in
+    let fits = (number_in_fits 5 0 65535 port bs found.1).1 in
     let colon : b ≡ 58 = eqb-true b 58 found.0 in
-    record { small = omega arith; is = ap (λ x. x ∷ bs) colon ∙ ap (λ xs. 58 ∷ xs) (number_text 65535 port bs found.1) }
+    record { small = omega arith; is = ap (λ x. x ∷ bs) colon ∙ ap (λ xs. 58 ∷ xs) (number_text 5 65535 port bs (omega arith) found.1) }
 
 -- a text is divided at the first mark
 mark_shown : (mark : ℕ) (text : List ℕ) (place : ℕ) → position (λ b. eqb b mark) text ≡ Some place → text ≡ take place text ++ mark ∷ drop (place + 1) text
@@ -126,8 +126,8 @@ mark_shown mark text place h =
 plain_spelled : (text : List ℕ) (e : Endpoint) → plain text ≡ Some e → SpellsEndpoint text e
 plain_spelled text e h =
     let at = and_then_some (position (λ b. eqb b 58) text) (plain_at text) e h in
-    let bits = and_then_some (quad_of_text (take at.0 text)) (λ b. option_map (made false b) (port_of (drop at.0 text))) e at.2 in
-    let port = map_some (port_of (drop at.0 text)) (made false bits.0) e bits.2 in
+    let bits = and_then_some (quad_of_text (take at.0 text)) (λ b. option_map (made false b) (port_behind_colon (drop at.0 text))) e at.2 in
+    let port = map_some (port_behind_colon (drop at.0 text)) (made false bits.0) e bits.2 in
     let shown = port_shown (drop at.0 text) port.0 port.1 in
     rw (← port.2) (record {
       host = take at.0 text;
@@ -148,8 +148,8 @@ bracketed_parts text host ending bits port e split spelled shown is =
 bracketed_spelled : (text : List ℕ) (e : Endpoint) → bracketed text ≡ Some e → SpellsEndpoint (91 ∷ text) e
 bracketed_spelled text e h =
     let at = and_then_some (position (λ b. eqb b 93) text) (bracketed_at text) e h in
-    let bits = and_then_some (v6_of_text (take at.0 text)) (λ b. option_map (made true b) (port_of (drop (at.0 + 1) text))) e at.2 in
-    let port = map_some (port_of (drop (at.0 + 1) text)) (made true bits.0) e bits.2 in
+    let bits = and_then_some (v6_of_text (take at.0 text)) (λ b. option_map (made true b) (port_behind_colon (drop (at.0 + 1) text))) e at.2 in
+    let port = map_some (port_behind_colon (drop (at.0 + 1) text)) (made true bits.0) e bits.2 in
     let shown = port_shown (drop (at.0 + 1) text) port.0 port.1 in
     bracketed_parts text (take at.0 text) (drop (at.0 + 1) text) bits.0 port.0 e (mark_shown 93 text at.0 at.1) (v6_spelled (take at.0 text) bits.0 bits.1) shown port.2
 

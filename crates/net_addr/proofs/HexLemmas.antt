@@ -8,7 +8,7 @@ use Rattle.std.proofs.lemmas.Grind.{pow_more}
 use Rattle.std.proofs.lemmas.List.{length-take-le, length-drop, append_assoc, take-append-drop, drop-drop}
 use Rattle.std.proofs.lemmas.List.Sums.{prefix_len-le-length}
 use Rattle.net_addr.specs.GroupReads.{groups_number}
-use Rattle.net_addr.specs.GroupTexts.{group_at, groups_of, group_text, groups_text, joined, longest_run, shortened, start_of_run, zeros}
+use Rattle.net_addr.specs.GroupTexts.{group_at, v6_groups, group_text, groups_text, joined, longest_run, shortened, start_of_run, zeros}
 use Rattle.net_addr.specs.V6Texts.{SpellsGroup, SpellsGroups, IsShortened, SpellsV6}
 use Rattle.net_addr.proofs.GroupLemmas.{run_fits}
 
@@ -100,7 +100,7 @@ combined : (g7 g6 g5 g4 g3 g2 g1 g0 q6 q5 q4 q3 q2 q1 q0 : ℕ) → g7 * 65536 +
     → ((((((g7 * 65536 + g6) * 65536 + g5) * 65536 + g4) * 65536 + g3) * 65536 + g2) * 65536 + g1) * 65536 + g0 ≡ q0
 combined g7 g6 g5 g4 g3 g2 g1 g0 q6 q5 q4 q3 q2 q1 q0 a b c d e f g = rw (a, b, c, d, e, f, g) refl
 
-number_is : (bits : ℕ) → bits < 2 ^ 128 → groups_number (groups_of bits) ≡ Some bits
+number_is : (bits : ℕ) → bits < 2 ^ 128 → groups_number (v6_groups bits) ≡ Some bits
 number_is bits small =
     let top : group_at bits 7 * 65536 + group_at bits 6 ≡ bits / 2 ^ 96 = omega arith in
     let e : bits / 2 ^ 96 * 65536 + group_at bits 5 ≡ bits / 2 ^ 80 = omega arith in
@@ -112,7 +112,7 @@ number_is bits small =
     ap Some (combined (group_at bits 7) (group_at bits 6) (group_at bits 5) (group_at bits 4) (group_at bits 3) (group_at bits 2) (group_at bits 1) (group_at bits 0)
     (bits / 2 ^ 96) (bits / 2 ^ 80) (bits / 2 ^ 64) (bits / 2 ^ 48) (bits / 2 ^ 32) (bits / 2 ^ 16) bits top e d c b a low)
 
-small_groups : (bits : ℕ) → AllSmall (groups_of bits)
+small_groups : (bits : ℕ) → AllSmall (v6_groups bits)
 small_groups bits = (omega arith, (omega arith, (omega arith, (omega arith, (omega arith, (omega arith, (omega arith, (omega arith, tt))))))))
 
 shortened_spells : (groups : List ℕ) → AllSmall groups → length groups ≡ 8 → 2 ≤ longest_run groups
@@ -141,10 +141,10 @@ shortened_spells groups small eight long =
       filled = split ∙ sym (append_assoc before (replicate n 0) after) ∙ ap (λ k. before ++ replicate k 0 ++ after) (sym count);
     }
 
-pub v6_written : (bits : ℕ) → bits < 2 ^ 128 → SpellsV6 (groups_text (groups_of bits)) bits
+pub v6_written : (bits : ℕ) → bits < 2 ^ 128 → SpellsV6 (groups_text (v6_groups bits)) bits
 unfolding groups_text
 v6_written bits small =
-    let groups = groups_of bits in
+    let groups = v6_groups bits in
     let n = longest_run groups in
     let at = start_of_run n groups in
     let number = number_is bits small in

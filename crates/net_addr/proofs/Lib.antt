@@ -6,12 +6,12 @@ pub mod FreeLemmas
 pub mod GapLemmas
 pub mod GroupLemmas
 pub mod HexLemmas
-pub mod NumeralLemmas
 pub mod PartLemmas
 pub mod PrefixLemmas
 pub mod QuadLemmas
 pub mod ReadLemmas
 mod RouteLemmas
+pub mod SearchLemmas
 pub mod SplitLemmas
 pub mod TextLemmas
 pub mod TidyLemmas

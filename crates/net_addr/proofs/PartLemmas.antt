@@ -10,10 +10,10 @@ use Rattle.net_addr.specs.declared.parts.Notation.TheVariants.{Decimal, Hexadeci
 use Rattle.net_addr.specs.Parts.{mark_of, part_of, parts_of, with_part, parts_from}
 use Rattle.net_addr.specs.QuadTexts.{quad_number, quad_of_text}
 use Rattle.tail_base.proofs.AllBytes.{all_append}
-use Rattle.net_addr.proofs.NumeralLemmas.{pick_some, group_fits, number_fits}
+use Rattle.tail_base.proofs.NumeralLemmas.{group_fits, number_in_fits, pick_some}
 
 pub part_fits : (notation : Notation) (bs : List ℕ) (n : ℕ) → part_of notation bs ≡ Some n → n < 65536
-part_fits Decimal bs n h = omega (arith, number_fits 255 bs n h)
+part_fits Decimal bs n h = omega (arith, (number_in_fits 3 0 255 n bs h).1)
 part_fits Hexadecimal bs n h = group_fits bs n h
 
 pub some_place : (t : Bool) (n i : ℕ) → cond t (Some n) None ≡ Some i → (t ≡ true) × (n ≡ i)
@@ -64,7 +64,7 @@ decimal_bytes parts [] r all h =
 decimal_bytes parts (bs ∷ more) r all h =
     let step = and_then_some (with_part Decimal parts bs) (λ longer. parts_from Decimal longer more) r h in
     let last = with_part_some Decimal parts bs step.0 step.1 in
-    let small : is_byte last.0 ≡ true = le-leb last.0 255 (number_fits 255 bs last.0 last.1) in
+    let small : is_byte last.0 ≡ true = le-leb last.0 255 (number_in_fits 3 0 255 last.0 bs last.1).1 in
     let longer = all_append is_byte parts (last.0 ∷ []) all (and_from _ _ small refl) in
     decimal_bytes step.0 more r (ap (list_all is_byte) (sym last.2) ∙ longer) step.2
 

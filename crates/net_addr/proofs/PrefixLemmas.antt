@@ -13,7 +13,7 @@ use Rattle.net_addr.specs.declared.prefix_fault.PrefixFault.{PrefixFault}
 use Rattle.net_addr.specs.declared.prefix_fault.PrefixFault.TheVariants.{HostBitsSet}
 use Rattle.net_addr.specs.Bits.{Address, Block, IsBlock, family_bits, family_size, size_of}
 use Rattle.net_addr.specs.AddrTexts.{addr_of_text, addr_text}
-use Rattle.net_addr.specs.Numerals.{number_up_to}
+use Rattle.tail_base.specs.Numerals.{number_in}
 use Rattle.net_addr.specs.PrefixTexts.{divided, is_aligned, prefix_of_text, prefix_text, with_base, with_length}
 use Rattle.net_addr.specs.SpellsAddr.{SpellsAddr}
 use Rattle.net_addr.specs.SpellsPrefix.{SpellsPrefix}
@@ -21,7 +21,7 @@ use Rattle.net_addr.proofs.AddrLemmas.{addr_read, addr_spelled}
 use Rattle.net_addr.proofs.DecimalLemmas.{number_of_decimal, number_text}
 use Rattle.net_addr.proofs.FreeLemmas.{IsForeign, addr_other}
 use Rattle.net_addr.proofs.HexLemmas.{v6_written}
-use Rattle.net_addr.proofs.NumeralLemmas.{number_fits}
+use Rattle.tail_base.proofs.NumeralLemmas.{number_in_fits}
 use Rattle.net_addr.proofs.PartLemmas.{some_place}
 use Rattle.net_addr.proofs.SplitLemmas.{is_other}
 
@@ -63,7 +63,7 @@ position_is mark xs ys h =
 
 -- ---- reading
 
-family_top : (v6 : Bool) → family_bits v6 < 100000
+family_top : (v6 : Bool) → family_bits v6 < 1000
 family_top true = omega arith
 family_top false = omega arith
 
@@ -77,7 +77,7 @@ prefix_read text p h =
     let back : drop (length base + 1) whole ≡ ending = drop-append-add base (47 ∷ ending) 1 in
     let addr = addr_read base p.base h.base in
     let top = family_top p.base.v6 in
-    let len : number_up_to (family_bits p.base.v6) ending ≡ Some p.len = number_of_decimal (family_bits p.base.v6) p.len h.fits (omega (arith, h.fits)) in
+    let len : number_in 3 0 (family_bits p.base.v6) ending ≡ Some p.len = number_of_decimal 3 (family_bits p.base.v6) p.len (omega arith) (omega arith) h.fits (omega (arith, h.fits)) in
     let straight : is_aligned p ≡ true = eq-eqb (p.base.bits % size_of p) 0 h.aligned in
     ap prefix_of_text h.is ∙ ap (divided whole) place ∙ ap (λ xs. with_base (addr_of_text xs) (drop (length base + 1) whole)) front ∙ ap (with_base (addr_of_text base)) back
     ∙ ap (λ a. with_base a ending) addr ∙ ap (with_length p.base) len ∙ cond-true (is_aligned p) (Ok p) (Err HostBitsSet) straight
@@ -87,15 +87,15 @@ pick_ok true q p h = (refl, cc (h))
 pick_ok false q p h = absurd (cc (h))
 
 length_spelled : (text base_text ending : List ℕ) (addr : Address) (read : Option ℕ) (p : Block) → text ≡ base_text ++ 47 ∷ ending → SpellsAddr base_text addr
-    → number_up_to (family_bits addr.v6) ending ≡ read → with_length addr read ≡ Ok p → SpellsPrefix text p
+    → number_in 3 0 (family_bits addr.v6) ending ≡ read → with_length addr read ≡ Ok p → SpellsPrefix text p
 length_spelled text base_text ending addr None p split base number h = absurd (cc (h))
 length_spelled text base_text ending addr (Some n) p split base number h =
     let found = pick_ok (is_aligned (record { base = addr; len = n })) (record { base = addr; len = n }) p h in
-    let ending_is = number_text (family_bits addr.v6) n ending number in
+    let ending_is = number_text 3 (family_bits addr.v6) n ending (omega arith) number in
     rw (← found.1) (record {
       base_text = base_text;
       base = base;
-      fits = number_fits (family_bits addr.v6) ending n number;
+      fits = (number_in_fits 3 0 (family_bits addr.v6) n ending number).1;
       aligned = eqb-true _ 0 found.0;
       is = split ∙ ap (λ xs. base_text ++ 47 ∷ xs) ending_is;
     })
@@ -103,7 +103,7 @@ length_spelled text base_text ending addr (Some n) p split base number h =
 base_spelled : (text base_text ending : List ℕ) (read : Option Address) (p : Block) → text ≡ base_text ++ 47 ∷ ending → addr_of_text base_text ≡ read → with_base read ending ≡ Ok p → SpellsPrefix text p
 base_spelled text base_text ending None p split addr h = absurd (cc (h))
 base_spelled text base_text ending (Some addr) p split is h =
-    length_spelled text base_text ending addr (number_up_to (family_bits addr.v6) ending) p split (addr_spelled base_text addr is) refl h
+    length_spelled text base_text ending addr (number_in 3 0 (family_bits addr.v6) ending) p split (addr_spelled base_text addr is) refl h
 
 divided_spelled : (text : List ℕ) (place : Option ℕ) (p : Block) → position (λ b. eqb b 47) text ≡ place → divided text place ≡ Ok p → SpellsPrefix text p
 divided_spelled text None p at h = absurd (cc (h))

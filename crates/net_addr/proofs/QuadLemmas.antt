@@ -12,7 +12,7 @@ use Rattle.net_addr.specs.QuadTexts.{byte_at, quad_number, quad_of_text, quad_te
 use Rattle.tail_base.proofs.AllBytes.{all_weaker}
 use Rattle.net_addr.proofs.DecimalLemmas.{number_text, number_of_decimal}
 use Rattle.tail_base.proofs.NumberLemmas.{decimal_digits}
-use Rattle.net_addr.proofs.NumeralLemmas.{number_fits}
+use Rattle.tail_base.proofs.NumeralLemmas.{number_in_fits}
 use Rattle.net_addr.proofs.PartLemmas.{and_then_some}
 use Rattle.net_addr.proofs.ReadLemmas.{ReadAs, parts_read, read_parts}
 use Rattle.net_addr.proofs.SplitLemmas.{is_other, split_joined}
@@ -21,15 +21,15 @@ use Rattle.net_addr.proofs.SplitLemmas.{is_other, split_joined}
 four : (texts : List (List ℕ)) (parts : List ℕ) (n : ℕ) → ReadAs Decimal texts parts → quad_number parts ≡ Some n → join_with_byte 46 texts ≡ quad_text n
 four (s ∷ t ∷ u ∷ v ∷ []) (a ∷ b ∷ c ∷ d ∷ []) n h is =
     let same : ((a * 256 + b) * 256 + c) * 256 + d ≡ n = cc (is) in
-    let small_a = number_fits 255 s a h.0 in
-    let small_b = number_fits 255 t b h.1.0 in
-    let small_c = number_fits 255 u c h.1.1.0 in
-    let small_d = number_fits 255 v d h.1.1.1.0 in
+    let small_a = (number_in_fits 3 0 255 a s h.0).1 in
+    let small_b = (number_in_fits 3 0 255 b t h.1.0).1 in
+    let small_c = (number_in_fits 3 0 255 c u h.1.1.0).1 in
+    let small_d = (number_in_fits 3 0 255 d v h.1.1.1.0).1 in
     let first : a ≡ byte_at n 3 = omega arith in
     let second : b ≡ byte_at n 2 = omega arith in
     let third : c ≡ byte_at n 1 = omega arith in
     let fourth : d ≡ byte_at n 0 = omega arith in
-    rw (number_text 255 a s h.0, number_text 255 b t h.1.0, number_text 255 c u h.1.1.0, number_text 255 d v h.1.1.1.0)
+    rw (number_text 3 255 a s (omega arith) h.0, number_text 3 255 b t (omega arith) h.1.0, number_text 3 255 c u (omega arith) h.1.1.0, number_text 3 255 d v (omega arith) h.1.1.1.0)
     (rw (first, second, third, fourth) refl)
 four [] (a ∷ b ∷ c ∷ d ∷ []) n h is = absurd h
 four (s ∷ []) (a ∷ b ∷ c ∷ d ∷ []) n h is = absurd h.1
@@ -64,6 +64,6 @@ quad_read n small =
     let bounds : (a < 256) × (b < 256) × (c < 256) × (d < 256) = (omega arith, omega arith, omega arith, omega arith) in
     let split = split_joined 46 (decimal a) (decimal b ∷ decimal c ∷ decimal d ∷ []) (free a bounds.0) (free b bounds.1, (free c bounds.2, (free d bounds.3, tt))) in
     let read = read_parts Decimal [] (decimal a ∷ decimal b ∷ decimal c ∷ decimal d ∷ []) (a ∷ b ∷ c ∷ d ∷ [])
-    (number_of_decimal 255 a (omega arith) (omega arith), (number_of_decimal 255 b (omega arith) (omega arith), (number_of_decimal 255 c (omega arith) (omega arith), (number_of_decimal 255 d (omega arith) (omega arith), tt)))) (omega arith) in
+    (number_of_decimal 3 255 a (omega arith) (omega arith) (omega arith) (omega arith), (number_of_decimal 3 255 b (omega arith) (omega arith) (omega arith) (omega arith), (number_of_decimal 3 255 c (omega arith) (omega arith) (omega arith) (omega arith), (number_of_decimal 3 255 d (omega arith) (omega arith) (omega arith) (omega arith), tt)))) (omega arith) in
     let whole : ((a * 256 + b) * 256 + c) * 256 + d ≡ n = omega arith in
     ap (λ parts. option_and_then quad_number (parts_from Decimal [] parts)) split ∙ ap (option_and_then quad_number) read ∙ ap Some whole

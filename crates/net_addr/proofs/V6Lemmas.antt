@@ -9,25 +9,25 @@ use Rattle.std.proofs.Math.Seq.{drop-append-add}
 use Rattle.std.proofs.lemmas.List.{take_at}
 use Rattle.std.proofs.lemmas.List.Splits.{join_with_byte-slice_split}
 use Rattle.net_addr.specs.declared.parts.Notation.TheVariants.{Hexadecimal}
-use Rattle.net_addr.specs.Numerals.{group_of, numeral}
+use Rattle.tail_base.specs.Numerals.{numeral, short_numeral}
 use Rattle.net_addr.specs.Parts.{parts_of, parts_from}
 use Rattle.net_addr.specs.GroupReads.{gap, side, filled, groups_around, groups_number, v6_of_text}
 use Rattle.net_addr.specs.V6Texts.{SpellsGroup, SpellsGroups, IsWhole, IsShortened, SpellsV6}
 use Rattle.net_addr.proofs.DecimalLemmas.{numeral_some, numeral_of_digits}
-use Rattle.net_addr.proofs.NumeralLemmas.{pick_some}
+use Rattle.tail_base.proofs.NumeralLemmas.{pick_some}
 use Rattle.net_addr.proofs.PartLemmas.{and_then_some}
 use Rattle.net_addr.proofs.ReadLemmas.{ReadAs, parts_read, read_parts}
 use Rattle.net_addr.proofs.SplitLemmas.{is_other, AllFree, split_joined}
 use Rattle.net_addr.proofs.TidyLemmas.{AllParts, begins_other, begins_joined, gap_after, gap_none, gap_splits, tidy_joined}
 
-group_spelled : (text : List ℕ) (group : ℕ) → group_of text ≡ Some group → SpellsGroup text group
+group_spelled : (text : List ℕ) (group : ℕ) → short_numeral 16 4 text ≡ Some group → SpellsGroup text group
 group_spelled text group h =
     let picked = pick_some (leb 1 (length text) && leb (length text) 4) (numeral 16 text) group h in
     let sized = and_parts (leb 1 (length text)) (leb (length text) 4) picked.0 in
     let read = numeral_some 16 0 group text picked.1 in
     record { some = leb-true 1 (length text) sized.0; short = leb-true (length text) 4 sized.1; digits = read.0; value = read.1 }
 
-group_read : (text : List ℕ) (group : ℕ) → SpellsGroup text group → group_of text ≡ Some group
+group_read : (text : List ℕ) (group : ℕ) → SpellsGroup text group → short_numeral 16 4 text ≡ Some group
 group_read text group h =
     cond-true (leb 1 (length text) && leb (length text) 4) (numeral 16 text) None (and_from _ _ (le-leb 1 (length text) h.some) (le-leb (length text) 4 h.short))
     ∙ numeral_of_digits 16 0 text h.digits ∙ ap Some h.value

@@ -9,8 +9,8 @@ abbrev pub group_at : ℕ → ℕ → ℕ
 group_at bits place = bits / 2 ^ (16 * place) % 65536
 
 -- the eight groups of an IPv6 address
-abbrev pub groups_of : ℕ → List ℕ
-groups_of bits = map (group_at bits) (7 ∷ 6 ∷ 5 ∷ 4 ∷ 3 ∷ 2 ∷ 1 ∷ 0 ∷ [])
+abbrev pub v6_groups : ℕ → List ℕ
+v6_groups bits = map (group_at bits) (7 ∷ 6 ∷ 5 ∷ 4 ∷ 3 ∷ 2 ∷ 1 ∷ 0 ∷ [])
 
 -- a group in lower case, with no leading zero (4.1, 4.3)
 abbrev pub group_text : ℕ → List ℕ

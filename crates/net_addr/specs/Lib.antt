@@ -4,11 +4,11 @@ pub mod Blocks
 pub mod EndpointTexts
 pub mod GroupReads
 pub mod GroupTexts
-pub mod Numerals
 pub mod Parts
 pub mod PrefixTexts
 pub mod QuadTexts
 pub mod Routes
+pub mod Searches
 pub mod SpellsAddr
 pub mod SpellsEndpoint
 pub mod SpellsPrefix

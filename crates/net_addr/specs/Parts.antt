@@ -2,19 +2,19 @@
 use Rattle.std.specs.Prelude.{ℕ, List, [], ◌∷◌, ◌++◌, Option, Some, None, length, if◌then◌else◌, nat_lt, ◌==◌}
 use Rattle.std.specs.List.{slice_split}
 use Rattle.std.specs.Option.{option_map, option_and_then}
+use Rattle.tail_base.specs.Numerals.{number_in, short_numeral}
 use Rattle.net_addr.specs.declared.parts.Notation.{Notation}
 use Rattle.net_addr.specs.declared.parts.Notation.TheVariants.{Decimal, Hexadecimal}
-use Rattle.net_addr.specs.Numerals.{number_up_to, group_of}
 
 -- what stands between the parts: a dot, or a colon
 abbrev pub mark_of : Notation → ℕ
 mark_of Decimal = 46
 mark_of Hexadecimal = 58
 
--- a byte in decimal, or 16 bits in hexadecimal
+-- a byte in decimal, or 16 bits in one to four hexadecimal digits of either case
 abbrev pub part_of : Notation → List ℕ → Option ℕ
-part_of Decimal bytes = number_up_to 255 bytes
-part_of Hexadecimal bytes = group_of bytes
+part_of Decimal bytes = number_in 3 0 255 bytes
+part_of Hexadecimal bytes = short_numeral 16 4 bytes
 
 -- the parts with one more, up to eight
 abbrev pub with_part : Notation → List ℕ → List ℕ → Option (List ℕ)

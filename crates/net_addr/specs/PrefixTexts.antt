@@ -1,11 +1,11 @@
 -- Prefixes as texts: an address, a slash, and the length in decimal.
 use Rattle.std.specs.Prelude.{ℕ, ◌+◌, ◌%◌, ◌==◌, List, ◌++◌, Bool, codes, take, drop, position, Option, Some, None, Result, Ok, Err, if◌then◌else◌}
 use Rattle.std.specs.Fmt.{decimal}
+use Rattle.tail_base.specs.Numerals.{number_in}
 use Rattle.net_addr.specs.declared.prefix_fault.PrefixFault.{PrefixFault}
 use Rattle.net_addr.specs.declared.prefix_fault.PrefixFault.TheVariants.{BadAddress, BadLength, HostBitsSet}
 use Rattle.net_addr.specs.Bits.{Address, Block, family_bits, size_of}
 use Rattle.net_addr.specs.AddrTexts.{addr_of_text, addr_text}
-use Rattle.net_addr.specs.Numerals.{number_up_to}
 
 -- the one text that is written of a prefix
 abbrev pub prefix_text : Block → List ℕ
@@ -26,7 +26,7 @@ with_length addr (Some n) = aligned (record { base = addr; len = n })
 -- the prefix of an address, if there is one, and of what follows the slash
 abbrev pub with_base : Option Address → List ℕ → Result Block PrefixFault
 with_base None ending = Err BadAddress
-with_base (Some addr) ending = with_length addr (number_up_to (family_bits addr.v6) ending)
+with_base (Some addr) ending = with_length addr (number_in 3 0 (family_bits addr.v6) ending)
 
 -- the prefix of a text that is divided there
 abbrev pub divided : List ℕ → Option ℕ → Result Block PrefixFault

@@ -1,16 +1,15 @@
 //! Endpoints.
 ghost use Rattle.std.specs.Prelude.{◌≡◌, ◌↔◌, ◌<◌, ◌≤◌, ◌^◌, length, IfOk};
 ghost use Rattle.net_addr.specs.Bits.{family_size};
-ghost use Rattle.net_addr.specs.EndpointTexts.{bracketed, bracketed_at, endpoint_of_text, endpoint_text, plain, plain_at, port_of};
+ghost use Rattle.net_addr.specs.EndpointTexts.{bracketed, bracketed_at, endpoint_of_text, endpoint_text, plain, plain_at, port_behind_colon};
 ghost use Rattle.net_addr.specs.SpellsEndpoint.{SpellsEndpoint};
 
 use crate::addr::Addr;
 use crate::group_reader::v6_of_text;
-use crate::numerals::number_up_to;
 use crate::parts::place_of;
 use crate::quad::quad_of_text;
 use std::alloc::Global;
-use tail_base::{Duplicate, NoMemory, Text};
+use tail_base::{Duplicate, NoMemory, Text, number_in};
 
 /// Where a machine may be reached by UDP: an address and a port.
 #[derive(Clone, Copy, Debug, PartialEq, Eq, PartialOrd, Ord, Drop)]
@@ -20,11 +19,11 @@ pub struct Endpoint {
 }
 
 /// The port behind a colon.
-fn port_of(text: &[u8]) -> Option<u32>
-    ensures value { result ≡ port_of text.now }
+fn port_behind_colon(text: &[u8]) -> Option<u64>
+    ensures value { result ≡ port_behind_colon text.now }
 {
     match text {
-        [b':', digits @ ..] => number_up_to(digits, 65535),
+        [b':', digits @ ..] => number_in(digits, 5, 0, 65535),
         _ => None,
     }
 }
@@ -35,7 +34,7 @@ fn plain_at(text: &[u8], at: usize) -> Option<Endpoint>
     ensures value { result ≡ plain_at text.now at }
 {
     let bits = quad_of_text(&text[..at])?;
-    let port = port_of(&text[at..])?;
+    let port = port_behind_colon(&text[at..])?;
     let addr = Addr::new(false, bits);
     Some(Endpoint {
         addr,
@@ -49,7 +48,7 @@ fn bracketed_at(text: &[u8], at: usize) -> Option<Endpoint>
     ensures value { result ≡ bracketed_at text.now at }
 {
     let bits = v6_of_text(&text[..at])?;
-    let port = port_of(&text[at + 1..])?;
+    let port = port_behind_colon(&text[at + 1..])?;
     let addr = Addr::new(true, bits);
     Some(Endpoint {
         addr,

@@ -1,6 +1,6 @@
 //! Texts of IPv6 addresses.
 ghost use Rattle.std.specs.Prelude.{◌≡◌, ◌<◌, ◌^◌, IfOk, length, nat_lt, position};
-ghost use Rattle.net_addr.specs.GroupTexts.{group_at, groups_of, groups_text, joined, longest_run, start_of_run, zeros};
+ghost use Rattle.net_addr.specs.GroupTexts.{group_at, v6_groups, groups_text, joined, longest_run, start_of_run, zeros};
 
 use std::alloc::Global;
 use tail_base::{NoMemory, Text};
@@ -14,8 +14,8 @@ fn group_at(bits: u128, place: u32) -> u16
 }
 
 /// The eight groups of an IPv6 address.
-fn groups_of(bits: u128) -> [u16; 8]
-    ensures value { result ≡ groups_of bits }
+fn v6_groups(bits: u128) -> [u16; 8]
+    ensures value { result ≡ v6_groups bits }
 {
     [
         group_at(bits, 7),
@@ -104,7 +104,7 @@ fn groups_text(alloc: Global, groups: &[u16]) -> Result<Text, NoMemory>
 
 /// The text of an IPv6 address.
 pub(crate) fn v6_text(alloc: Global, bits: u128) -> Result<Text, NoMemory>
-    ensures value { IfOk result (λ text. text ≡ groups_text (groups_of bits)) }
+    ensures value { IfOk result (λ text. text ≡ groups_text (v6_groups bits)) }
 {
-    groups_text(alloc, &groups_of(bits))
+    groups_text(alloc, &v6_groups(bits))
 }

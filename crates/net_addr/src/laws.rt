@@ -1,6 +1,5 @@
-//! What the texts of addresses, prefixes and endpoints come to. None of these functions does
-//! anything: each states a law.
-ghost use Rattle.std.specs.Prelude.{◌≡◌, ◌<◌, ◌^◌, Bool, List};
+//! Laws of the definitions. None of these functions does anything: each states a law.
+ghost use Rattle.std.specs.Prelude.{◌≡◌, ◌<◌, ◌^◌, Bool, List, true};
 ghost use Rattle.std.specs.List.{list_any};
 ghost use Rattle.std.specs.List.Sorted.{IsStrictlySortedBy};
 ghost use Rattle.net_addr.specs.AddrTexts.{addr_text};
@@ -9,6 +8,7 @@ ghost use Rattle.net_addr.specs.declared.endpoint.Endpoint.{Endpoint};
 ghost use Rattle.net_addr.specs.EndpointTexts.{endpoint_text};
 ghost use Rattle.net_addr.specs.PrefixTexts.{prefix_text};
 ghost use Rattle.net_addr.specs.Routes.{route_cmp, sorted_routes};
+ghost use Rattle.net_addr.specs.Searches.{some_address};
 
 /// No two addresses share a text.
 pub fn addr_texts_differ()
@@ -35,4 +35,12 @@ pub fn sorted_routes_rise()
     ensures rise { (routes : List Block) → IsStrictlySortedBy route_cmp (sorted_routes routes) }
     ensures same { (test : Block → Bool) (routes : List Block)
         → list_any test (sorted_routes routes) ≡ list_any test routes }
+{}
+
+/// A search over all addresses finds one that passes the test, if there is one, and no other.
+pub fn address_searches_find()
+    ensures found { (test : Address → Bool) (addr : Address)
+        → addr.bits < family_size addr.v6 → test addr ≡ true → some_address test ≡ true }
+    ensures finds { (test : Address → Bool) → some_address test ≡ true
+        → (addr : Address) × (addr.bits < family_size addr.v6) × (test addr ≡ true) }
 {}

@@ -6,7 +6,7 @@ mod endpoint;
 mod group_reader;
 mod groups;
 mod laws;
-mod numerals;
+mod numbers;
 mod parts;
 mod prefix;
 mod prefix_fault;
@@ -17,7 +17,11 @@ mod tests;
 
 pub use addr::Addr;
 pub use endpoint::Endpoint;
-pub use laws::{addr_texts_differ, endpoint_texts_differ, prefix_texts_differ, sorted_routes_rise};
+pub use laws::{
+    addr_texts_differ, address_searches_find, endpoint_texts_differ, prefix_texts_differ,
+    sorted_routes_rise,
+};
+pub use numbers::ones;
 pub use prefix::{Prefix, sorted_routes};
 pub use prefix_fault::PrefixFault;
 pub use tailnet::{

@@ -2,8 +2,8 @@
 ghost use Rattle.std.specs.Prelude.{◌≡◌, ◌<◌, ◌≤◌, ◌==◌, [], ◌∷◌, ◌++◌, length, position};
 ghost use Rattle.net_addr.specs.Parts.{mark_of, part_of, parts_of, with_part};
 
-use crate::numerals::{group_of, number_up_to};
 use std::marker::Model;
+use tail_base::{number_in, short_numeral};
 
 /// How the parts of an address are written.
 #[derive(Clone, Copy, Drop)]
@@ -72,12 +72,12 @@ fn mark_of(notation: Notation) -> u8
     }
 }
 
-fn part_of(notation: Notation, text: &[u8]) -> Option<u32>
+fn part_of(notation: Notation, text: &[u8]) -> Option<u64>
     ensures value { result ≡ part_of notation text.now }
 {
     match notation {
-        Notation::Decimal => number_up_to(text, 255),
-        Notation::Hexadecimal => group_of(text),
+        Notation::Decimal => number_in(text, 3, 0, 255),
+        Notation::Hexadecimal => short_numeral(text, 16, 4),
     }
 }
 

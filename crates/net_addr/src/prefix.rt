@@ -4,20 +4,20 @@ ghost use Rattle.std.proofs.Common.{rules};
 ghost use Rattle.std.specs.Cmp.{bool_cmp_total, nat_cmp_total, on_total, partial_order_from_own_ties, partial_order_from_total, then_total};
 ghost use Rattle.std.specs.Cmp.Rules.{comparing};
 ghost use Rattle.std.specs.Ordering.{as_partial_cmp};
-ghost use Rattle.net_addr.specs.Bits.{Block, IsBlock, family_bits, size_of};
+ghost use Rattle.net_addr.specs.Bits.{Block, IsBlock, family_bits, family_size, size_of};
 ghost use Rattle.net_addr.specs.Routes.{route_cmp, sorted_routes};
 ghost use Rattle.net_addr.specs.SpellsPrefix.{SpellsPrefix};
 ghost use Rattle.net_addr.specs.Blocks.{IsWithin, Overlaps, holds, is_within, last_of, overlap, prefix_of_addr};
 ghost use Rattle.net_addr.specs.PrefixTexts.{aligned, prefix_of_text, prefix_text};
 
 use crate::addr::Addr;
-use crate::numerals::number_up_to;
+use crate::numbers::ones;
 use crate::parts::place_of;
 use crate::prefix_fault::PrefixFault;
 use std::alloc::Global;
 use std::cmp::Ordering;
 use std::marker::Model;
-use tail_base::{Duplicate, Items, NoMemory, Text, sorted_once};
+use tail_base::{Duplicate, Items, NoMemory, Text, number_in, sorted_once};
 
 /// An address prefix: the addresses that share the first `len` bits of the base. The base has no
 /// bit set past them. Prefixes go by family, IPv4 first, then by base, then by length.
@@ -52,8 +52,7 @@ impl Prefix {
     pub fn of_addr(addr: Addr) -> Prefix
         ensures value { result ≡ prefix_of_addr addr }
     {
-        let len = if addr.is_v6() { 128 } else { 32 };
-        Prefix::new(addr, len)
+        Prefix::new(addr, family_bits(addr.is_v6()))
     }
 
     /// The prefix that a text spells: an address, a slash, and the length in decimal.
@@ -82,11 +81,12 @@ impl Prefix {
 
     /// The highest of its addresses, as a number.
     #[tactic(auto, using(crate::proofs::BlockLemmas::prefix_fits, crate::proofs::BlockLemmas::family_top))]
-    fn last(&self) -> u128
+    pub fn last(&self) -> u128
         ensures value { result ≡ last_of self.now }
+        ensures in_family { result < family_size self.now.base.v6 }
     {
         let base = self.base();
-        base.bits() + ones(family_bits(base.is_v6()) - u32::from(self.len()))
+        base.bits() + ones(family_bits(base.is_v6()) - self.len())
     }
 
     /// Whether the address is one of this prefix's.
@@ -133,7 +133,8 @@ fn prefix_of_text(text: &[u8]) -> Result<Prefix, PrefixFault>
     let Some(base) = Addr::read(&text[..at]) else {
         return Err(PrefixFault::BadAddress);
     };
-    let Some(len) = number_up_to(&text[at + 1..], family_bits(base.is_v6())) else {
+    let bits = u64::from(family_bits(base.is_v6()));
+    let Some(len) = number_in(&text[at + 1..], 3, 0, bits) else {
         return Err(PrefixFault::BadLength);
     };
     aligned(base, len as u8)
@@ -172,7 +173,7 @@ fn host_bits(base: Addr, len: u8) -> u128
     requires fits { len ≤ family_bits base.v6 }
     ensures value { result ≡ base.bits % size_of (record { base = base; len = len }) }
 {
-    base.bits() & ones(family_bits(base.is_v6()) - u32::from(len))
+    base.bits() & ones(family_bits(base.is_v6()) - len)
 }
 
 /// The prefix of this base and length, if the base has no bit set past it.
@@ -188,22 +189,10 @@ fn aligned(base: Addr, len: u8) -> Result<Prefix, PrefixFault>
 }
 
 /// How many bits the addresses of a family have.
-fn family_bits(v6: bool) -> u32
+fn family_bits(v6: bool) -> u8
     ensures value { result ≡ family_bits v6 }
 {
     if v6 { 128 } else { 32 }
-}
-
-/// The number with so many binary digits, all of them 1.
-fn ones(count: u32) -> u128
-    requires fits { count ≤ 128 }
-    ensures value { result ≡ 2 ^ count - 1 }
-{
-    if count == 128 {
-        u128::MAX
-    } else {
-        (1 << count) - 1
-    }
 }
 
 impl Ord for Prefix {

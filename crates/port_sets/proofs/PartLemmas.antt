@@ -5,10 +5,13 @@ use Rattle.std.specs.List.{slice_split, onto_first, position_or_len, before_firs
 use Rattle.std.proofs.lemmas.Bool.{le-leb}
 use Rattle.std.proofs.lemmas.Bool.Decides.{nat_tests}
 use Rattle.std.proofs.lemmas.List.Splits.{length-slice_split, slice_split_first, slice_split-cons_no}
+use Rattle.tail_base.specs.declared.failure.Failure.{Failure}
+use Rattle.tail_base.specs.declared.failure.Failure.TheVariants.{Fault}
+use Rattle.tail_base.specs.Steps.{◌>>=◌, Gives}
 use Rattle.port_sets.specs.declared.fault.PortFault.{PortFault}
-use Rattle.port_sets.specs.declared.fault.PortFault.TheVariants.{BadNumber, Reversed, TooMany, NoMemory}
+use Rattle.port_sets.specs.declared.fault.PortFault.TheVariants.{TooMany}
 use Rattle.port_sets.specs.declared.range.PortRange.{PortRange}
-use Rattle.port_sets.specs.PortTexts.{◌>>=◌, Gives, is_comma, merged_from, piece_of}
+use Rattle.port_sets.specs.PortTexts.{is_comma, merged_from, piece_of}
 use Rattle.port_sets.specs.Ranges.{inserted}
 
 -- a text without a comma is one part
@@ -39,7 +42,7 @@ full_from [] count ranges h some = absurd (omega arith)
 full_from (part ∷ parts) count ranges h some = rw (le-leb 64 count h) refl
 
 -- a text has a part
-some_part : (text : List ℕ) → 0 < length (slice_split is_comma text)
+pub some_part : (text : List ℕ) → 0 < length (slice_split is_comma text)
 some_part text = rw (length-slice_split is_comma text) (omega arith)
 
 pub step_full : (count : ℕ) (ranges : List PortRange) (text : List ℕ) → 64 ≤ count → merged_from count ranges (slice_split is_comma text) ≡ Err TooMany
@@ -63,15 +66,6 @@ pub err_more : (count : ℕ) (ranges : List PortRange) (text : List ℕ) (e : Po
 err_more count ranges text e low some read =
     step_more count ranges text low some ∙ ap (λ r. r >>= (λ p. merged_from (count + 1) (inserted p ranges) (slice_split is_comma (after_first is_comma text)))) (sym read)
 
-gives_fault : {A : Type 0} (view : A → List PortRange) (e : PortFault) (read : Result (List PortRange) PortFault) → read ≡ Err e → Gives view (Err e) read
-gives_fault view BadNumber read there = there
-gives_fault view Reversed read there = there
-gives_fault view TooMany read there = there
-gives_fault view NoMemory read there = tt
-
-pub gives_from : {A : Type 0} (view : A → List PortRange) (result : Result A PortFault) (e : PortFault) (read : Result (List PortRange) PortFault)
-    → result ≡ Err e → read ≡ Err e → Gives view result read
-gives_from view (Ok x) e read same there = absurd (cc)
-gives_from view (Err f) e read same there =
-    let alike : f ≡ e = cc in
-    gives_fault view f read (there ∙ ap Err (sym alike))
+pub gives_from : {A : Type 0} (view : A → List PortRange) (result : Result A (Failure PortFault)) (e : PortFault) (read : Result (List PortRange) PortFault)
+    → result ≡ Err (Fault e) → read ≡ Err e → Gives view result read
+gives_from view result e read same there = rw same there

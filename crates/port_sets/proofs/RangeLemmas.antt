@@ -1,8 +1,9 @@
 -- Ranges joined hold the same ports, and stay apart.
-use Rattle.std.proofs.Common.{◌≡◌, ◌+◌, ◌<◌, ◌≤◌, ◌^◌, ℕ, Bool, true, false, ◌||◌, List, [], ◌∷◌, min, max, arith, refl, sym, ap, ◌∙◌}
+use Rattle.std.proofs.Common.{◌≡◌, ◌+◌, ◌<◌, ◌≤◌, ◌^◌, ℕ, Bool, true, false, ◌||◌, List, [], ◌∷◌, length, min, max, arith, refl, sym, ap, ◌∙◌}
+use Rattle.std.proofs.lemmas.Bool.{and_from, le-leb}
 use Rattle.std.proofs.lemmas.Bool.Decides.{nat_tests}
 use Rattle.port_sets.specs.declared.range.PortRange.{PortRange}
-use Rattle.port_sets.specs.Ranges.{in_piece, holds, IsApart, is_before, joined, inserted, merged_into}
+use Rattle.port_sets.specs.Ranges.{in_piece, holds, IsApart, IsPorts, is_before, joined, inserted, merged_into}
 
 or_swap : (a b c : Bool) → (a || (b || c)) ≡ (b || (a || c))
 or_swap true true c = refl
@@ -66,3 +67,25 @@ holds_merged ranges [] port = sym (or_none (holds ranges port))
     or_none false = refl
 holds_merged ranges (piece ∷ pieces) port =
     holds_merged (inserted piece ranges) pieces port ∙ ap (λ t. t || holds pieces port) (holds_inserted piece ranges port) ∙ or_assoc (in_piece port piece) (holds ranges port) (holds pieces port) ∙ or_swap (in_piece port piece) (holds ranges port) (holds pieces port)
+
+some_inserted : (range : PortRange) (ranges : List PortRange) → 0 < length (inserted range ranges)
+some_inserted range [] = omega arith
+some_inserted range (other ∷ others) = by_first (λ r. some_inserted r others) (is_before other range) (is_before range other) refl refl
+  where
+    by_first : ((r : PortRange) → 0 < length (inserted r others)) → (x y : Bool) → is_before other range ≡ x → is_before range other ≡ y → 0 < length (inserted range (other ∷ others))
+    by_first more true y p q = rw p (omega arith)
+    by_first more false true p q = rw (p, q) (omega arith)
+    by_first more false false p q = rw (p, q) (more (joined range other))
+
+pub ports_inserted : (range : PortRange) (ranges : List PortRange) → range.first ≤ range.last → range.last < 2 ^ 16 → IsApart 0 ranges → IsPorts (inserted range ranges)
+ports_inserted range ranges order high h = record {
+  some = some_inserted range ranges;
+  apart = apart_inserted 0 range ranges (omega arith) order high h;
+}
+
+pub one_held : (ranges : List PortRange) → IsPorts ranges → (port : ℕ) × (port < 2 ^ 16) × (holds ranges port ≡ true)
+one_held [] h = absurd (omega (arith, h.some))
+one_held (range ∷ ranges) h =
+    let apart = h.apart in
+    let here : in_piece range.first range ≡ true = and_from _ _ (le-leb range.first range.first (omega arith)) (le-leb range.first range.last apart.1) in
+    (range.first, omega (arith, apart.1, apart.2), ap (λ t. t || holds ranges range.first) here)

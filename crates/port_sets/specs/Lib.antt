@@ -1,4 +1,3 @@
-pub mod Numbers
 pub mod PortTexts
 pub mod Protocols
 pub mod Ranges

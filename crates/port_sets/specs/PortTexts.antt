@@ -2,16 +2,12 @@
 use Rattle.std.specs.Prelude.{◌≡◌, ℕ, ◌+◌, ◌==◌, Bool, List, [], ◌∷◌, length, Option, Some, None, Result, Ok, Err, codes, if◌then◌else◌, nat_le, nat_lt}
 use Rattle.std.specs.List.{slice_split, before_first, after_first, position_or_len}
 use Rattle.std.specs.Str.{bytes_eq}
+use Rattle.tail_base.specs.Numerals.{digits_in}
+use Rattle.tail_base.specs.Steps.{◌>>=◌}
 use Rattle.port_sets.specs.declared.fault.PortFault.{PortFault}
-use Rattle.port_sets.specs.declared.fault.PortFault.TheVariants.{BadNumber, Reversed, TooMany, NoMemory}
+use Rattle.port_sets.specs.declared.fault.PortFault.TheVariants.{BadNumber, Reversed, TooMany}
 use Rattle.port_sets.specs.declared.range.PortRange.{PortRange}
-use Rattle.port_sets.specs.Numbers.{number_in}
 use Rattle.port_sets.specs.Ranges.{holds, inserted, merged_into}
-
-infixl 10 ◌>>=◌
-abbrev pub ◌>>=◌ : {A B : Type 0} → Result A PortFault → (A → Result B PortFault) → Result B PortFault
-(Ok x) >>= f = f x
-(Err e) >>= f = Err e
 
 -- `,`
 abbrev pub is_comma : ℕ → Bool
@@ -21,9 +17,9 @@ is_comma b = b == 44
 abbrev pub is_hyphen : ℕ → Bool
 is_hyphen b = b == 45
 
--- a port
-abbrev pub port_of : List ℕ → Option ℕ
-port_of text = number_in 0 65535 text
+-- the port that a text spells; leading zeros may stand
+abbrev pub port_of_text : List ℕ → Option ℕ
+port_of_text text = digits_in 5 0 65535 text
 
 -- the piece from one number to another
 abbrev pub piece_between : Option ℕ → Option ℕ → Result PortRange PortFault
@@ -35,8 +31,8 @@ piece_between None last = Err BadNumber
 abbrev pub piece_of : List ℕ → Result PortRange PortFault
 piece_of text =
     if nat_lt (position_or_len is_hyphen text) (length text)
-    then piece_between (port_of (before_first is_hyphen text)) (port_of (after_first is_hyphen text))
-    else piece_between (port_of text) (port_of text)
+    then piece_between (port_of_text (before_first is_hyphen text)) (port_of_text (after_first is_hyphen text))
+    else piece_between (port_of_text text) (port_of_text text)
 
 -- the pieces that those texts spell, behind so many pieces; the 65th isn't looked at
 abbrev pub pieces_from : ℕ → List (List ℕ) → Result (List PortRange) PortFault
@@ -61,18 +57,6 @@ pieces_of_text text =
 -- the pieces of a text, merged
 unfoldable pub ports_of_text : List ℕ → Result (List PortRange) PortFault
 ports_of_text text = pieces_of_text text >>= (λ pieces. Ok (merged_into [] pieces))
-
--- a fault is the one that reading gives, but want of memory, which is free
-abbrev pub Fails : {A : Type 0} → PortFault → Result A PortFault → Type 0
-Fails BadNumber read = read ≡ Err BadNumber
-Fails Reversed read = read ≡ Err Reversed
-Fails TooMany read = read ≡ Err TooMany
-Fails NoMemory read = Unit {0}
-
--- what was read is what reading gives, unless memory ran out
-abbrev pub Gives : {A B : Type 0} → (A → B) → Result A PortFault → Result B PortFault → Type 0
-Gives view (Ok x) read = read ≡ Ok (view x)
-Gives view (Err e) read = Fails e read
 
 -- there are pieces, and a port is in one of the ranges exactly where it is in one of the pieces
 abbrev pub HoldsSame : Result (List PortRange) PortFault → List PortRange → Type 0

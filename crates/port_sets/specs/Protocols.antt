@@ -1,8 +1,9 @@
 -- The protocols that a rule is about, by their IANA numbers.
-use Rattle.std.specs.Prelude.{ℕ, ◌≤◌, ◌==◌, ◌||◌, Bool, false, List, [], ◌∷◌, Option, Some, None, codes, if◌then◌else◌}
+use Rattle.std.specs.Prelude.{ℕ, ◌≤◌, ◌==◌, ◌||◌, Bool, List, [], ◌∷◌, Option, Some, None, codes, if◌then◌else◌}
 use Rattle.std.specs.List.{list_any, list_all}
+use Rattle.std.specs.Option.{option_or}
 use Rattle.std.specs.Str.{bytes_eq}
-use Rattle.port_sets.specs.Numbers.{number_in}
+use Rattle.tail_base.specs.Numerals.{number_in}
 
 -- the members: one protocol, or else ICMP, TCP, UDP and ICMPv6
 abbrev pub members : Option ℕ → List ℕ
@@ -46,20 +47,6 @@ short_named text =
 abbrev pub proto_named : List ℕ → Option ℕ
 proto_named text = if bytes_eq text (codes "ip-in-ip") then Some 4 else short_named text
 
--- the first that there is
-abbrev pub first_of : Option ℕ → Option ℕ → Option ℕ
-first_of (Some proto) other = Some proto
-first_of None other = other
-
--- the text begins with the digit 0
-abbrev pub leads_with_zero : List ℕ → Bool
-leads_with_zero [] = false
-leads_with_zero (b ∷ bs) = b == 48
-
--- the number of a protocol, without leading zeros
-abbrev pub proto_number : List ℕ → Option ℕ
-proto_number text = if leads_with_zero text then None else number_in 1 255 text
-
--- the protocol that a text names, or whose number it spells
+-- the protocol that a text names, or whose number from 1 to 255 it spells, without leading zeros
 abbrev pub proto_of_text : List ℕ → Option ℕ
-proto_of_text text = first_of (proto_named text) (proto_number text)
+proto_of_text text = option_or (proto_named text) (number_in 5 1 255 text)

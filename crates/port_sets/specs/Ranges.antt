@@ -1,5 +1,5 @@
 -- Sets of ports as lists of ranges.
-use Rattle.std.specs.Prelude.{ℕ, ◌+◌, ◌≤◌, ◌<◌, ◌^◌, Bool, List, [], ◌∷◌, if◌then◌else◌, nat_le, nat_lt, ◌&&◌, min, max}
+use Rattle.std.specs.Prelude.{ℕ, ◌+◌, ◌≤◌, ◌<◌, ◌^◌, Bool, List, [], ◌∷◌, length, if◌then◌else◌, nat_le, nat_lt, ◌&&◌, min, max}
 use Rattle.std.specs.List.{list_any}
 use Rattle.port_sets.specs.declared.range.PortRange.{PortRange}
 
@@ -16,6 +16,11 @@ holds ranges port = list_any (in_piece port) ranges
 abbrev pub IsApart : ℕ → List PortRange → Type 0
 IsApart least [] = Unit {0}
 IsApart least (range ∷ ranges) = (least ≤ range.first) × (range.first ≤ range.last) × (range.last < 2 ^ 16) × IsApart (range.last + 2) ranges
+
+-- there is a range, none is empty, and a port that none holds lies between any two
+pub record IsPorts (ranges : List PortRange) : Type 0 where
+  pub some : 0 < length ranges
+  pub apart : IsApart 0 ranges
 
 -- a port lies between the first range and the second
 abbrev pub is_before : PortRange → PortRange → Bool

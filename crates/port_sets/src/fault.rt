@@ -1,8 +1,8 @@
 //! Why a text names no ports.
 ghost use Rattle.std.specs.Prelude.{◌≡◌};
-ghost use Rattle.port_sets.specs.declared.fault.PortFault.TheVariants.{NoMemory};
+ghost use Rattle.tail_base.specs.declared.failure.Failure.TheVariants.{Fault};
 
-use std::alloc::AllocError;
+use tail_base::Failure;
 
 /// The first fault of a text of ports, piece by piece from the left.
 #[derive(Clone, Copy, Debug, PartialEq, Eq, Drop)]
@@ -13,14 +13,12 @@ pub enum PortFault {
     Reversed,
     /// There is a 65th piece. It isn't looked at.
     TooMany,
-    /// Memory ran out, which says nothing of the text.
-    NoMemory,
 }
 
-impl From<AllocError> for PortFault {
-    ghost from_gives = { λ _ e. e ≡ NoMemory };
+impl From<PortFault> for Failure<PortFault> {
+    ghost from_gives = { λ fault e. e ≡ Fault fault };
 
-    fn from(_: AllocError) -> Self {
-        PortFault::NoMemory
+    fn from(fault: PortFault) -> Self {
+        Failure::Fault(fault)
     }
 }

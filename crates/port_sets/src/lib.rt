@@ -3,16 +3,15 @@
 #![tactic(auto)]
 
 mod fault;
+mod laws;
 mod merge;
-mod numbers;
 mod ports;
 mod protos;
 mod range;
+mod splitting;
 
 pub use fault::PortFault;
+pub use laws::{ports_hold_one, read_ports_are_some};
 pub use ports::Ports;
 pub use protos::Protos;
 pub use range::PortRange;
-
-#[cfg(test)]
-mod tests;

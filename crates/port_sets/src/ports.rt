@@ -1,20 +1,23 @@
 //! Sets of ports.
 ghost use Rattle.std.specs.Prelude.{◌≡◌, [], IfOk};
 ghost use Rattle.std.specs.List.{slice_split};
-ghost use Rattle.port_sets.specs.PortTexts.{Gives, HoldsSame, is_comma, merged_from, pieces_of_text, ports_of_text};
-ghost use Rattle.port_sets.specs.Ranges.{IsApart, holds};
+ghost use Rattle.tail_base.specs.Steps.{Gives};
+ghost use Rattle.port_sets.specs.PortTexts.{HoldsSame, is_comma, merged_from, pieces_of_text, ports_of_text};
+ghost use Rattle.port_sets.specs.Ranges.{IsApart, IsPorts, holds};
 
 use crate::fault::PortFault;
 use crate::merge::inserted;
-use crate::numbers::{after, place_of};
 use crate::range::PortRange;
+use crate::splitting::{after, place_of};
 use std::alloc::Global;
 use std::marker::Model;
+use tail_base::{Duplicate, Failure, Items, NoMemory};
 
 /// How many pieces a text may have.
 const MOST_PIECES: usize = 64;
 
-/// A set of ports. Contracts see it as its ranges, which ascend, and neither overlap nor touch.
+/// A set of ports, which has at least one. Contracts see it as its ranges, which ascend, and neither
+/// overlap nor touch.
 #[derive(Drop)]
 pub struct Ports {
     ranges: Vec<PortRange>,
@@ -22,21 +25,21 @@ pub struct Ports {
 
 impl Model for Ports {
     ghost use Rattle.std.specs.Prelude.{List};
-    ghost use Rattle.port_sets.specs.Ranges.{IsApart};
+    ghost use Rattle.port_sets.specs.Ranges.{IsPorts};
     ghost use Rattle.port_sets.specs.declared.range.PortRange.{PortRange};
 
     ghost Value = { List PortRange };
 
     ghost view = { λ a. a.ranges.items };
 
-    ghost invariant = { λ a. IsApart 0 a.ranges.items };
+    ghost invariant = { λ a. IsPorts a.ranges.items };
 }
 
 impl Ports {
     /// The ports that a text names: `*` is all ports; else the text is up to 64 pieces joined by
     /// commas, each a number, or two with a hyphen between, the lesser first. A number is one to
     /// five decimal digits up to 65535, so leading zeros may stand.
-    pub fn read(alloc: Global, text: &[u8]) -> Result<Ports, PortFault>
+    pub fn read(alloc: Global, text: &[u8]) -> Result<Ports, Failure<PortFault>>
         ensures value { Gives (λ ports. ports) result (ports_of_text text.now) }
         ensures meaning { IfOk result (HoldsSame (pieces_of_text text.now)) }
     {
@@ -55,16 +58,25 @@ impl Ports {
     /// The ranges of the set.
     pub fn ranges(&self) -> &[PortRange]
         ensures value { result.now ≡ self.now }
-        ensures apart { IsApart 0 self.now }
+        ensures sound { IsPorts self.now }
     {
         self.ranges.as_slice()
     }
 }
 
+impl Duplicate for Ports {
+    fn copy(&self, alloc: Global) -> Result<Self, NoMemory> {
+        let ranges = Items::from_slice(alloc, self.ranges())?;
+        Ok(Ports {
+            ranges: ranges.into_vec(),
+        })
+    }
+}
+
 /// The ranges of the ports that a text names.
-fn ranges_of(alloc: Global, text: &[u8]) -> Result<Vec<PortRange>, PortFault>
+fn ranges_of(alloc: Global, text: &[u8]) -> Result<Vec<PortRange>, Failure<PortFault>>
     ensures value { Gives (λ v. v.items) result (ports_of_text text.now) }
-    ensures apart { IfOk result (λ v. IsApart 0 v.items) }
+    ensures sound { IfOk result (λ v. IsPorts v.items) }
 {
     if text == b"*".as_slice() {
         let all = PortRange {
@@ -78,9 +90,9 @@ fn ranges_of(alloc: Global, text: &[u8]) -> Result<Vec<PortRange>, PortFault>
 }
 
 /// The ranges of the ports that pieces joined by commas name.
-fn merged(alloc: Global, text: &[u8]) -> Result<Vec<PortRange>, PortFault>
+fn merged(alloc: Global, text: &[u8]) -> Result<Vec<PortRange>, Failure<PortFault>>
     ensures value { Gives (λ v. v.items) result (merged_from 0 [] (slice_split is_comma text.now)) }
-    ensures apart { IfOk result (λ v. IsApart 0 v.items) }
+    ensures sound { IfOk result (λ v. IsPorts v.items) }
 {
     let mut ranges = Vec::new(alloc);
     let mut rest = text;
@@ -94,5 +106,5 @@ fn merged(alloc: Global, text: &[u8]) -> Result<Vec<PortRange>, PortFault>
         ranges = inserted(alloc, piece, &ranges)?;
         rest = after(rest, at);
     }
-    Err(PortFault::TooMany)
+    Err(Failure::Fault(PortFault::TooMany))
 }

@@ -1,9 +1,11 @@
 //! Protocols.
 ghost use Rattle.std.specs.Prelude.{◌≡◌, None, option_map};
-ghost use Rattle.port_sets.specs.Protocols.{IsProtos, all_ported, has_member, is_ported, leads_with_zero, proto_named, proto_number, proto_of_text, short_named};
+ghost use Rattle.tail_base.specs.Numerals.{number_in};
+ghost use Rattle.port_sets.specs.Protocols.{IsProtos, all_ported, has_member, is_ported, proto_named, proto_of_text, short_named};
 
-use crate::numbers::number_in;
+use std::alloc::Global;
 use std::marker::Model;
+use tail_base::{Duplicate, NoMemory, number_in};
 
 /// The protocols that a rule is about, by the numbers of IANA's list
 /// (<https://www.iana.org/assignments/protocol-numbers>): one protocol, or else the usual ones.
@@ -67,6 +69,12 @@ impl Protos {
     }
 }
 
+impl Duplicate for Protos {
+    fn copy(&self, _: Global) -> Result<Self, NoMemory> {
+        Ok(*self)
+    }
+}
+
 fn is_ported(proto: u8) -> bool
     ensures value { result ≡ is_ported proto }
 {
@@ -76,6 +84,7 @@ fn is_ported(proto: u8) -> bool
 /// The protocol that the text names, or whose number it spells.
 fn proto_of_text(text: &[u8]) -> Option<u8>
     ensures value { result ≡ proto_of_text text.now }
+    ensures sound { IsProtos result }
 {
     match proto_named(text) {
         Some(proto) => Some(proto),
@@ -83,23 +92,13 @@ fn proto_of_text(text: &[u8]) -> Option<u8>
     }
 }
 
-fn leads_with_zero(text: &[u8]) -> bool
-    ensures value { result ≡ leads_with_zero text.now }
-{
-    match text {
-        [first, ..] => *first == b'0',
-        [] => false,
-    }
-}
-
 /// The number of a protocol, without leading zeros.
+#[tactic(auto, using(tail_base::proofs::NumeralLemmas::number_in_fits))]
 fn proto_number(text: &[u8]) -> Option<u8>
-    ensures value { result ≡ proto_number text.now }
+    ensures value { result ≡ number_in 5 1 255 text.now }
+    ensures sound { IsProtos result }
 {
-    if leads_with_zero(text) {
-        return None;
-    }
-    match number_in(text, 1, 255) {
+    match number_in(text, 5, 1, 255) {
         Some(number) => Some(number as u8),
         None => None,
     }
@@ -108,6 +107,7 @@ fn proto_number(text: &[u8]) -> Option<u8>
 /// The number of a protocol's name.
 fn proto_named(text: &[u8]) -> Option<u8>
     ensures value { result ≡ proto_named text.now }
+    ensures sound { IsProtos result }
 {
     if text == b"ip-in-ip".as_slice() {
         Some(4)
@@ -119,6 +119,7 @@ fn proto_named(text: &[u8]) -> Option<u8>
 /// The number of a protocol's name that has up to four letters.
 fn short_named(text: &[u8]) -> Option<u8>
     ensures value { result ≡ short_named text.now }
+    ensures sound { IsProtos result }
 {
     match text {
         b"icmp" => Some(1),

@@ -1,16 +1,34 @@
 //! Ranges of ports.
 ghost use Rattle.std.specs.Prelude.{◌≡◌, ◌≤◌, ◌<◌, ◌^◌, IfOk};
-ghost use Rattle.port_sets.specs.PortTexts.{piece_between, piece_of};
+ghost use Rattle.port_sets.specs.PortTexts.{piece_between, piece_of, port_of_text};
 ghost use Rattle.port_sets.specs.Ranges.{in_piece, is_before, joined};
 
 use crate::fault::PortFault;
-use crate::numbers::{after, number_in, place_of};
+use crate::splitting::{after, place_of};
+use std::alloc::Global;
+use tail_base::{Duplicate, NoMemory, digits_in};
 
 /// The ports from the first to the last, both included.
 #[derive(Clone, Copy, Debug, PartialEq, Eq, Drop)]
 pub struct PortRange {
     pub first: u16,
     pub last: u16,
+}
+
+impl Duplicate for PortRange {
+    fn copy(&self, _: Global) -> Result<Self, NoMemory> {
+        Ok(*self)
+    }
+}
+
+/// The port that one to five decimal digits spell. Leading zeros may stand.
+fn port_of_text(text: &[u8]) -> Option<u16>
+    ensures value { result ≡ port_of_text text.now }
+{
+    match digits_in(text, 5, 0, 65535) {
+        Some(port) => Some(port as u16),
+        None => None,
+    }
 }
 
 impl PortRange {
@@ -22,11 +40,11 @@ impl PortRange {
     {
         let at = place_of(text, b'-');
         if at < text.len() {
-            let first = number_in(&text[..at], 0, 65535);
-            let last = number_in(after(text, at), 0, 65535);
+            let first = port_of_text(&text[..at]);
+            let last = port_of_text(after(text, at));
             PortRange::of_numbers(first, last)
         } else {
-            let port = number_in(text, 0, 65535);
+            let port = port_of_text(text);
             PortRange::of_numbers(port, port)
         }
     }

@@ -6,6 +6,7 @@ use Rattle.std.proofs.lemmas.List.Elements.{All-contains, All-from_recursion, Co
 use Rattle.std.proofs.lemmas.List.Folds.{list_any-append}
 use Rattle.std.proofs.Math.Nat.{two-pow-succ}
 use Rattle.std.proofs.lemmas.Nat.{mod-mul-add, pow_pos}
+use Rattle.tail_base.proofs.Bools.{beq-from, same_tests}
 use Rattle.net_addr.specs.Bits.{Address, Block, IsBlock, family_bits, family_size, size_of}
 use Rattle.net_addr.specs.Blocks.{holds, last_of}
 use Rattle.net_addr.proofs.BlockLemmas.{family_is, holds_parts, prefix_fits}
@@ -13,7 +14,7 @@ use Rattle.range_sets.specs.Canonical.{IsCanonical, IsGreatest, all_in, block_at
 use Rattle.range_sets.specs.Sets.{some_holds}
 use Rattle.range_sets.proofs.GreatestLemmas.{all_at, all_false, all_from, greatest_same, some_false}
 use Rattle.range_sets.proofs.MultipleLemmas.{IsMultiple, floor_above, floor_is, mod_of_multiple, multiple_add, multiple_from_mod, multiple_lower, multiple_next}
-use Rattle.range_sets.proofs.OrderLemmas.{AreOrdered, IsBefore, all_append, all_map, before_by_base, ordered_append, pairs_from_ordered, same_bool}
+use Rattle.range_sets.proofs.OrderLemmas.{AreOrdered, IsBefore, all_append, all_map, before_by_base, ordered_append, pairs_from_ordered}
 
 -- A prefix of 2 ^ bits numbers among the 2 ^ n from base on, all of which pass, while some number of
 -- the prefix twice as large doesn't, if that is among them.
@@ -199,7 +200,7 @@ abbrev pub in_family : (Address → Bool) → Bool → ℕ → Bool
 in_family held v6 x = held (record { v6 = v6; bits = x })
 
 pub holds_from : (p : Block) (x : ℕ) → p.base.bits ≤ x → x < p.base.bits + size_of p → holds p (record { v6 = p.base.v6; bits = x }) ≡ true
-holds_from p x low high = and_from _ _ (and_from _ _ (same_bool p.base.v6) (le-leb _ _ low)) (le-leb x (last_of p) (omega arith))
+holds_from p x low high = and_from _ _ (and_from _ _ (beq-from p.base.v6 p.base.v6 refl) (le-leb _ _ low)) (le-leb x (last_of p) (omega arith))
 
 double : (n : ℕ) → 2 * 2 ^ n ≡ 2 ^ suc n
 double n = let two : 2 ^ suc n ≡ 2 ^ n + 2 ^ n = two-pow-succ n in omega arith
@@ -338,11 +339,6 @@ held_inside held (p ∷ ps) addr all e =
       | inl here ↦ all.0.inside addr here
       | inr later ↦ held_inside held ps addr all.1 later
     ]
-
-same_tests : (a b : Bool) → (a ≡ true → b ≡ true) → (b ≡ true → a ≡ true) → a ≡ b
-same_tests true b f g = sym (f refl)
-same_tests false true f g = g refl
-same_tests false false f g = refl
 
 -- ---- both families
 

@@ -4,13 +4,14 @@ use Rattle.std.proofs.lemmas.List.{drop_more}
 use Rattle.std.proofs.lemmas.List.Folds.{list_any-append}
 use Rattle.std.proofs.lemmas.Bool.{cases_lt}
 use Rattle.std.proofs.lemmas.Bool.Decides.{nat_tests}
+use Rattle.std.proofs.Math.Bool.{or-false, or_assoc}
 use Rattle.range_sets.specs.declared.span.Span.{Span}
 use Rattle.range_sets.specs.Gaps.{gap}
 use Rattle.range_sets.specs.Spans.{AreApart, in_span, spans_hold}
-use Rattle.range_sets.proofs.SpanLemmas.{AreApart-higher, AreApart-le, AreApart-lower, AreApart-push, or_assoc, or_false, spans_hold-above, spans_hold-below}
+use Rattle.range_sets.proofs.SpanLemmas.{AreApart-higher, AreApart-le, AreApart-lower, AreApart-push, spans_hold-above, spans_hold-below}
 
 spans_hold-gap_at : (a b x : ℕ) (t : Bool) → ltb a b ≡ t → spans_hold (cond t (record { first = a; last = b - 1 } ∷ []) []) x ≡ (leb a x && ltb x b)
-spans_hold-gap_at a b x true e = or_false _ ∙ grind (arith, nat_tests)
+spans_hold-gap_at a b x true e = or-false _ ∙ grind (arith, nat_tests)
 spans_hold-gap_at a b x false e = grind (arith, nat_tests)
 
 spans_hold-gap : (a b x : ℕ) → spans_hold (gap a b) x ≡ (leb a x && ltb x b)
@@ -65,7 +66,7 @@ past a x r h = grind (arith, nat_tests)
 
 pub stop_same : (highest : ℕ) (out : List Span) (next : ℕ) (s : Span) (rest spans : List Span) → highest ≤ s.last → Gaps highest out next (s ∷ rest) spans → (x : ℕ) → x ≤ highest → spans_hold (out ++ gap next s.first) x ≡ not (spans_hold spans x)
 stop_same highest out next s rest spans e g x h =
-    sym (ap (λ b. spans_hold (out ++ gap next s.first) x || b) (past (s.last + 1) x (not (spans_hold rest x)) (omega arith)) ∙ or_false _) ∙ gap_same highest out next s rest spans g x h
+    sym (ap (λ b. spans_hold (out ++ gap next s.first) x || b) (past (s.last + 1) x (not (spans_hold rest x)) (omega arith)) ∙ or-false _) ∙ gap_same highest out next s rest spans g x h
 
 pub end_apart : (highest : ℕ) (out : List Span) (next : ℕ) (spans : List Span) → Gaps highest out next [] spans → AreApart 0 (out ++ record { first = next; last = highest } ∷ []) (highest + 2)
 end_apart highest out next spans g = AreApart-push 0 (highest + 2) out (record { first = next; last = highest }) g.order g.within (omega arith)

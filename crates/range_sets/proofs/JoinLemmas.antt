@@ -1,13 +1,14 @@
 -- Two lists of spans, one span more.
-use Rattle.std.proofs.Common.{◌≡◌, ℕ, ◌+◌, ◌<◌, ◌≤◌, Bool, true, false, ◌||◌, List, [], ◌∷◌, ◌++◌, length, arith, refl, ap, sym, ◌∙◌, subst, inl, inr}
+use Rattle.std.proofs.Common.{◌≡◌, ℕ, ◌+◌, ◌<◌, ◌≤◌, Bool, true, false, ◌||◌, List, [], ◌∷◌, ◌++◌, length, arith, ap, sym, ◌∙◌, subst, inl, inr}
+use Rattle.std.proofs.Math.Bool.{or-false, or_assoc, or_comm}
 use Rattle.std.proofs.lemmas.Bool.{cases_Bool}
 use Rattle.std.proofs.lemmas.Bool.Decides.{nat_tests}
 use Rattle.range_sets.specs.declared.span.Span.{Span}
-use Rattle.range_sets.specs.Joins.{BeginsFrom, TakesEarliest, grown, joined, put_away, touches}
+use Rattle.range_sets.specs.Joins.{BeginsFrom, TakesEarliest, grown, joined, put_away, adjoins}
 use Rattle.range_sets.specs.Spans.{AreApart, AreBelow, AreRising, in_span, spans_hold}
-use Rattle.range_sets.proofs.SpanLemmas.{AreApart-push, or_assoc, or_false, spans_hold-push}
+use Rattle.range_sets.proofs.SpanLemmas.{AreApart-push, spans_hold-push}
 
--- spans that touch hold together what their join holds
+-- spans that adjoin hold together what their join holds
 in_joined : (a b : Span) (x : ℕ) → a.first ≤ b.first → b.first ≤ a.last + 1 → b.first ≤ b.last → a.first ≤ a.last → in_span (joined a b) x ≡ (in_span a x || in_span b x)
 in_joined a b x h e f g = grind (arith, nat_tests)
 
@@ -17,11 +18,11 @@ joined_last a b size h e = omega arith
 joined_within : (a b : Span) → a.first ≤ a.last → a.first ≤ (joined a b).last
 joined_within a b h = omega arith
 
-touches_true : (a b : Span) → touches a b ≡ true → b.first ≤ a.last + 1
-touches_true a b h = grind (arith, nat_tests)
+adjoins_true : (a b : Span) → adjoins a b ≡ true → b.first ≤ a.last + 1
+adjoins_true a b h = grind (arith, nat_tests)
 
-touches_false : (a b : Span) → touches a b ≡ false → a.last + 2 ≤ b.first
-touches_false a b h = grind (arith, nat_tests)
+adjoins_false : (a b : Span) → adjoins a b ≡ false → a.last + 2 ≤ b.first
+adjoins_false a b h = grind (arith, nat_tests)
 
 pub AreRising-from : (ss : List Span) (low : ℕ) (from : ℕ) → AreRising low ss → BeginsFrom from ss → AreRising from ss
 AreRising-from [] low from h b = tt
@@ -40,11 +41,6 @@ pub record Kept (out : List Span) (current : Span) (left right a b : List Span) 
   pub below : (size : ℕ) → AreBelow size a → AreBelow size b → (current.last < size) × AreBelow size left × AreBelow size right
   pub same : (x : ℕ) → (spans_hold out x || (in_span current x || (spans_hold left x || spans_hold right x))) ≡ (spans_hold a x || spans_hold b x)
 
-or_turned : (a b c : Bool) → (a || (b || c)) ≡ (b || (a || c))
-or_turned true true c = refl
-or_turned true false c = refl
-or_turned false b c = refl
-
 -- both lists trade places
 turned : (out : List Span) (current : Span) (left right a b : List Span) → Kept out current left right a b → Kept out current right left a b
 turned out current left right a b k = record {
@@ -53,22 +49,17 @@ turned out current left right a b k = record {
   left_rises = k.right_rises;
   right_rises = k.left_rises;
   below = λ size h e. let w = k.below size h e in (w.0, w.2, w.1);
-  same = λ x. ap (λ t. spans_hold out x || (in_span current x || t)) (or_swapped (spans_hold right x) (spans_hold left x)) ∙ k.same x;
+  same = λ x. ap (λ t. spans_hold out x || (in_span current x || t)) (or_comm (spans_hold right x) (spans_hold left x)) ∙ k.same x;
 }
-  where
-    or_swapped : (a b : Bool) → (a || b) ≡ (b || a)
-    or_swapped true true = refl
-    or_swapped true false = refl
-    or_swapped false b = sym (or_false b)
 
-joined_step : (out : List Span) (c s : Span) (left right a b : List Span) → touches c s ≡ true → BeginsFrom s.first right → Kept out c (s ∷ left) right a b → Kept out (joined c s) left right a b
+joined_step : (out : List Span) (c s : Span) (left right a b : List Span) → adjoins c s ≡ true → BeginsFrom s.first right → Kept out c (s ∷ left) right a b → Kept out (joined c s) left right a b
 joined_step out c s left right a b t e k = record {
   order = k.order;
   within = joined_within c s k.within;
   left_rises = rises_lower s.first c.first left k.left_rises.0 k.left_rises.2;
   right_rises = k.right_rises;
   below = λ size h g. let w = k.below size h g in (joined_last c s size w.0 w.1.0, w.1.1, w.2);
-  same = λ x. ap (λ t. spans_hold out x || (t || (spans_hold left x || spans_hold right x))) (in_joined c s x k.left_rises.0 (touches_true c s t) k.left_rises.1 k.within)
+  same = λ x. ap (λ t. spans_hold out x || (t || (spans_hold left x || spans_hold right x))) (in_joined c s x k.left_rises.0 (adjoins_true c s t) k.left_rises.1 k.within)
       ∙ (ap (λ t. spans_hold out x || t) (or_assoc (in_span c x) (in_span s x) (spans_hold left x || spans_hold right x)
       ∙ ap (λ t. in_span c x || t) (sym (or_assoc (in_span s x) (spans_hold left x) (spans_hold right x)))) ∙ k.same x);
 }
@@ -77,9 +68,9 @@ joined_step out c s left right a b t e k = record {
     rises_lower from low [] l h = tt
     rises_lower from low (r ∷ ss) l h = (omega arith, h.1, h.2)
 
-pushed_step : (out : List Span) (c s : Span) (left right a b : List Span) → touches c s ≡ false → BeginsFrom s.first right → Kept out c (s ∷ left) right a b → Kept (out ++ c ∷ []) s left right a b
+pushed_step : (out : List Span) (c s : Span) (left right a b : List Span) → adjoins c s ≡ false → BeginsFrom s.first right → Kept out c (s ∷ left) right a b → Kept (out ++ c ∷ []) s left right a b
 pushed_step out c s left right a b t e k = record {
-  order = AreApart-push 0 s.first out c k.order k.within (touches_false c s t);
+  order = AreApart-push 0 s.first out c k.order k.within (adjoins_false c s t);
   within = k.left_rises.1;
   left_rises = k.left_rises.2;
   right_rises = AreRising-from right c.first s.first k.right_rises e;
@@ -91,7 +82,7 @@ pushed_step out c s left right a b t e k = record {
 
 front_step : (out : List Span) (c s : Span) (left right a b : List Span) → BeginsFrom s.first right → Kept out c (s ∷ left) right a b → Kept (put_away out c s) (grown c s) left right a b
 front_step out c s left right a b e k =
-    elim (cases_Bool (touches c s)) [
+    elim (cases_Bool (adjoins c s)) [
       | inl is ↦ rw is (joined_step out c s left right a b is e k)
       | inr other ↦ rw other (pushed_step out c s left right a b other e k)
     ]
@@ -130,11 +121,6 @@ kept_first a b s left right h g (inr w) =
     let R : List Span → Type 0 = λ ss. Kept [] s ss right a (s ∷ right) in
     subst Q (sym w.front) (subst R (sym w.other) (other_lists _ _ _ _ _ _ (turned _ _ _ _ _ _ (first_kept s right a (subst P w.front g) h w.earliest))))
   where
-    or_swapped : (a b : Bool) → (a || b) ≡ (b || a)
-    or_swapped true true = refl
-    or_swapped true false = refl
-    or_swapped false b = sym (or_false b)
-
     other_lists : (out : List Span) (c : Span) (left right a b : List Span) → Kept out c left right b a → Kept out c left right a b
     other_lists out c left right a b k = record {
       order = k.order;
@@ -142,7 +128,7 @@ kept_first a b s left right h g (inr w) =
       left_rises = k.left_rises;
       right_rises = k.right_rises;
       below = λ size h e. k.below size e h;
-      same = λ x. k.same x ∙ or_swapped (spans_hold b x) (spans_hold a x);
+      same = λ x. k.same x ∙ or_comm (spans_hold b x) (spans_hold a x);
     }
 
 -- fewer spans are left
@@ -155,4 +141,4 @@ pub last_apart : (out : List Span) (c : Span) (a b : List Span) (size : ℕ) →
 last_apart out c a b size k h e = let below = k.below size h e in AreApart-push 0 (size + 1) out c k.order k.within (omega arith)
 
 pub last_same : (out : List Span) (c : Span) (a b : List Span) (x : ℕ) → Kept out c [] [] a b → spans_hold (out ++ c ∷ []) x ≡ (spans_hold a x || spans_hold b x)
-last_same out c a b x k = spans_hold-push out c x ∙ (ap (λ t. spans_hold out x || t) (sym (or_false (in_span c x))) ∙ k.same x)
+last_same out c a b x k = spans_hold-push out c x ∙ (ap (λ t. spans_hold out x || t) (sym (or-false (in_span c x))) ∙ k.same x)

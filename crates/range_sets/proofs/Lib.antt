@@ -2,10 +2,12 @@ pub mod CanonicalLemmas
 pub mod GapLemmas
 pub mod GreatestLemmas
 pub mod JoinLemmas
+pub mod MeetLemmas
 pub mod MultipleLemmas
 pub mod OrderLemmas
 pub mod ParentLemmas
 pub mod PrefixSpanLemmas
 pub mod SetLemmas
 pub mod SpanLemmas
+pub mod TouchLemmas
 pub mod WalkLemmas

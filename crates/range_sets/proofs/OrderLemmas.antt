@@ -1,10 +1,10 @@
 -- Lists of prefixes in order.
-use Rattle.std.proofs.Common.{◌≡◌, ℕ, ◌<◌, Bool, true, false, List, [], ◌∷◌, ◌++◌, IsTrue, arith, refl}
-use Rattle.std.specs.Bool.{beq}
+use Rattle.std.proofs.Common.{ℕ, ◌<◌, Bool, List, [], ◌∷◌, ◌++◌, IsTrue, arith, refl}
 use Rattle.std.specs.List.{AllByRecursion, AllPairs}
 use Rattle.std.proofs.lemmas.Bool.{lt-ltb}
 use Rattle.std.proofs.lemmas.List.Elements.{All-from_recursion}
 use Rattle.std.proofs.lemmas.List.Kept.{AllPairs-cons}
+use Rattle.tail_base.proofs.Bools.{beq-from}
 use Rattle.net_addr.specs.Bits.{Block}
 use Rattle.range_sets.specs.Canonical.{block_at, comes_before}
 
@@ -33,9 +33,5 @@ pub pairs_from_ordered : (ps : List Block) → AreOrdered ps → AllPairs IsBefo
 pairs_from_ordered [] h = λ i j d lt below. absurd (omega arith)
 pairs_from_ordered (p ∷ ps) h = AllPairs-cons IsBefore p ps (All-from_recursion (IsBefore p) ps h.0) (pairs_from_ordered ps h.1)
 
-pub same_bool : (a : Bool) → beq a a ≡ true
-same_bool true = refl
-same_bool false = refl
-
 pub before_by_base : (v6 : Bool) (m a n b : ℕ) → a < b → IsBefore (block_at v6 m a) (block_at v6 n b)
-before_by_base v6 m a n b lt = rw (same_bool v6, lt-ltb a b lt) refl
+before_by_base v6 m a n b lt = rw (beq-from v6 v6 refl, lt-ltb a b lt) refl

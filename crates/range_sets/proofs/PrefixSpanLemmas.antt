@@ -1,27 +1,23 @@
 -- The numbers of prefixes.
-use Rattle.std.proofs.Common.{◌≡◌, ℕ, ◌+◌, ◌^◌, ◌<◌, ◌≤◌, Bool, true, false, cond, ◌&&◌, ◌||◌, List, [], ◌∷◌, ◌++◌, length, get_or, take, arith, refl, subst, ap, sym, ◌∙◌, inl, inr}
+use Rattle.std.proofs.Common.{◌≡◌, ℕ, ◌+◌, ◌<◌, ◌≤◌, Bool, true, false, cond, ◌&&◌, ◌||◌, List, [], ◌∷◌, ◌++◌, length, get_or, take, arith, refl, subst, ap, sym, ◌∙◌, inl, inr}
 use Rattle.std.specs.Bool.{beq}
 use Rattle.std.specs.Prelude.{nat_le}
 use Rattle.std.specs.List.{All, AllByRecursion}
 use Rattle.std.proofs.lemmas.List.{take_more}
 use Rattle.std.proofs.lemmas.List.Elements.{All-append, All-from_recursion}
 use Rattle.std.specs.List.Sorted.{IsNonDecreasingBy}
+use Rattle.std.proofs.Math.Bool.{and_assoc}
 use Rattle.std.proofs.lemmas.Bool.{cases_Bool}
 use Rattle.std.proofs.lemmas.List.Sorted.{IsNonDecreasingBy-drop}
 use Rattle.std.proofs.lemmas.Nat.{pow_pos}
+use Rattle.tail_base.proofs.Bools.{beq-true}
 use Rattle.net_addr.specs.Bits.{Address, Block, IsBlock, family_size, size_of}
 use Rattle.net_addr.specs.Blocks.{holds, last_of}
-use Rattle.net_addr.proofs.BlockLemmas.{family_top, prefix_fits}
+use Rattle.net_addr.proofs.BlockLemmas.{prefix_fits}
 use Rattle.range_sets.specs.declared.span.Span.{Span}
 use Rattle.range_sets.specs.Joins.{BeginsFrom}
 use Rattle.range_sets.specs.Sets.{family_spans, some_holds, span_of}
 use Rattle.range_sets.specs.Spans.{AreBelow, AreRising, in_span, spans_hold}
-
--- the highest address of a prefix fits a number
-pub last_fits : (p : Block) → IsBlock p → last_of p < 2 ^ 128
-last_fits p b =
-    let fits = prefix_fits p b in let top = family_top p.base.v6 in let pos : 0 < size_of p = pow_pos _ in
-    omega arith
 
 -- a span that isn't empty and ends below the size
 abbrev pub IsSound : ℕ → Span → Type 0
@@ -49,10 +45,6 @@ one_more : (t r u v : Bool) → (t && u) ≡ v → (cond t (u || r) r) ≡ (v ||
 one_more true r u v e = ap (λ w. w || r) e
 one_more false r u v e = ap (λ w. w || r) e
 
-and_assoc : (a b c : Bool) → (a && (b && c)) ≡ ((a && b) && c)
-and_assoc true b c = refl
-and_assoc false b c = refl
-
 cond_span : (t : Bool) (s : Span) (ss : List Span) (x : ℕ) → spans_hold (cond t (s ∷ ss) ss) x ≡ cond t (in_span s x || spans_hold ss x) (spans_hold ss x)
 cond_span true s ss x = refl
 cond_span false s ss x = refl
@@ -62,7 +54,7 @@ family_spans_hold v6 [] addr e = refl
 family_spans_hold v6 (p ∷ ps) addr e =
     cond_span (beq p.base.v6 v6) (span_of p) (family_spans v6 ps) addr.bits
     ∙ (one_more (beq p.base.v6 v6) (spans_hold (family_spans v6 ps) addr.bits) (in_span (span_of p) addr.bits) (holds p addr)
-    (ap (λ t. t && in_span (span_of p) addr.bits) (sym (beq_same addr.v6 v6 p.base.v6 e)) ∙ and_assoc (beq p.base.v6 addr.v6) (nat_le p.base.bits addr.bits) (nat_le addr.bits (last_of p)))
+    (ap (λ t. t && in_span (span_of p) addr.bits) (sym (beq_same addr.v6 v6 p.base.v6 e)) ∙ sym (and_assoc (beq p.base.v6 addr.v6) (nat_le p.base.bits addr.bits) (nat_le addr.bits (last_of p))))
     ∙ ap (λ t. holds p addr || t) (family_spans_hold v6 ps addr e))
 
 -- ---- spans by their first numbers
@@ -90,16 +82,10 @@ family_more v6 ps i out new p lt is told put =
     ∙ (ap (λ q. family_spans v6 (take i ps ++ q ∷ [])) is
     ∙ sym (ap (λ qs. family_spans v6 qs) (take_more ps i p lt)))))
 
-same_family : (a b : Bool) → beq a b ≡ true → a ≡ b
-same_family true true h = refl
-same_family false false h = refl
-same_family true false h = absurd (cc)
-same_family false true h = absurd (cc)
-
 one_sound_at : (v6 : Bool) (p : Block) (t : Bool) → beq p.base.v6 v6 ≡ t → IsBlock p → AllByRecursion (IsSound (family_size v6)) (cond t (span_of p ∷ []) [])
 one_sound_at v6 p true e b =
     let P : Bool → Type 0 = λ f. IsSound (family_size f) (span_of p) in
-    (subst P (same_family p.base.v6 v6 e) (span_sound p b), tt)
+    (subst P (beq-true p.base.v6 v6 e) (span_sound p b), tt)
 one_sound_at v6 p false e b = tt
 
 pub sound_more : (v6 : Bool) (out new : List Span) (p : Block) → IsBlock p → new ≡ out ++ family_spans v6 (p ∷ []) → All (IsSound (family_size v6)) out → All (IsSound (family_size v6)) new

@@ -1,16 +1,9 @@
--- Spans that neither overlap nor touch.
-use Rattle.std.proofs.Common.{◌≡◌, ℕ, ◌+◌, ◌<◌, ◌≤◌, Bool, true, false, ◌||◌, List, [], ◌∷◌, ◌++◌, arith, refl, ap, sym, ◌∙◌}
+-- Spans that neither overlap nor adjoin.
+use Rattle.std.proofs.Common.{◌≡◌, ℕ, ◌+◌, ◌<◌, ◌≤◌, true, false, ◌||◌, List, [], ◌∷◌, ◌++◌, arith, refl, ap, sym, ◌∙◌}
+use Rattle.std.proofs.Math.Bool.{or-false, or_assoc}
 use Rattle.std.proofs.lemmas.Bool.Decides.{nat_tests}
 use Rattle.range_sets.specs.declared.span.Span.{Span}
 use Rattle.range_sets.specs.Spans.{AreApart, AreBelow, AreRising, in_span, spans_hold}
-
-pub or_false : (a : Bool) → (a || false) ≡ a
-or_false true = refl
-or_false false = refl
-
-pub or_assoc : (a b c : Bool) → ((a || b) || c) ≡ (a || (b || c))
-or_assoc true b c = refl
-or_assoc false b c = refl
 
 -- ---- order
 
@@ -53,7 +46,7 @@ from_size highest ss h = AreApart-higher 0 (highest + 1 + 1) (highest + 2) ss h 
 -- ---- numbers
 
 pub spans_hold-push : (ss : List Span) (s : Span) (x : ℕ) → spans_hold (ss ++ s ∷ []) x ≡ (spans_hold ss x || in_span s x)
-spans_hold-push [] s x = or_false (in_span s x)
+spans_hold-push [] s x = or-false (in_span s x)
 spans_hold-push (t ∷ ss) s x = ap (λ b. in_span t x || b) (spans_hold-push ss s x) ∙ sym (or_assoc (in_span t x) (spans_hold ss x) (in_span s x))
 
 pub in_span-below : (s : Span) (x : ℕ) → x < s.first → in_span s x ≡ false

@@ -6,7 +6,7 @@ use Rattle.std.proofs.lemmas.Nat.{pow_pos}
 use Rattle.range_sets.specs.declared.span.Span.{Span}
 use Rattle.range_sets.specs.Canonical.{block_at, greatest_in}
 use Rattle.range_sets.specs.Spans.{AreApart, spans_hold}
-use Rattle.range_sets.specs.Walks.{EndsFrom, covers, ending_from}
+use Rattle.range_sets.specs.Walks.{EndsFrom, has_all, ending_from}
 use Rattle.range_sets.proofs.GreatestLemmas.{greatest_none, greatest_same, greatest_split, greatest_whole}
 use Rattle.range_sets.proofs.MultipleLemmas.{mod_of_multiple, multiple_add, multiple_from_mod, multiple_lower}
 use Rattle.range_sets.proofs.SpanLemmas.{AreApart-lower, in_span-above, in_span-within, spans_hold-below}
@@ -86,23 +86,23 @@ split_apart v6 spans s ss low high n base middle is at h e out pos =
     let R : ℕ → Type 0 = λ m. greatest_in v6 (spans_hold (s ∷ ss)) n base ≡ greatest_in v6 (spans_hold (s ∷ ss)) (n - 1) base ++ greatest_in v6 (spans_hold (ending_from m (s ∷ ss))) (n - 1) m in
     rw is (subst R (sym at) (split_apart_at v6 s ss low high n base (subst P is h) (subst Q is e) out pos))
 
-pub not_covered : (s : Span) (n base last : ℕ) → last ≡ base + (2 ^ n - 1) → covers s base last ≡ false → s.first ≤ base → base + 2 ^ n ≤ s.last + 1 → ⊥
-not_covered s n base last at e f g =
+pub not_all : (s : Span) (n base last : ℕ) → last ≡ base + (2 ^ n - 1) → has_all s base last ≡ false → s.first ≤ base → base + 2 ^ n ≤ s.last + 1 → ⊥
+not_all s n base last at e f g =
     let pos : zero < 2 ^ n = pow_pos n in
-    both_ways (covers s base last) e (and_from _ _ (le-leb s.first base f) (le-leb last s.last (omega arith)))
+    both_ways (has_all s base last) e (and_from _ _ (le-leb s.first base f) (le-leb last s.last (omega arith)))
 
-pub covers_ends : (s : Span) (n base last : ℕ) → last ≡ base + (2 ^ n - 1) → covers s base last ≡ true → (s.first ≤ base) × (base + 2 ^ n ≤ s.last + 1)
-covers_ends s n base last at e =
+pub has_all-ends : (s : Span) (n base last : ℕ) → last ≡ base + (2 ^ n - 1) → has_all s base last ≡ true → (s.first ≤ base) × (base + 2 ^ n ≤ s.last + 1)
+has_all-ends s n base last at e =
     let parts = and_parts (leb s.first base) (leb last s.last) e in
     let low = leb-true s.first base parts.0 in let high = leb-true last s.last parts.1 in
     (low, omega arith)
 
 -- a block of one number that a span reaches and doesn't begin behind is inside
-pub not_one : (spans : List Span) (s : Span) (ss : List Span) (n base last : ℕ) → spans ≡ s ∷ ss → EndsFrom base spans → last ≡ base + (2 ^ n - 1) → s.first ≤ last → covers s base last ≡ false → 0 < n
+pub not_one : (spans : List Span) (s : Span) (ss : List Span) (n base last : ℕ) → spans ≡ s ∷ ss → EndsFrom base spans → last ≡ base + (2 ^ n - 1) → s.first ≤ last → has_all s base last ≡ false → 0 < n
 not_one spans s ss zero base last is e at f out =
     let Q : List Span → Type 0 = λ ts. EndsFrom base ts in
     let reaches : base ≤ s.last = subst Q is e in
-    absurd (not_covered s 0 base last at out (omega arith) (omega arith))
+    absurd (not_all s 0 base last at out (omega arith) (omega arith))
 not_one spans s ss (suc n) base last is e at f out = omega arith
 
 -- the halves of a block are aligned

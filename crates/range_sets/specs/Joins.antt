@@ -1,10 +1,10 @@
--- Spans that are joined where they touch.
+-- Spans that are joined if they adjoin.
 use Rattle.std.specs.Prelude.{◌≡◌, ℕ, ◌+◌, ◌≤◌, ◌⊎◌, Bool, List, [], ◌∷◌, ◌++◌, nat_le, max, if◌then◌else◌}
 use Rattle.range_sets.specs.declared.span.Span.{Span}
 
 -- no number lies between the first span and the second, which begins no earlier
-abbrev pub touches : Span → Span → Bool
-touches a b = nat_le b.first (a.last + 1)
+abbrev pub adjoins : Span → Span → Bool
+adjoins a b = nat_le b.first (a.last + 1)
 
 -- from the first number of the first span to the greater last
 abbrev pub joined : Span → Span → Span
@@ -25,10 +25,10 @@ pub record TakesFront (a b : List Span) (s : Span) (a_rest b_rest : List Span) :
 abbrev pub TakesEarliest : List Span → List Span → Span → List Span → List Span → Type 0
 TakesEarliest a b s a_rest b_rest = TakesFront a b s a_rest b_rest ⊎ TakesFront b a s b_rest a_rest
 
--- a span that may still grow is put away where the next one doesn't touch it
+-- a span that may still grow is put away if the next one doesn't adjoin it
 abbrev pub put_away : List Span → Span → Span → List Span
-put_away out current next = if touches current next then out else out ++ current ∷ []
+put_away out current next = if adjoins current next then out else out ++ current ∷ []
 
 -- the span that may still grow from then on
 abbrev pub grown : Span → Span → Span
-grown current next = if touches current next then joined current next else next
+grown current next = if adjoins current next then joined current next else next

@@ -1,5 +1,5 @@
 -- Sets of addresses.
-use Rattle.std.specs.Prelude.{◌≡◌, ◌+◌, ◌<◌, ◌^◌, Bool, false, List, [], ◌∷◌, if◌then◌else◌}
+use Rattle.std.specs.Prelude.{◌≡◌, ◌+◌, ◌<◌, ◌^◌, Bool, true, false, List, [], ◌∷◌, if◌then◌else◌}
 use Rattle.std.specs.Bool.{beq}
 use Rattle.std.specs.List.{list_any}
 use Rattle.net_addr.specs.Bits.{Address, Block, family_size}
@@ -12,7 +12,7 @@ pub record Ranges : Type 0 where
   pub v4 : List Span
   pub v6 : List Span
 
--- the spans of a family are in order, neither overlap nor touch, and end within the family
+-- the spans of a family are in order, neither overlap nor adjoin, and end within the family
 pub record AreRanges (s : Ranges) : Type 0 where
   pub v4_apart : AreApart 0 s.v4 (2 ^ 32 + 1)
   pub v6_apart : AreApart 0 s.v6 (2 ^ 128 + 1)
@@ -24,6 +24,10 @@ has s addr = spans_hold (if addr.v6 then s.v6 else s.v4) addr.bits
 -- no address is in the set
 abbrev pub IsEmpty : Ranges → Type 0
 IsEmpty s = (addr : Address) → addr.bits < family_size addr.v6 → has s addr ≡ false
+
+-- some address is in both sets
+abbrev pub ShareAddress : Ranges → Ranges → Type 0
+ShareAddress s t = (addr : Address) × (addr.bits < family_size addr.v6) × (has s addr ≡ true) × (has t addr ≡ true)
 
 -- some prefix of the list holds the address
 abbrev pub some_holds : List Block → Address → Bool

@@ -12,7 +12,7 @@ abbrev pub spans_hold : List Span → ℕ → Bool
 spans_hold ss x = list_any (λ s. in_span s x) ss
 
 -- the spans go from low on, none is empty, and between two of them, and before high, lies a number
--- that none has: so they ascend, and neither overlap nor touch
+-- that none has: so they ascend, and neither overlap nor adjoin
 abbrev pub AreApart : ℕ → List Span → ℕ → Type 0
 AreApart low [] high = low ≤ high
 AreApart low (s ∷ ss) high = (low ≤ s.first) × (s.first ≤ s.last) × AreApart (s.last + 2) ss high

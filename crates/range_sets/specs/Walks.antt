@@ -1,4 +1,4 @@
--- The spans that are looked at from a number on, and what they cover.
+-- The spans that are looked at from a number on, and what they have.
 use Rattle.std.specs.Prelude.{ℕ, ◌≤◌, ◌&&◌, Bool, nat_le, List, [], ◌∷◌, nat_lt, if◌then◌else◌}
 use Rattle.range_sets.specs.declared.span.Span.{Span}
 
@@ -13,5 +13,5 @@ EndsFrom least [] = Unit {0}
 EndsFrom least (s ∷ ss) = least ≤ s.last
 
 -- the span has each number from the first to the last
-abbrev pub covers : Span → ℕ → ℕ → Bool
-covers s first last = nat_le s.first first && nat_le last s.last
+abbrev pub has_all : Span → ℕ → ℕ → Bool
+has_all s first last = nat_le s.first first && nat_le last s.last

@@ -26,7 +26,8 @@ fn add_gap(out: &mut Vec<Span>, from: u128, to: u128) -> Result<(), NoMemory>
 pub(crate) fn gaps(alloc: Global, spans: &[Span], highest: u128) -> Result<Vec<Span>, NoMemory>
     requires apart { AreApart 0 spans.now (highest + 2) }
     ensures apart { IfOk result (λ v. AreApart 0 v.items (highest + 2)) }
-    ensures same { IfOk result (λ v. (x : ℕ) → x ≤ highest → spans_hold v.items x ≡ not (spans_hold spans.now x)) }
+    ensures same { IfOk result (λ v. (x : ℕ) → x ≤ highest
+        → spans_hold v.items x ≡ not (spans_hold spans.now x)) }
 {
     let mut out = Vec::new(alloc);
     let mut next = 0;
@@ -54,7 +55,8 @@ pub(crate) fn shared(
     requires left { AreApart 0 a.now (highest + 2) }
     requires right { AreApart 0 b.now (highest + 2) }
     ensures apart { IfOk result (λ v. AreApart 0 v.items (highest + 2)) }
-    ensures same { IfOk result (λ v. (x : ℕ) → spans_hold v.items x ≡ (spans_hold a.now x && spans_hold b.now x)) }
+    ensures same { IfOk result (λ v. (x : ℕ)
+        → spans_hold v.items x ≡ (spans_hold a.now x && spans_hold b.now x)) }
 {
     let outside_a = gaps(alloc, a, highest)?;
     let outside_b = gaps(alloc, b, highest)?;
@@ -72,7 +74,8 @@ pub(crate) fn without(
     requires left { AreApart 0 a.now (highest + 2) }
     requires right { AreApart 0 b.now (highest + 2) }
     ensures apart { IfOk result (λ v. AreApart 0 v.items (highest + 2)) }
-    ensures same { IfOk result (λ v. (x : ℕ) → spans_hold v.items x ≡ (spans_hold a.now x && not (spans_hold b.now x))) }
+    ensures same { IfOk result (λ v. (x : ℕ)
+        → spans_hold v.items x ≡ (spans_hold a.now x && not (spans_hold b.now x))) }
 {
     let outside_a = gaps(alloc, a, highest)?;
     let outside = united(alloc, &outside_a, b)?;

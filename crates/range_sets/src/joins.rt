@@ -1,4 +1,4 @@
-//! Spans of two lists as one list of spans that neither overlap nor touch.
+//! Spans of two lists as one list of spans that neither overlap nor adjoin.
 ghost use Rattle.std.specs.Prelude.{◌≡◌, ◌+◌, ◌||◌, ◌++◌, ℕ, [], MatchOption, IfOk};
 ghost use Rattle.std.specs.List.{All};
 ghost use Rattle.range_sets.specs.Joins.{BeginsFrom, TakesEarliest, grown, put_away};
@@ -10,7 +10,8 @@ use tail_base::NoMemory;
 
 /// The span that begins first, and what is left of each list.
 fn earliest<'a>(a: &'a [Span], b: &'a [Span]) -> Option<(Span, &'a [Span], &'a [Span])>
-    ensures taken { MatchOption result ((a.now ≡ []) × (b.now ≡ [])) (λ t. TakesEarliest a.now b.now t.0 t.1.now t.2.now) }
+    ensures taken { MatchOption result ((a.now ≡ []) × (b.now ≡ []))
+        (λ t. TakesEarliest a.now b.now t.0 t.1.now t.2.now) }
 {
     let Some((x, xs)) = a.split_first() else {
         let (y, ys) = b.split_first()?;
@@ -26,12 +27,12 @@ fn earliest<'a>(a: &'a [Span], b: &'a [Span]) -> Option<(Span, &'a [Span], &'a [
     }
 }
 
-/// Puts away a span that the next one doesn't touch. The span that may still grow from then on.
+/// Puts away a span that the next one doesn't adjoin. The span that may still grow from then on.
 fn grown(out: &mut Vec<Span>, current: Span, next: Span) -> Result<Span, NoMemory>
     ensures put { IfOk result (λ _. out.new.items ≡ put_away out.old.items current next) }
     ensures value { IfOk result (λ r. r ≡ grown current next) }
 {
-    if current.touches(&next) {
+    if current.adjoins(&next) {
         return Ok(current.joined(&next));
     }
     out.push(current)?;
@@ -39,12 +40,14 @@ fn grown(out: &mut Vec<Span>, current: Span, next: Span) -> Result<Span, NoMemor
 }
 
 /// The numbers of both lists, whose spans rise by their first numbers, as spans that neither overlap
-/// nor touch.
+/// nor adjoin.
 pub(crate) fn united(alloc: Global, a: &[Span], b: &[Span]) -> Result<Vec<Span>, NoMemory>
     requires left { AreRising 0 a.now }
     requires right { AreRising 0 b.now }
-    ensures apart { IfOk result (λ v. (size : ℕ) → AreBelow size a.now → AreBelow size b.now → AreApart 0 v.items (size + 1)) }
-    ensures same { IfOk result (λ v. (x : ℕ) → spans_hold v.items x ≡ (spans_hold a.now x || spans_hold b.now x)) }
+    ensures apart { IfOk result (λ v. (size : ℕ)
+        → AreBelow size a.now → AreBelow size b.now → AreApart 0 v.items (size + 1)) }
+    ensures same { IfOk result (λ v. (x : ℕ)
+        → spans_hold v.items x ≡ (spans_hold a.now x || spans_hold b.now x)) }
 {
     let mut out = Vec::new(alloc);
     let Some((mut current, mut left, mut right)) = earliest(a, b) else {

@@ -4,7 +4,7 @@
 mod gaps;
 mod joins;
 mod laws;
-mod numbers;
+mod meeting;
 mod prefix_spans;
 mod range_set;
 mod span;

@@ -1,11 +1,13 @@
 //! Sets of addresses.
 ghost use Rattle.std.specs.Prelude.{◌≡◌, ◌<◌, ◌&&◌, ◌||◌, ◌↔◌, IsTrue, IfOk, not, true, false};
 ghost use Rattle.net_addr.specs.Bits.{Address, family_size};
+ghost use Rattle.net_addr.specs.Searches.{some_address};
 ghost use Rattle.range_sets.specs.Canonical.{IsCanonical, canonical};
-ghost use Rattle.range_sets.specs.Sets.{IsEmpty, Ranges, has, some_holds};
+ghost use Rattle.range_sets.specs.Sets.{IsEmpty, Ranges, ShareAddress, has, some_holds};
 
 use crate::gaps::{shared, without};
 use crate::joins::united;
+use crate::meeting::share_number;
 use crate::prefix_spans::prefix_spans;
 use crate::span::Span;
 use crate::walk::add_greatest;
@@ -47,7 +49,8 @@ impl RangeSet {
 
     /// The set of all addresses of both families.
     pub fn everything(alloc: Global) -> Result<RangeSet, NoMemory>
-        ensures held { IfOk result (λ s. (addr : Address) → addr.bits < family_size addr.v6 → has s addr ≡ true) }
+        ensures held { IfOk result (λ s. (addr : Address)
+            → addr.bits < family_size addr.v6 → has s addr ≡ true) }
     {
         let all_v4 = Span {
             first: 0,
@@ -75,7 +78,8 @@ impl RangeSet {
 
     /// The addresses of both sets together.
     pub fn union(&self, alloc: Global, other: &RangeSet) -> Result<RangeSet, NoMemory>
-        ensures held { IfOk result (λ s. (addr : Address) → has s addr ≡ (has self.now addr || has other.now addr)) }
+        ensures held { IfOk result (λ s. (addr : Address)
+            → has s addr ≡ (has self.now addr || has other.now addr)) }
     {
         Ok(RangeSet {
             v4: united(alloc, &self.v4, &other.v4)?,
@@ -85,7 +89,8 @@ impl RangeSet {
 
     /// The addresses that both sets have.
     pub fn meet(&self, alloc: Global, other: &RangeSet) -> Result<RangeSet, NoMemory>
-        ensures held { IfOk result (λ s. (addr : Address) → has s addr ≡ (has self.now addr && has other.now addr)) }
+        ensures held { IfOk result (λ s. (addr : Address)
+            → has s addr ≡ (has self.now addr && has other.now addr)) }
     {
         Ok(RangeSet {
             v4: shared(alloc, &self.v4, &other.v4, HIGHEST_V4)?,
@@ -95,7 +100,8 @@ impl RangeSet {
 
     /// The addresses of this set that the other doesn't have.
     pub fn minus(&self, alloc: Global, other: &RangeSet) -> Result<RangeSet, NoMemory>
-        ensures held { IfOk result (λ s. (addr : Address) → has s addr ≡ (has self.now addr && not (has other.now addr))) }
+        ensures held { IfOk result (λ s. (addr : Address)
+            → has s addr ≡ (has self.now addr && not (has other.now addr))) }
     {
         Ok(RangeSet {
             v4: without(alloc, &self.v4, &other.v4, HIGHEST_V4)?,
@@ -110,6 +116,14 @@ impl RangeSet {
         let spans = if addr.is_v6() { &self.v6 } else { &self.v4 };
         let number = addr.bits();
         spans.iter().any(|span| span.holds(number))
+    }
+
+    /// Whether some address is in both sets. It takes no memory.
+    pub fn touches(&self, other: &RangeSet) -> bool
+        ensures value { result ≡ some_address (λ addr. has self.now addr && has other.now addr) }
+        ensures meaning { IsTrue result ↔ ShareAddress self.now other.now }
+    {
+        share_number(&self.v4, &other.v4) || share_number(&self.v6, &other.v6)
     }
 
     /// Whether the set has no address.

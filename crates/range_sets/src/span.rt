@@ -1,8 +1,9 @@
 //! Spans of numbers.
 ghost use Rattle.std.specs.Prelude.{◌≡◌};
-ghost use Rattle.range_sets.specs.Joins.{joined, touches};
+ghost use Rattle.range_sets.specs.Joins.{joined, adjoins};
+ghost use Rattle.range_sets.specs.Meets.{meets};
 ghost use Rattle.range_sets.specs.Spans.{in_span};
-ghost use Rattle.range_sets.specs.Walks.{covers};
+ghost use Rattle.range_sets.specs.Walks.{has_all};
 
 /// The numbers from the first to the last, both included.
 #[derive(Clone, Copy, Debug, PartialEq, Eq, Drop)]
@@ -20,17 +21,24 @@ impl Span {
     }
 
     /// Whether the span has each number from the first to the last.
-    pub(crate) fn covers(&self, first: u128, last: u128) -> bool
-        ensures value { result ≡ covers self.now first last }
+    pub(crate) fn has_all(&self, first: u128, last: u128) -> bool
+        ensures value { result ≡ has_all self.now first last }
     {
         self.first <= first && last <= self.last
     }
 
     /// Whether no number lies between this span and one that begins no earlier.
-    pub(crate) fn touches(&self, next: &Span) -> bool
-        ensures value { result ≡ touches self.now next.now }
+    pub(crate) fn adjoins(&self, next: &Span) -> bool
+        ensures value { result ≡ adjoins self.now next.now }
     {
         next.first == 0 || next.first - 1 <= self.last
+    }
+
+    /// Whether some number is in both spans.
+    pub(crate) fn meets(&self, other: &Span) -> bool
+        ensures value { result ≡ meets self.now other.now }
+    {
+        self.first <= other.last && other.first <= self.last
     }
 
     /// From this span's first number to the greater last.

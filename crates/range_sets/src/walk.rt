@@ -5,9 +5,8 @@ ghost use Rattle.range_sets.specs.Canonical.{block_at, greatest_in};
 ghost use Rattle.range_sets.specs.Spans.{AreApart, spans_hold};
 ghost use Rattle.range_sets.specs.Walks.{EndsFrom, ending_from};
 
-use crate::numbers::ones;
 use crate::span::Span;
-use net_addr::{Addr, Prefix};
+use net_addr::{Addr, Prefix, ones};
 use tail_base::{Items, NoMemory};
 
 /// The prefix of the `2 ^ bits` numbers from the base on.
@@ -49,7 +48,8 @@ pub(crate) fn add_greatest(
     requires aligned { base % 2 ^ bits ≡ 0 }
     requires apart { AreApart 0 spans.now (2 ^ 128 + 1) }
     requires ends { EndsFrom base spans.now }
-    ensures value { OnOk result (out.new ≡ out.old ++ greatest_in v6 (spans_hold spans.now) bits base) }
+    ensures value { OnOk result
+        (out.new ≡ out.old ++ greatest_in v6 (spans_hold spans.now) bits base) }
 {
     let last = base + ones(bits);
     let Some((head, _)) = spans.split_first() else {
@@ -58,7 +58,7 @@ pub(crate) fn add_greatest(
     if last < head.first {
         return Ok(());
     }
-    if head.covers(base, last) {
+    if head.has_all(base, last) {
         return out.push(block_at(v6, bits, base));
     }
     let half = bits - 1;

@@ -5,13 +5,18 @@ use Rattle.allot.proofs.AddressLemmas.{free_at, free_bits, is_address_at, free_a
 use Rattle.allot.proofs.SearchLemmas.{LeadsOn-found, LeadsOn-next, LeadsOn-end}
 use Rattle.allot.proofs.addresses.least_free.Goals as goal
 
+pub new-addr-requires : goal.new-addr-requires
+new-addr-requires c =
+    let family : c.is_v6-v6.result ≡ c.args.prefix.now.base.v6 = c.is_v6-v6.ensures.value ∙ ap (λ (a : Address). a.v6) c.base.ensures.value in
+    record { in_family = rw family (omega arith) }
+
 pub returns-then-is_free : goal.returns-then-is_free
 returns-then-is_free c =
     let p = c.args.prefix.now in
     let machines = c.args.machines.now in
     let is = is_address_at p c.base.result c.new-addr.result c.is_v6-v6.result c.loop-bits.bits c.base.ensures.value c.is_v6-v6.ensures.value c.new-addr.ensures.value in
     let passes = free_at-is p machines c.new-addr.result c.loop-bits.bits _ _ is c.is_free.ensures.value c.if-is_free.true in
-    let lt : c.loop-bits.bits < p.base.bits + size_of p = omega (arith, c.last_of-bits-end.ensures.value) in
+    let lt : c.loop-bits.bits < p.base.bits + size_of p = omega (arith, c.last-bits-end.ensures.value) in
     record { value = free_address-found p machines c.new-addr.result c.loop-bits.bits is (LeadsOn-found (free_at p machines) _ _ _ c.loop-bits.invariant lt passes) }
 
 pub loop-bits-preserved : goal.loop-bits-preserved
@@ -20,7 +25,7 @@ loop-bits-preserved c =
     let machines = c.args.machines.now in
     let is = is_address_at p c.base.result c.new-addr.result c.is_v6-v6.result c.loop-bits.bits c.base.ensures.value c.is_v6-v6.ensures.value c.new-addr.ensures.value in
     let fails = free_at-is p machines c.new-addr.result c.loop-bits.bits _ _ is c.is_free.ensures.value c.if-is_free.false in
-    let lt : c.loop-bits.bits < p.base.bits + size_of p = omega (arith, c.last_of-bits-end.ensures.value) in
+    let lt : c.loop-bits.bits < p.base.bits + size_of p = omega (arith, c.last-bits-end.ensures.value) in
     LeadsOn-next (free_at p machines) _ _ (free_bits p machines) c.loop-bits.invariant lt fails
 
 pub returns : goal.returns
@@ -29,8 +34,8 @@ returns c =
     let machines = c.args.machines.now in
     let some : 0 < size_of p = pow_pos _ in
     let first : c.bits-bits.result ≡ p.base.bits = c.bits-bits.ensures.value ∙ ap (λ (a : Address). a.bits) c.base-2.ensures.value in
-    let order : c.bits-bits.result ≤ c.last_of-bits-end.result = omega (arith, c.last_of-bits-end.ensures.value) in
-    let last : c.loop-bits.bits + 1 ≡ p.base.bits + size_of p = omega (arith, c.last_of-bits-end.ensures.value, c.loop-bits.auto.bits-end order) in
+    let order : c.bits-bits.result ≤ c.last-bits-end.result = omega (arith, c.last-bits-end.ensures.value) in
+    let last : c.loop-bits.bits + 1 ≡ p.base.bits + size_of p = omega (arith, c.last-bits-end.ensures.value, c.loop-bits.auto.bits-end order) in
     let next = LeadsOn-next (free_at p machines) _ _ (free_bits p machines) c.loop-bits.invariant (omega arith) (last_not_free p machines c.loop-bits.bits last) in
     let none = LeadsOn-end (free_at p machines) _ (free_bits p machines) (rw last at next) in
     record { value = free_address-none p machines none }

@@ -6,7 +6,7 @@ use Rattle.net_addr.specs.Bits.{Address, family_size}
 use Rattle.range_sets.specs.Sets.{some_holds}
 use Rattle.range_sets.specs.Spans.{AreApart, AreBelow, in_span, spans_hold}
 use Rattle.range_sets.proofs.PrefixSpanLemmas.{IsSound, begins_from_zero, below_from_sound, family_spans_hold, rising_from_sorted}
-use Rattle.range_sets.proofs.SpanLemmas.{or_false}
+use Rattle.std.proofs.Math.Bool.{or-false}
 use Rattle.range_sets.proofs.prefix_spans.prefix_spans.Goals as goal
 
 pub united-requires-clause-left : goal.united-requires-clause-left
@@ -24,7 +24,7 @@ returns-clause-apart c =
 pub returns-clause-same : goal.returns-clause-same
 returns-clause-same c =
     IfOk-weaker c.united.result (λ v. (x : ℕ) → spans_hold v.items x ≡ (spans_hold c.deref.result.now x || false)) (λ v. (addr : Address) → addr.v6 ≡ c.args.v6 → spans_hold v.items addr.bits ≡ some_holds c.args.list.now addr)
-    (λ v h addr e. h addr.bits ∙ (or_false _ ∙ (ap (λ ss. spans_hold ss addr.bits) c.deref.ensures.value
+    (λ v h addr e. h addr.bits ∙ (or-false _ ∙ (ap (λ ss. spans_hold ss addr.bits) c.deref.ensures.value
     ∙ (sym (list_any-IsPermutation (λ s. in_span s addr.bits) _ _ c.in_ok-sort_by_key.ensures.permutation)
     ∙ (ap (λ ss. spans_hold ss addr.bits) c.in_ok-spans.ensures.value ∙ family_spans_hold c.args.v6 c.args.list.now addr e)))))
     c.united.ensures.same
