@@ -3,8 +3,10 @@ use Rattle.std.specs.Prelude.{ℕ, ◌&&◌, Bool, not, List, [], ◌∷◌, ◌
 use Rattle.std.specs.List.{list_any}
 use Rattle.std.specs.Str.{str_eq_ignore_ascii_case}
 use Rattle.serde_json.specs.Data.{Data, Members, no_members, member}
+use Rattle.tail_base.specs.Steps.{◌>>=◌, refuse_unless}
 use Rattle.policy_rows.specs.declared.code.PolicyCode.TheVariants as code
-use Rattle.policy_rows.specs.Faults.{Fault, ◌>>=◌, check, under}
+use Rattle.policy_rows.specs.declared.fault.PolicyFault.{PolicyFault}
+use Rattle.policy_rows.specs.Faults.{fault_at, under}
 
 -- the newer name of a key: in rules, `src` and `dst` were `users` and `ports` in older files
 abbrev pub newer : List ℕ → List ℕ
@@ -14,15 +16,15 @@ newer key =
     else key
 
 -- the key is one of the names
-abbrev pub is_named : List ℕ → List (List ℕ) → Bool
-is_named key names = list_any (λ name. str_eq_ignore_ascii_case name key) names
+abbrev pub is_one_of : List ℕ → List (List ℕ) → Bool
+is_one_of key names = list_any (λ name. str_eq_ignore_ascii_case name key) names
 
 -- each key is supported, is known, and is none that was walked before
-abbrev pub keys_of : List ℕ → (known unsupported seen : List (List ℕ)) → Members → Result (Unit {0}) Fault
+abbrev pub keys_of : List ℕ → (known unsupported seen : List (List ℕ)) → Members → Result (Unit {0}) PolicyFault
 keys_of place known unsupported seen no_members = Ok tt
 keys_of place known unsupported seen (member key d ms) = do
-  _ ← check (not (is_named key unsupported)) code.Unsupported (under place key)
-  _ ← check (is_named key known && not (is_named (newer key) seen)) code.UnknownKey (under place key)
+  _ ← refuse_unless (not (is_one_of key unsupported)) (fault_at code.Unsupported (under place key))
+  _ ← refuse_unless (is_one_of key known && not (is_one_of (newer key) seen)) (fault_at code.UnknownKey (under place key))
   keys_of place known unsupported (seen ++ newer key ∷ []) ms
 
 -- the value of a key

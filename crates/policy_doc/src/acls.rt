@@ -2,8 +2,8 @@
 ghost use Rattle.std.specs.Prelude.{◌≡◌, true, false};
 ghost use Rattle.std.specs.Option.{option_copied, option_map};
 ghost use Rattle.serde_json.specs.View.{view};
-ghost use Rattle.policy_rows.specs.Faults.{Gives};
-ghost use Rattle.policy_doc.specs.Entries.{list_limit};
+ghost use Rattle.tail_base.specs.Steps.{Gives};
+ghost use Rattle.policy_doc.specs.declared.limits.TheConstants.{LIST_LIMIT};
 ghost use Rattle.policy_doc.specs.Rules.{action_at, dest_text, list_due, rule_at, source_text};
 ghost use Rattle.policy_doc.specs.Walks.{list_of};
 
@@ -17,7 +17,7 @@ use policy_rows::{
 };
 use serde_json::Value;
 use std::alloc::Global;
-use tail_base::Items;
+use tail_base::{Failure, Items};
 
 /// A source of a rule.
 struct SourceText;
@@ -33,7 +33,7 @@ impl ReadElement for SourceText {
         names: &Names,
         place: &str,
         value: &Value,
-    ) -> Result<Selector, PolicyFault> {
+    ) -> Result<Selector, Failure<PolicyFault>> {
         let Some(text) = value.as_str() else {
             return refused(alloc, PolicyCode::WrongShape, place);
         };
@@ -50,7 +50,12 @@ impl<const ONLY_ALL: bool> ReadElement for DestText<ONLY_ALL> {
     ghost reads = { dest_text ONLY_ALL };
 
     #[tactic(auto, unfolding(crate::specs::Rules::dest_text))]
-    fn read(alloc: Global, names: &Names, place: &str, value: &Value) -> Result<Dest, PolicyFault> {
+    fn read(
+        alloc: Global,
+        names: &Names,
+        place: &str,
+        value: &Value,
+    ) -> Result<Dest, Failure<PolicyFault>> {
         let Some(text) = value.as_str() else {
             return refused(alloc, PolicyCode::WrongShape, place);
         };
@@ -59,8 +64,12 @@ impl<const ONLY_ALL: bool> ReadElement for DestText<ONLY_ALL> {
 }
 
 /// Refuses another action than `accept`.
-fn check_action(alloc: Global, place: &str, value: Option<&Value>) -> Result<(), PolicyFault>
-    ensures value { Gives result (action_at place.now (option_map view (option_copied value.entry))) }
+fn check_action(
+    alloc: Global,
+    place: &str,
+    value: Option<&Value>,
+) -> Result<(), Failure<PolicyFault>>
+    ensures value { Gives (λ x. x) result (action_at place.now (option_map view (option_copied value.entry))) }
 {
     let Some(value) = value else {
         return refused(alloc, PolicyCode::BadAction, place);
@@ -77,8 +86,8 @@ fn list_due<E: ReadElement>(
     names: &Names,
     place: &str,
     value: Option<&Value>,
-) -> Result<Items<E::Item>, PolicyFault>
-    ensures value { Gives result (list_due (E.reads names.now) place.now (option_map view (option_copied value.entry))) }
+) -> Result<Items<E::Item>, Failure<PolicyFault>>
+    ensures value { Gives (λ x. x) result (list_due (E.reads names.now) place.now (option_map view (option_copied value.entry))) }
 {
     match value {
         Some(value) => list_of::<E>(alloc, LIST_LIMIT, names, place, value),
@@ -93,8 +102,8 @@ fn dests_due(
     names: &Names,
     place: &str,
     value: Option<&Value>,
-) -> Result<Items<Dest>, PolicyFault>
-    ensures value { Gives result (list_due (dest_text only_all names.now) place.now (option_map view (option_copied value.entry))) }
+) -> Result<Items<Dest>, Failure<PolicyFault>>
+    ensures value { Gives (λ x. x) result (list_due (dest_text only_all names.now) place.now (option_map view (option_copied value.entry))) }
 {
     if only_all {
         list_due::<DestText<true>>(alloc, names, place, value)
@@ -112,7 +121,12 @@ impl ReadElement for RuleObject {
     ghost reads = { rule_at };
 
     #[tactic(auto, unfolding(crate::specs::Rules::rule_at))]
-    fn read(alloc: Global, names: &Names, place: &str, value: &Value) -> Result<Rule, PolicyFault> {
+    fn read(
+        alloc: Global,
+        names: &Names,
+        place: &str,
+        value: &Value,
+    ) -> Result<Rule, Failure<PolicyFault>> {
         let Some(members) = value.as_object() else {
             return refused(alloc, PolicyCode::WrongShape, place);
         };

@@ -2,7 +2,7 @@
 ghost use Rattle.std.specs.Prelude.{◌≡◌};
 ghost use Rattle.std.specs.Option.{option_copied, option_map};
 ghost use Rattle.serde_json.specs.View.{view};
-ghost use Rattle.policy_rows.specs.Faults.{Gives};
+ghost use Rattle.tail_base.specs.Steps.{Gives};
 ghost use Rattle.policy_doc.specs.Document.{approvers_at, approvers_or_none};
 
 use crate::keys::{check_keys, section};
@@ -12,7 +12,7 @@ use crate::walk::{list_or_empty, members_or_empty};
 use policy_rows::{Approver, Names, PolicyCode, PolicyFault, Selector, refused, under};
 use serde_json::Value;
 use std::alloc::Global;
-use tail_base::Items;
+use tail_base::{Failure, Items};
 
 /// Whose routes are approved.
 #[derive(Drop)]
@@ -27,8 +27,8 @@ fn read_approvers(
     names: &Names,
     place: &str,
     value: &Value,
-) -> Result<Approvers, PolicyFault>
-    ensures value { Gives result (approvers_at names.now place.now (view value.now)) }
+) -> Result<Approvers, Failure<PolicyFault>>
+    ensures value { Gives (λ x. x) result (approvers_at names.now place.now (view value.now)) }
 {
     let Some(members) = value.as_object() else {
         return refused(alloc, PolicyCode::WrongShape, place);
@@ -64,8 +64,8 @@ pub(crate) fn approvers_or_none(
     alloc: Global,
     names: &Names,
     value: Option<&Value>,
-) -> Result<Approvers, PolicyFault>
-    ensures value { Gives result (approvers_or_none names.now (option_map view (option_copied value.entry))) }
+) -> Result<Approvers, Failure<PolicyFault>>
+    ensures value { Gives (λ x. x) result (approvers_or_none names.now (option_map view (option_copied value.entry))) }
 {
     match value {
         Some(value) => read_approvers(alloc, names, "autoApprovers", value),

@@ -2,8 +2,8 @@
 ghost use Rattle.std.specs.Prelude.{◌≡◌, ◌<◌, ◌^◌, length};
 ghost use Rattle.std.specs.Option.{option_copied, option_map};
 ghost use Rattle.serde_json.specs.View.{members_view, view};
-ghost use Rattle.policy_rows.specs.Faults.{Gives};
-ghost use Rattle.policy_doc.specs.Document.{GivesBy, json_at, names_of, policy_from, policy_of, policy_of_text, rules_of, standard_at, syntax_at, tests_of, top_keys_of};
+ghost use Rattle.tail_base.specs.Steps.{Gives};
+ghost use Rattle.policy_doc.specs.Document.{json_at, names_of, policy_from, policy_of, policy_of_text, acls_section, standard_at, syntax_at, tests_section, top_keys_of};
 
 use crate::acls::RuleObject;
 use crate::approvers::{Approvers, approvers_or_none};
@@ -15,12 +15,12 @@ use hujson_read::{HujsonFault, standardize};
 use policy_rows::{Names, Policy, PolicyCode, PolicyFault, Rule, Test, refused};
 use serde_json::{Map, Value};
 use std::alloc::Global;
-use tail_base::Items;
+use tail_base::{Failure, Items};
 
 /// The groups, hosts and tags that have entries.
 #[tactic(auto, unfolding(crate::specs::Document::names_of))]
-fn read_names(alloc: Global, members: &Map<String, Value>) -> Result<Names, PolicyFault>
-    ensures value { Gives result (names_of (members_view members.now.entries)) }
+fn read_names(alloc: Global, members: &Map<String, Value>) -> Result<Names, Failure<PolicyFault>>
+    ensures value { Gives (λ x. x) result (names_of (members_view members.now.entries)) }
 {
     let none = Names::new(alloc);
     let groups = section("groups", members);
@@ -46,8 +46,8 @@ fn read_rules(
     alloc: Global,
     names: &Names,
     value: Option<&Value>,
-) -> Result<Option<Items<Rule>>, PolicyFault>
-    ensures value { Gives result (rules_of names.now (option_map view (option_copied value.entry))) }
+) -> Result<Option<Items<Rule>>, Failure<PolicyFault>>
+    ensures value { Gives (λ x. x) result (acls_section names.now (option_map view (option_copied value.entry))) }
 {
     match value {
         Some(value) => Ok(Some(list_of::<RuleObject>(alloc, RULE_LIMIT, names, "acls", value)?)),
@@ -60,15 +60,15 @@ fn read_tests(
     alloc: Global,
     names: &Names,
     value: Option<&Value>,
-) -> Result<Items<Test>, PolicyFault>
-    ensures value { Gives result (tests_of names.now (option_map view (option_copied value.entry))) }
+) -> Result<Items<Test>, Failure<PolicyFault>>
+    ensures value { Gives (λ x. x) result (tests_section names.now (option_map view (option_copied value.entry))) }
 {
     list_or_empty::<TestObject>(alloc, ENTRY_LIMIT, names, "tests", value)
 }
 
 /// Refuses keys of the top object that aren't known.
-fn check_top_keys(alloc: Global, members: &Map<String, Value>) -> Result<(), PolicyFault>
-    ensures value { Gives result (top_keys_of (members_view members.now.entries)) }
+fn check_top_keys(alloc: Global, members: &Map<String, Value>) -> Result<(), Failure<PolicyFault>>
+    ensures value { Gives (λ x. x) result (top_keys_of (members_view members.now.entries)) }
 {
     let known = [
         "groups",
@@ -111,8 +111,8 @@ fn policy_from(
 
 /// The policy that a JSON value states.
 #[tactic(auto, unfolding(crate::specs::Document::policy_of))]
-fn read_value(alloc: Global, value: &Value) -> Result<Policy, PolicyFault>
-    ensures value { Gives result (policy_of (view value.now)) }
+fn read_value(alloc: Global, value: &Value) -> Result<Policy, Failure<PolicyFault>>
+    ensures value { Gives (λ x. x) result (policy_of (view value.now)) }
 {
     let Some(members) = value.as_object() else {
         return refused(alloc, PolicyCode::NotObject, "top");
@@ -126,34 +126,34 @@ fn read_value(alloc: Global, value: &Value) -> Result<Policy, PolicyFault>
 }
 
 /// The fault of HuJSON at that offset.
-fn syntax_at<T: Drop>(alloc: Global, at: u32) -> Result<T, PolicyFault>
-    ensures value { Gives result (syntax_at at) }
+fn syntax_at<T: Drop>(alloc: Global, at: u32) -> Result<T, Failure<PolicyFault>>
+    ensures value { Gives (λ x. x) result (syntax_at at) }
 {
     let place = format!(in alloc; "offset {at}")?;
     refused(alloc, PolicyCode::Syntax, place.as_str())
 }
 
 /// The JSON text that a HuJSON text stands for.
-fn standard_text(alloc: Global, text: &[u8]) -> Result<Vec<u8>, PolicyFault>
+fn standard_text(alloc: Global, text: &[u8]) -> Result<Vec<u8>, Failure<PolicyFault>>
     requires short { length text.now < 2 ^ 32 }
-    ensures value { GivesBy (λ v. v.items) result (standard_at text.now) }
+    ensures value { Gives (λ v. v.items) result (standard_at text.now) }
 {
     match standardize(alloc, text) {
         Ok(standard) => Ok(standard),
         Err(HujsonFault::OpenComment(at)) => syntax_at(alloc, at),
         Err(HujsonFault::StrayComma(at)) => syntax_at(alloc, at),
         Err(HujsonFault::OpenString(at)) => syntax_at(alloc, at),
-        Err(HujsonFault::NoMemory) => Err(PolicyFault::NoMemory),
+        Err(HujsonFault::NoMemory) => Err(Failure::NoMemory),
     }
 }
 
 /// The JSON value that a text is.
-fn json_of(alloc: Global, text: &[u8]) -> Result<Value, PolicyFault>
-    ensures value { GivesBy view result (json_at text.now) }
+fn json_of(alloc: Global, text: &[u8]) -> Result<Value, Failure<PolicyFault>>
+    ensures value { Gives view result (json_at text.now) }
 {
     match Value::from_slice(alloc, text) {
         Ok(value) => Ok(value),
-        Err(error) if error.is_memory() => Err(PolicyFault::NoMemory),
+        Err(error) if error.is_memory() => Err(Failure::NoMemory),
         Err(_) => refused(alloc, PolicyCode::Syntax, "json"),
     }
 }
@@ -163,8 +163,8 @@ fn json_of(alloc: Global, text: &[u8]) -> Result<Value, PolicyFault>
 /// top object, and then the sections `groups`, `hosts`, `tagOwners`, `acls`, `autoApprovers` and
 /// `tests`.
 #[tactic(auto, unfolding(crate::specs::Document::policy_of_text))]
-pub fn read_policy(alloc: Global, text: &[u8]) -> Result<Policy, PolicyFault>
-    ensures value { Gives result (policy_of_text text.now) }
+pub fn read_policy(alloc: Global, text: &[u8]) -> Result<Policy, Failure<PolicyFault>>
+    ensures value { Gives (λ x. x) result (policy_of_text text.now) }
 {
     if text.len() > TEXT_LIMIT {
         return refused(alloc, PolicyCode::TooMany, "text");

@@ -1,6 +1,6 @@
 //! The entries of groups.
 ghost use Rattle.std.specs.Prelude.{◌≡◌};
-ghost use Rattle.policy_rows.specs.Faults.{Gives};
+ghost use Rattle.tail_base.specs.Steps.{Gives};
 ghost use Rattle.policy_doc.specs.Entries.{group_entry, is_group_name, member_at};
 
 use crate::limits::LIST_LIMIT;
@@ -8,7 +8,7 @@ use crate::walk::{ReadElement, ReadMember, list_of};
 use policy_rows::{Group, Names, PolicyCode, PolicyFault, is_name, refused};
 use serde_json::Value;
 use std::alloc::Global;
-use tail_base::{Login, Text};
+use tail_base::{Failure, Login, Text};
 
 /// A member of a group: a login.
 struct Member;
@@ -24,7 +24,7 @@ impl ReadElement for Member {
         _names: &Names,
         place: &str,
         value: &Value,
-    ) -> Result<Login, PolicyFault> {
+    ) -> Result<Login, Failure<PolicyFault>> {
         let Some(text) = value.as_str() else {
             return refused(alloc, PolicyCode::WrongShape, place);
         };
@@ -53,7 +53,7 @@ impl ReadMember for Group {
         key: &str,
         place: &str,
         value: &Value,
-    ) -> Result<Group, PolicyFault> {
+    ) -> Result<Group, Failure<PolicyFault>> {
         if !is_group_name(key.as_bytes()) {
             return refused(alloc, PolicyCode::BadGroup, place);
         }

@@ -1,6 +1,6 @@
 //! The entries of hosts.
 ghost use Rattle.std.specs.Prelude.{◌≡◌};
-ghost use Rattle.policy_rows.specs.Faults.{Gives};
+ghost use Rattle.tail_base.specs.Steps.{Gives};
 ghost use Rattle.policy_doc.specs.Entries.{host_entry, is_host_name};
 
 use crate::walk::ReadMember;
@@ -8,7 +8,7 @@ use net_addr::Addr;
 use policy_rows::{Host, Names, PolicyCode, PolicyFault, host_net, is_name, refused};
 use serde_json::Value;
 use std::alloc::Global;
-use tail_base::Text;
+use tail_base::{Failure, Text};
 
 /// Whether the key is a name that is no address.
 fn is_host_name(key: &[u8]) -> bool
@@ -28,7 +28,7 @@ impl ReadMember for Host {
         key: &str,
         place: &str,
         value: &Value,
-    ) -> Result<Host, PolicyFault> {
+    ) -> Result<Host, Failure<PolicyFault>> {
         if !is_host_name(key.as_bytes()) {
             return refused(alloc, PolicyCode::BadHost, place);
         }

@@ -3,12 +3,13 @@ ghost use Rattle.std.specs.Prelude.{◌≡◌, [], map};
 ghost use Rattle.std.specs.Option.{option_map};
 ghost use Rattle.std.specs.Str.{str_eq_ignore_ascii_case};
 ghost use Rattle.serde_json.specs.View.{members_view, view};
-ghost use Rattle.policy_rows.specs.Faults.{Gives};
-ghost use Rattle.policy_doc.specs.Keys.{is_named, keys_of, newer, section};
+ghost use Rattle.tail_base.specs.Steps.{Gives};
+ghost use Rattle.policy_doc.specs.Keys.{is_one_of, keys_of, newer, section};
 
 use policy_rows::{PolicyCode, PolicyFault, refused, under};
 use serde_json::{Map, Value};
 use std::alloc::Global;
+use tail_base::Failure;
 
 fn is_same_key(a: &str, b: &str) -> bool
     ensures value { result ≡ str_eq_ignore_ascii_case a.now b.now }
@@ -30,8 +31,8 @@ fn newer(key: &str) -> &str
 }
 
 /// Whether the key is one of the names.
-fn is_named(key: &str, names: &[&str]) -> bool
-    ensures value { result ≡ is_named key.now (map (λ b. b.now) names.now) }
+fn is_one_of(key: &str, names: &[&str]) -> bool
+    ensures value { result ≡ is_one_of key.now (map (λ b. b.now) names.now) }
 {
     for name in names {
         if is_same_key(name, key) {
@@ -48,23 +49,23 @@ pub(crate) fn check_keys(
     known: &[&str],
     unsupported: &[&str],
     members: &Map<String, Value>,
-) -> Result<(), PolicyFault>
-    ensures value { Gives result (keys_of place.now (map (λ b. b.now) known.now)
+) -> Result<(), Failure<PolicyFault>>
+    ensures value { Gives (λ x. x) result (keys_of place.now (map (λ b. b.now) known.now)
         (map (λ b. b.now) unsupported.now) [] (members_view members.now.entries)) }
 {
     let mut seen = Vec::new(alloc);
     for (key, _) in members {
         let key = key.as_str();
-        if is_named(key, unsupported) {
+        if is_one_of(key, unsupported) {
             let within = under(alloc, place, key)?;
             return refused(alloc, PolicyCode::Unsupported, within.as_str());
         }
-        if !is_named(key, known) || is_named(newer(key), &seen) {
+        if !is_one_of(key, known) || is_one_of(newer(key), &seen) {
             let within = under(alloc, place, key)?;
             return refused(alloc, PolicyCode::UnknownKey, within.as_str());
         }
         if seen.push(newer(key)).is_err() {
-            return Err(PolicyFault::NoMemory);
+            return Err(Failure::NoMemory);
         }
     }
     Ok(())

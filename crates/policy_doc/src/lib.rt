@@ -4,8 +4,6 @@
 
 mod acls;
 mod approvers;
-#[cfg(test)]
-mod cases;
 mod document;
 mod groups;
 mod hosts;
@@ -16,8 +14,7 @@ mod proto;
 mod routes;
 mod tags;
 mod testing;
-#[cfg(test)]
-mod tests;
 mod walk;
 
 pub use document::read_policy;
+pub use limits::{ENTRY_LIMIT, LIST_LIMIT, RULE_LIMIT, TEXT_LIMIT};

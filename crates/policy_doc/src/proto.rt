@@ -2,14 +2,14 @@
 ghost use Rattle.std.specs.Prelude.{◌≡◌, IfOk, Some};
 ghost use Rattle.std.specs.Option.{option_copied, option_map};
 ghost use Rattle.serde_json.specs.View.{view};
-ghost use Rattle.policy_rows.specs.Faults.{Gives};
+ghost use Rattle.tail_base.specs.Steps.{Gives};
 ghost use Rattle.policy_doc.specs.Rules.{proto_at, proto_of};
 
 use policy_rows::{PolicyCode, PolicyFault, protos_numbered, refused};
 use port_sets::Protos;
 use serde_json::Value;
 use std::alloc::Global;
-use tail_base::NoMemory;
+use tail_base::{Failure, NoMemory};
 
 /// The protocol that a value names: by its name, or by its number as a text or a number.
 fn proto_of(alloc: Global, value: &Value) -> Result<Option<Protos>, NoMemory>
@@ -30,8 +30,8 @@ pub(crate) fn read_proto(
     alloc: Global,
     place: &str,
     value: Option<&Value>,
-) -> Result<Protos, PolicyFault>
-    ensures value { Gives result (proto_at place.now (option_map view (option_copied value.entry))) }
+) -> Result<Protos, Failure<PolicyFault>>
+    ensures value { Gives (λ x. x) result (proto_at place.now (option_map view (option_copied value.entry))) }
 {
     let Some(value) = value else {
         return Ok(Protos::usual());

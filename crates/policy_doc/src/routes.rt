@@ -1,7 +1,7 @@
 //! The approvers of routes.
 ghost use Rattle.std.specs.Prelude.{◌≡◌};
-ghost use Rattle.policy_rows.specs.Faults.{Gives};
-ghost use Rattle.policy_doc.specs.Entries.{approver_text, has_route, is_same_route, route_entry};
+ghost use Rattle.tail_base.specs.Steps.{Gives};
+ghost use Rattle.policy_doc.specs.Entries.{approver_text, is_route_before, is_same_route, route_entry};
 
 use crate::limits::LIST_LIMIT;
 use crate::walk::{ReadElement, ReadMember, list_of};
@@ -9,6 +9,7 @@ use net_addr::Prefix;
 use policy_rows::{Approver, Names, PolicyCode, PolicyFault, Selector, read_approver, refused};
 use serde_json::Value;
 use std::alloc::Global;
+use tail_base::Failure;
 
 /// Whose routes are approved: a login, a group or a tag.
 pub(crate) struct ApproverText;
@@ -24,7 +25,7 @@ impl ReadElement for ApproverText {
         names: &Names,
         place: &str,
         value: &Value,
-    ) -> Result<Selector, PolicyFault> {
+    ) -> Result<Selector, Failure<PolicyFault>> {
         let Some(text) = value.as_str() else {
             return refused(alloc, PolicyCode::WrongShape, place);
         };
@@ -39,8 +40,8 @@ fn is_same_route(a: &Prefix, b: &Prefix) -> bool
     a.within(b) && b.within(a)
 }
 
-fn has_route(before: &[Approver], route: &Prefix) -> bool
-    ensures value { result ≡ has_route before.now route.now }
+fn is_route_before(before: &[Approver], route: &Prefix) -> bool
+    ensures value { result ≡ is_route_before before.now route.now }
 {
     before
         .iter()
@@ -58,11 +59,11 @@ impl ReadMember for Approver {
         key: &str,
         place: &str,
         value: &Value,
-    ) -> Result<Approver, PolicyFault> {
+    ) -> Result<Approver, Failure<PolicyFault>> {
         let Ok(route) = Prefix::read(key.as_bytes()) else {
             return refused(alloc, PolicyCode::BadRoute, place);
         };
-        if has_route(before, &route) {
+        if is_route_before(before, &route) {
             return refused(alloc, PolicyCode::BadRoute, place);
         }
         let by = list_of::<ApproverText>(alloc, LIST_LIMIT, names, place, value)?;

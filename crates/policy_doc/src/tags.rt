@@ -1,6 +1,6 @@
 //! The entries of tags.
 ghost use Rattle.std.specs.Prelude.{◌≡◌, IfOk};
-ghost use Rattle.policy_rows.specs.Faults.{Gives};
+ghost use Rattle.tail_base.specs.Steps.{Gives};
 ghost use Rattle.policy_doc.specs.Entries.{group_owner, is_unsupported_owner, owner_at, tag_entry, tag_owner, user_owner};
 
 use crate::limits::LIST_LIMIT;
@@ -9,7 +9,7 @@ use crate::walk::{ReadElement, ReadMember, list_of};
 use policy_rows::{Names, PolicyCode, PolicyFault, TagOwner, refused};
 use serde_json::Value;
 use std::alloc::Global;
-use tail_base::{Duplicate, Items, Login, NoMemory, Tag};
+use tail_base::{Duplicate, Failure, Items, Login, NoMemory, Tag};
 
 /// Whether the text begins as a tag or an automatic group, which own no tags.
 fn is_unsupported_owner(text: &[u8]) -> bool
@@ -18,8 +18,13 @@ fn is_unsupported_owner(text: &[u8]) -> bool
     text.starts_with(b"tag:") || text.starts_with(b"autogroup:")
 }
 
-fn group_owner(alloc: Global, names: &Names, place: &str, text: &[u8]) -> Result<Owner, PolicyFault>
-    ensures value { Gives result (group_owner names.now place.now text.now) }
+fn group_owner(
+    alloc: Global,
+    names: &Names,
+    place: &str,
+    text: &[u8],
+) -> Result<Owner, Failure<PolicyFault>>
+    ensures value { Gives (λ x. x) result (group_owner names.now place.now text.now) }
 {
     match names.group(text) {
         Some(group) => Ok(Owner::Group(group.name.copy(alloc)?)),
@@ -27,8 +32,8 @@ fn group_owner(alloc: Global, names: &Names, place: &str, text: &[u8]) -> Result
     }
 }
 
-fn user_owner(alloc: Global, place: &str, text: &[u8]) -> Result<Owner, PolicyFault>
-    ensures value { Gives result (user_owner place.now text.now) }
+fn user_owner(alloc: Global, place: &str, text: &[u8]) -> Result<Owner, Failure<PolicyFault>>
+    ensures value { Gives (λ x. x) result (user_owner place.now text.now) }
 {
     match Login::read(alloc, text)? {
         Some(login) => Ok(Owner::User(login)),
@@ -47,7 +52,7 @@ impl ReadElement for Owner {
         names: &Names,
         place: &str,
         value: &Value,
-    ) -> Result<Owner, PolicyFault> {
+    ) -> Result<Owner, Failure<PolicyFault>> {
         let Some(text) = value.as_str() else {
             return refused(alloc, PolicyCode::WrongShape, place);
         };
@@ -89,7 +94,7 @@ impl ReadMember for TagOwner {
         key: &str,
         place: &str,
         value: &Value,
-    ) -> Result<TagOwner, PolicyFault> {
+    ) -> Result<TagOwner, Failure<PolicyFault>> {
         let Some(tag) = Tag::read(alloc, key.as_bytes())? else {
             return refused(alloc, PolicyCode::BadTag, place);
         };

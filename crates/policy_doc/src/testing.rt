@@ -2,7 +2,7 @@
 ghost use Rattle.std.specs.Prelude.{◌≡◌};
 ghost use Rattle.std.specs.Option.{option_copied, option_map};
 ghost use Rattle.serde_json.specs.View.{view};
-ghost use Rattle.policy_rows.specs.Faults.{Gives};
+ghost use Rattle.tail_base.specs.Steps.{Gives};
 ghost use Rattle.policy_doc.specs.Rules.{subject_at, test_at, test_dest_text};
 
 use crate::keys::{check_keys, section};
@@ -15,6 +15,7 @@ use policy_rows::{
 };
 use serde_json::Value;
 use std::alloc::Global;
+use tail_base::Failure;
 
 /// A destination of a test.
 struct TestDestText;
@@ -25,7 +26,12 @@ impl ReadElement for TestDestText {
     ghost reads = { test_dest_text };
 
     #[tactic(auto, unfolding(crate::specs::Rules::test_dest_text))]
-    fn read(alloc: Global, names: &Names, place: &str, value: &Value) -> Result<Dest, PolicyFault> {
+    fn read(
+        alloc: Global,
+        names: &Names,
+        place: &str,
+        value: &Value,
+    ) -> Result<Dest, Failure<PolicyFault>> {
         let Some(text) = value.as_str() else {
             return refused(alloc, PolicyCode::WrongShape, place);
         };
@@ -39,8 +45,8 @@ fn read_subject(
     names: &Names,
     place: &str,
     value: Option<&Value>,
-) -> Result<Selector, PolicyFault>
-    ensures value { Gives result (subject_at names.now place.now (option_map view (option_copied value.entry))) }
+) -> Result<Selector, Failure<PolicyFault>>
+    ensures value { Gives (λ x. x) result (subject_at names.now place.now (option_map view (option_copied value.entry))) }
 {
     let Some(value) = value else {
         return refused(alloc, PolicyCode::BadTest, place);
@@ -60,7 +66,12 @@ impl ReadElement for TestObject {
     ghost reads = { test_at };
 
     #[tactic(auto, unfolding(crate::specs::Rules::test_at))]
-    fn read(alloc: Global, names: &Names, place: &str, value: &Value) -> Result<Test, PolicyFault> {
+    fn read(
+        alloc: Global,
+        names: &Names,
+        place: &str,
+        value: &Value,
+    ) -> Result<Test, Failure<PolicyFault>> {
         let Some(members) = value.as_object() else {
             return refused(alloc, PolicyCode::WrongShape, place);
         };

@@ -4,19 +4,20 @@ ghost use Rattle.std.specs.Option.{option_copied, option_map};
 ghost use Rattle.serde_json.specs.Data.{Data};
 ghost use Rattle.serde_json.specs.View.{items_view, members_view, view};
 ghost use Rattle.policy_rows.specs.declared.names.Names.{Names};
-ghost use Rattle.policy_rows.specs.Faults.{Fault, Gives};
-ghost use Rattle.policy_doc.specs.Walks.{each, each_member, list_of, members_of, or_empty};
+ghost use Rattle.policy_rows.specs.declared.fault.PolicyFault.{PolicyFault};
+ghost use Rattle.tail_base.specs.Steps.{Gives};
+ghost use Rattle.policy_doc.specs.Walks.{each, each_member, list_of, object_of, or_empty};
 
 use policy_rows::{Names, PolicyCode, PolicyFault, indexed, refused, under};
 use serde_json::{Map, Value};
 use std::alloc::Global;
-use tail_base::Items;
+use tail_base::{Failure, Items};
 
 /// What an element of a list is read as.
 pub(crate) trait ReadElement {
     type Item: Drop;
 
-    ghost reads: { Names → List ℕ → Data → Result Self.Item Fault };
+    ghost reads: { Names → List ℕ → Data → Result Self.Item PolicyFault };
 
     /// Reads the element at a place, where these names have entries.
     fn read(
@@ -24,8 +25,8 @@ pub(crate) trait ReadElement {
         names: &Names,
         place: &str,
         value: &Value,
-    ) -> Result<Self::Item, PolicyFault>
-        ensures value { Gives result (reads names.now place.now (view value.now)) };
+    ) -> Result<Self::Item, Failure<PolicyFault>>
+        ensures value { Gives (λ x. x) result (reads names.now place.now (view value.now)) };
 }
 
 fn each<E: ReadElement>(
@@ -33,8 +34,8 @@ fn each<E: ReadElement>(
     names: &Names,
     place: &str,
     list: &[Value],
-) -> Result<Items<E::Item>, PolicyFault>
-    ensures value { Gives result (each (E.reads names.now) place.now 0 (items_view list.now)) }
+) -> Result<Items<E::Item>, Failure<PolicyFault>>
+    ensures value { Gives (λ x. x) result (each (E.reads names.now) place.now 0 (items_view list.now)) }
 {
     let mut out = Items::new(alloc);
     for (index, value) in list.iter().enumerate() {
@@ -53,8 +54,8 @@ pub(crate) fn list_of<E: ReadElement>(
     names: &Names,
     place: &str,
     value: &Value,
-) -> Result<Items<E::Item>, PolicyFault>
-    ensures value { Gives result (list_of most (E.reads names.now) place.now (view value.now)) }
+) -> Result<Items<E::Item>, Failure<PolicyFault>>
+    ensures value { Gives (λ x. x) result (list_of most (E.reads names.now) place.now (view value.now)) }
 {
     let Some(list) = value.as_array() else {
         return refused(alloc, PolicyCode::WrongShape, place);
@@ -72,8 +73,8 @@ pub(crate) fn list_or_empty<E: ReadElement>(
     names: &Names,
     place: &str,
     value: Option<&Value>,
-) -> Result<Items<E::Item>, PolicyFault>
-    ensures value { Gives result (or_empty (list_of most (E.reads names.now) place.now)
+) -> Result<Items<E::Item>, Failure<PolicyFault>>
+    ensures value { Gives (λ x. x) result (or_empty (list_of most (E.reads names.now) place.now)
         (option_map view (option_copied value.entry))) }
 {
     match value {
@@ -84,7 +85,7 @@ pub(crate) fn list_or_empty<E: ReadElement>(
 
 /// What a member of an object is read as.
 pub(crate) trait ReadMember: Sized + Drop {
-    ghost reads: { Names → List Self → List ℕ → List ℕ → Data → Result Self Fault };
+    ghost reads: { Names → List Self → List ℕ → List ℕ → Data → Result Self PolicyFault };
 
     /// Reads the member of that key at a place, behind those before it, where these names have entries.
     fn read(
@@ -94,8 +95,8 @@ pub(crate) trait ReadMember: Sized + Drop {
         key: &str,
         place: &str,
         value: &Value,
-    ) -> Result<Self, PolicyFault>
-        ensures value { Gives result (reads names.now before.now key.now place.now (view value.now)) };
+    ) -> Result<Self, Failure<PolicyFault>>
+        ensures value { Gives (λ x. x) result (reads names.now before.now key.now place.now (view value.now)) };
 }
 
 fn each_member<M: ReadMember>(
@@ -103,8 +104,8 @@ fn each_member<M: ReadMember>(
     names: &Names,
     place: &str,
     members: &Map<String, Value>,
-) -> Result<Items<M>, PolicyFault>
-    ensures value { Gives result (each_member (M.reads names.now) place.now []
+) -> Result<Items<M>, Failure<PolicyFault>>
+    ensures value { Gives (λ x. x) result (each_member (M.reads names.now) place.now []
         (members_view members.now.entries)) }
 {
     let mut out = Items::new(alloc);
@@ -124,15 +125,15 @@ fn each_member<M: ReadMember>(
 }
 
 /// The object of at most so many members that a value is.
-#[tactic(auto, using(crate::proofs::Counts::members_count_view), unfolding(crate::specs::Walks::members_of))]
-fn members_of<M: ReadMember>(
+#[tactic(auto, using(crate::proofs::Counts::members_count_view), unfolding(crate::specs::Walks::object_of))]
+fn object_of<M: ReadMember>(
     alloc: Global,
     most: usize,
     names: &Names,
     place: &str,
     value: &Value,
-) -> Result<Items<M>, PolicyFault>
-    ensures value { Gives result (members_of most (M.reads names.now) place.now (view value.now)) }
+) -> Result<Items<M>, Failure<PolicyFault>>
+    ensures value { Gives (λ x. x) result (object_of most (M.reads names.now) place.now (view value.now)) }
 {
     let Some(members) = value.as_object() else {
         return refused(alloc, PolicyCode::WrongShape, place);
@@ -150,12 +151,12 @@ pub(crate) fn members_or_empty<M: ReadMember>(
     names: &Names,
     place: &str,
     value: Option<&Value>,
-) -> Result<Items<M>, PolicyFault>
-    ensures value { Gives result (or_empty (members_of most (M.reads names.now) place.now)
+) -> Result<Items<M>, Failure<PolicyFault>>
+    ensures value { Gives (λ x. x) result (or_empty (object_of most (M.reads names.now) place.now)
         (option_map view (option_copied value.entry))) }
 {
     match value {
-        Some(value) => members_of(alloc, most, names, place, value),
+        Some(value) => object_of(alloc, most, names, place, value),
         None => Ok(Items::new(alloc)),
     }
 }

@@ -3,7 +3,7 @@ use Rattle.std.proofs.Common.{◌≡◌, ◌<◌, ◌≤◌, ℕ, zero, suc, Boo
 use Rattle.std.specs.Fmt.{decimal, digits}
 use Rattle.std.proofs.lemmas.Bool.{and_parts, and_from, le-leb, cond-true, eqb-true, or_cases, cases_lt}
 use Rattle.std.specs.Option.{option_map}
-use Rattle.port_sets.specs.Numbers.{in_range}
+use Rattle.tail_base.specs.Numerals.{in_range}
 use Rattle.port_sets.specs.Protocols.{proto_of_text}
 
 -- the test passes for each number below

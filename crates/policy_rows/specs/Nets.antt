@@ -5,11 +5,8 @@ use Rattle.std.specs.Option.{option_map, option_or}
 use Rattle.std.specs.Result.{result_ok}
 use Rattle.net_addr.specs.AddrTexts.{addr_of_text}
 use Rattle.net_addr.specs.Bits.{Address, Block, family_bits}
+use Rattle.net_addr.specs.Blocks.{prefix_of_addr}
 use Rattle.net_addr.specs.PrefixTexts.{prefix_of_text}
-
--- the prefix of an address alone
-abbrev pub whole : Address → Block
-whole addr = record { base = addr; len = family_bits addr.v6 }
 
 -- the prefix has one address
 abbrev pub is_one_address : Block → Bool
@@ -17,7 +14,7 @@ is_one_address net = net.len == family_bits net.base.v6
 
 -- an address or a prefix
 abbrev pub host_net : List ℕ → Option Block
-host_net text = option_or (option_map whole (addr_of_text text)) (result_ok (prefix_of_text text))
+host_net text = option_or (option_map prefix_of_addr (addr_of_text text)) (result_ok (prefix_of_text text))
 
 -- the text stands in brackets
 abbrev pub is_bracketed : List ℕ → Bool
@@ -33,4 +30,4 @@ bracketed text = if is_bracketed text then option_and_then v6_only (addr_of_text
 
 -- an address, in IPv6 optionally in brackets, or a prefix
 abbrev pub net_of_text : List ℕ → Option Block
-net_of_text text = option_or (option_map whole (bracketed text)) (host_net text)
+net_of_text text = option_or (option_map prefix_of_addr (bracketed text)) (host_net text)

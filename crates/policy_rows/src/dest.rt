@@ -1,6 +1,6 @@
 //! Destinations.
 ghost use Rattle.std.specs.Prelude.{◌≡◌};
-ghost use Rattle.policy_rows.specs.Faults.{Gives};
+ghost use Rattle.tail_base.specs.Steps.{Gives};
 ghost use Rattle.policy_rows.specs.Dests.{dest_at, test_dest_at};
 
 use crate::code::PolicyCode;
@@ -12,12 +12,21 @@ use crate::selecting::{read_selector, read_test_end};
 use crate::selector::Selector;
 use port_sets::Ports;
 use std::alloc::Global;
+use tail_base::{Duplicate, Failure, NoMemory};
 
 /// What a policy names as a destination, and the ports there.
 #[derive(Drop)]
 pub struct Dest {
     pub to: Selector,
     pub ports: Ports,
+}
+
+impl Duplicate for Dest {
+    fn copy(&self, alloc: Global) -> Result<Self, NoMemory> {
+        let to = self.to.copy(alloc)?;
+        let ports = self.ports.copy(alloc)?;
+        Ok(Dest { to, ports })
+    }
 }
 
 /// The destination of a rule that a text names: a selector, a colon, and ports. The last colon parts
@@ -29,8 +38,8 @@ pub fn read_dest(
     names: &Names,
     place: &str,
     text: &[u8],
-) -> Result<Dest, PolicyFault>
-    ensures value { Gives result (dest_at only_all names.now place.now text.now) }
+) -> Result<Dest, Failure<PolicyFault>>
+    ensures value { Gives (λ x. x) result (dest_at only_all names.now place.now text.now) }
 {
     if !has_colon(text) {
         return refused(alloc, PolicyCode::BadPorts, place);
@@ -50,8 +59,8 @@ pub fn read_test_dest(
     names: &Names,
     place: &str,
     text: &[u8],
-) -> Result<Dest, PolicyFault>
-    ensures value { Gives result (test_dest_at names.now place.now text.now) }
+) -> Result<Dest, Failure<PolicyFault>>
+    ensures value { Gives (λ x. x) result (test_dest_at names.now place.now text.now) }
 {
     if !has_colon(text) {
         return refused(alloc, PolicyCode::BadTest, place);

@@ -1,6 +1,7 @@
 //! The rows of a policy, which is a Tailscale policy file
 //! (<https://tailscale.com/kb/1337/policy-syntax>), and what single texts in it are read as:
-//! selectors, destinations and protocols. A policy's fault has a code and a place.
+//! selectors, destinations and protocols; whom a selector names, and what the internet is. A policy's
+//! fault has a code and a place.
 #![tactic(auto)]
 
 mod approver;
@@ -9,7 +10,9 @@ mod dest;
 mod fault;
 mod group;
 mod host;
+mod internet;
 mod names;
+mod naming;
 mod nets;
 mod part;
 mod place;
@@ -28,7 +31,13 @@ pub use dest::{Dest, read_dest, read_test_dest};
 pub use fault::{PolicyFault, fault_text, refused};
 pub use group::Group;
 pub use host::Host;
+pub use internet::{
+    GLOBAL_V6_BASE, GLOBAL_V6_LEN, LINK_LOCAL_BASE, LINK_LOCAL_LEN, PRIVATE_8_BASE, PRIVATE_8_LEN,
+    PRIVATE_12_BASE, PRIVATE_12_LEN, PRIVATE_16_BASE, PRIVATE_16_LEN, internet_nets, is_internet,
+    not_internet,
+};
 pub use names::{Names, is_name};
+pub use naming::{is_named, members_of};
 pub use nets::host_net;
 pub use place::{indexed, under};
 pub use policy::Policy;

@@ -34,8 +34,7 @@ impl Names {
     pub fn group(&self, name: &[u8]) -> Option<&Group>
         ensures value { option_copied result ≡ group_named self.now.groups name.now }
     {
-        let groups = self.groups.as_slice();
-        groups.iter().find(|group| group.name.as_slice() == name)
+        group_named(self.groups.as_slice(), name)
     }
 
     /// The entry of a tag.
@@ -53,6 +52,13 @@ impl Names {
         let hosts = self.hosts.as_slice();
         hosts.iter().find(|host| host.name.as_slice() == name)
     }
+}
+
+/// The group of that name, `group:` included.
+pub(crate) fn group_named<'a>(groups: &'a [Group], name: &[u8]) -> Option<&'a Group>
+    ensures value { option_copied result ≡ group_named groups.now name.now }
+{
+    groups.iter().find(|group| group.name.as_slice() == name)
 }
 
 /// Whether the text is 1 to 63 letters, digits, `-`, `_` and `.`.

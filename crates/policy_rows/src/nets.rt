@@ -1,16 +1,8 @@
 //! The addresses that a text names.
 ghost use Rattle.std.specs.Prelude.{◌≡◌};
-ghost use Rattle.policy_rows.specs.Nets.{bracketed, host_net, is_bracketed, is_one_address, net_of_text, v6_only, whole};
+ghost use Rattle.policy_rows.specs.Nets.{bracketed, host_net, is_bracketed, is_one_address, net_of_text, v6_only};
 
 use net_addr::{Addr, Prefix};
-
-/// The prefix of an address alone.
-fn whole(addr: Addr) -> Prefix
-    ensures value { result ≡ whole addr }
-{
-    let len = if addr.is_v6() { 128 } else { 32 };
-    Prefix::new(addr, len)
-}
 
 /// Whether the prefix has one address.
 pub(crate) fn is_one_address(net: &Prefix) -> bool
@@ -24,7 +16,7 @@ pub fn host_net(text: &[u8]) -> Option<Prefix>
     ensures value { result ≡ host_net text.now }
 {
     match Addr::read(text) {
-        Some(addr) => Some(whole(addr)),
+        Some(addr) => Some(Prefix::of_addr(addr)),
         None => Prefix::read(text).ok(),
     }
 }
@@ -55,7 +47,7 @@ pub(crate) fn net_of_text(text: &[u8]) -> Option<Prefix>
     ensures value { result ≡ net_of_text text.now }
 {
     match bracketed(text) {
-        Some(addr) => Some(whole(addr)),
+        Some(addr) => Some(Prefix::of_addr(addr)),
         None => host_net(text),
     }
 }

@@ -7,7 +7,8 @@ use crate::rule::Rule;
 use crate::selector::Selector;
 use crate::tag_owner::TagOwner;
 use crate::test::Test;
-use tail_base::Items;
+use std::alloc::Global;
+use tail_base::{Duplicate, Items, NoMemory};
 
 /// What a policy says.
 #[derive(Drop)]
@@ -20,4 +21,25 @@ pub struct Policy {
     pub route_approvers: Items<Approver>,
     pub exit_approvers: Items<Selector>,
     pub tests: Items<Test>,
+}
+
+impl Duplicate for Policy {
+    fn copy(&self, alloc: Global) -> Result<Self, NoMemory> {
+        let groups = self.groups.copy(alloc)?;
+        let hosts = self.hosts.copy(alloc)?;
+        let tags = self.tags.copy(alloc)?;
+        let rules = self.rules.copy(alloc)?;
+        let route_approvers = self.route_approvers.copy(alloc)?;
+        let exit_approvers = self.exit_approvers.copy(alloc)?;
+        let tests = self.tests.copy(alloc)?;
+        Ok(Policy {
+            groups,
+            hosts,
+            tags,
+            rules,
+            route_approvers,
+            exit_approvers,
+            tests,
+        })
+    }
 }

@@ -1,6 +1,6 @@
 //! The protocols of a rule.
 ghost use Rattle.std.specs.Prelude.{◌≡◌, IfOk, Some, is_some, option_map};
-ghost use Rattle.port_sets.specs.Numbers.{in_range};
+ghost use Rattle.tail_base.specs.Numerals.{in_range};
 ghost use Rattle.port_sets.specs.Protocols.{IsProtos};
 ghost use Rattle.policy_rows.specs.Dests.{needs_star};
 

@@ -3,7 +3,8 @@
 use crate::dest::Dest;
 use crate::selector::Selector;
 use port_sets::Protos;
-use tail_base::Items;
+use std::alloc::Global;
+use tail_base::{Duplicate, Items, NoMemory};
 
 /// What an entry of `acls` lets through: each of the protocols from each of the sources to each of the
 /// destinations.
@@ -12,4 +13,17 @@ pub struct Rule {
     pub protos: Protos,
     pub sources: Items<Selector>,
     pub dests: Items<Dest>,
+}
+
+impl Duplicate for Rule {
+    fn copy(&self, alloc: Global) -> Result<Self, NoMemory> {
+        let protos = self.protos;
+        let sources = self.sources.copy(alloc)?;
+        let dests = self.dests.copy(alloc)?;
+        Ok(Rule {
+            protos,
+            sources,
+            dests,
+        })
+    }
 }

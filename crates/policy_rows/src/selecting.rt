@@ -1,6 +1,6 @@
 //! The selectors that texts name.
 ghost use Rattle.std.specs.Prelude.{◌≡◌};
-ghost use Rattle.policy_rows.specs.Faults.{Gives};
+ghost use Rattle.tail_base.specs.Steps.{Gives};
 ghost use Rattle.policy_rows.specs.Selectors.{approver_at, automatic_at, group_at, host_at, is_approver, is_source, is_test_end, plain_at, selector_at, source_at, tag_at, test_end_at, has_slash};
 
 use crate::code::PolicyCode;
@@ -9,15 +9,15 @@ use crate::names::{Names, is_name};
 use crate::nets::{is_one_address, net_of_text};
 use crate::selector::Selector;
 use std::alloc::Global;
-use tail_base::{Duplicate, Login};
+use tail_base::{Duplicate, Failure, Login};
 
 fn read_group(
     alloc: Global,
     names: &Names,
     place: &str,
     text: &[u8],
-) -> Result<Selector, PolicyFault>
-    ensures value { Gives result (group_at names.now place.now text.now) }
+) -> Result<Selector, Failure<PolicyFault>>
+    ensures value { Gives (λ x. x) result (group_at names.now place.now text.now) }
 {
     match names.group(text) {
         Some(group) => Ok(Selector::Group(group.name.copy(alloc)?)),
@@ -25,8 +25,13 @@ fn read_group(
     }
 }
 
-fn read_tag(alloc: Global, names: &Names, place: &str, text: &[u8]) -> Result<Selector, PolicyFault>
-    ensures value { Gives result (tag_at names.now place.now text.now) }
+fn read_tag(
+    alloc: Global,
+    names: &Names,
+    place: &str,
+    text: &[u8],
+) -> Result<Selector, Failure<PolicyFault>>
+    ensures value { Gives (λ x. x) result (tag_at names.now place.now text.now) }
 {
     match names.tag(text) {
         Some(owner) => Ok(Selector::Tagged(owner.tag.copy(alloc)?)),
@@ -34,8 +39,8 @@ fn read_tag(alloc: Global, names: &Names, place: &str, text: &[u8]) -> Result<Se
     }
 }
 
-fn read_automatic(alloc: Global, place: &str, text: &[u8]) -> Result<Selector, PolicyFault>
-    ensures value { Gives result (automatic_at place.now text.now) }
+fn read_automatic(alloc: Global, place: &str, text: &[u8]) -> Result<Selector, Failure<PolicyFault>>
+    ensures value { Gives (λ x. x) result (automatic_at place.now text.now) }
 {
     if text == b"autogroup:member".as_slice() {
         Ok(Selector::Member)
@@ -55,8 +60,8 @@ fn read_host(
     names: &Names,
     place: &str,
     text: &[u8],
-) -> Result<Selector, PolicyFault>
-    ensures value { Gives result (host_at names.now place.now text.now) }
+) -> Result<Selector, Failure<PolicyFault>>
+    ensures value { Gives (λ x. x) result (host_at names.now place.now text.now) }
 {
     if !is_name(text) {
         return refused(alloc, PolicyCode::BadSelector, place);
@@ -72,8 +77,8 @@ fn read_plain(
     names: &Names,
     place: &str,
     text: &[u8],
-) -> Result<Selector, PolicyFault>
-    ensures value { Gives result (plain_at names.now place.now text.now) }
+) -> Result<Selector, Failure<PolicyFault>>
+    ensures value { Gives (λ x. x) result (plain_at names.now place.now text.now) }
 {
     if let Some(login) = Login::read(alloc, text)? {
         return Ok(Selector::User(login));
@@ -91,8 +96,8 @@ pub fn read_selector(
     names: &Names,
     place: &str,
     text: &[u8],
-) -> Result<Selector, PolicyFault>
-    ensures value { Gives result (selector_at names.now place.now text.now) }
+) -> Result<Selector, Failure<PolicyFault>>
+    ensures value { Gives (λ x. x) result (selector_at names.now place.now text.now) }
 {
     if text == b"*".as_slice() {
         Ok(Selector::All)
@@ -122,8 +127,8 @@ pub fn read_source(
     names: &Names,
     place: &str,
     text: &[u8],
-) -> Result<Selector, PolicyFault>
-    ensures value { Gives result (source_at names.now place.now text.now) }
+) -> Result<Selector, Failure<PolicyFault>>
+    ensures value { Gives (λ x. x) result (source_at names.now place.now text.now) }
 {
     let selector = read_selector(alloc, names, place, text)?;
     if !is_source(&selector) {
@@ -148,8 +153,8 @@ pub fn read_approver(
     names: &Names,
     place: &str,
     text: &[u8],
-) -> Result<Selector, PolicyFault>
-    ensures value { Gives result (approver_at names.now place.now text.now) }
+) -> Result<Selector, Failure<PolicyFault>>
+    ensures value { Gives (λ x. x) result (approver_at names.now place.now text.now) }
 {
     let selector = read_selector(alloc, names, place, text)?;
     if !is_approver(&selector) {
@@ -182,8 +187,8 @@ pub fn read_test_end(
     names: &Names,
     place: &str,
     text: &[u8],
-) -> Result<Selector, PolicyFault>
-    ensures value { Gives result (test_end_at names.now place.now text.now) }
+) -> Result<Selector, Failure<PolicyFault>>
+    ensures value { Gives (λ x. x) result (test_end_at names.now place.now text.now) }
 {
     let selector = read_selector(alloc, names, place, text)?;
     if !is_test_end(text, &selector) {

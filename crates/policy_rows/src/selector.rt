@@ -1,7 +1,8 @@
 //! Selectors.
 
 use net_addr::Prefix;
-use tail_base::{Login, Tag, Text};
+use std::alloc::Global;
+use tail_base::{Duplicate, Login, NoMemory, Tag, Text};
 
 /// What a policy names as a source or a destination.
 #[derive(Drop)]
@@ -25,4 +26,20 @@ pub enum Selector {
     Internet,
     /// `autogroup:self`: the source's own machines.
     OwnDevices,
+}
+
+impl Duplicate for Selector {
+    fn copy(&self, alloc: Global) -> Result<Self, NoMemory> {
+        match self {
+            Selector::All => Ok(Selector::All),
+            Selector::Net(net) => Ok(Selector::Net(*net)),
+            Selector::User(login) => Ok(Selector::User(login.copy(alloc)?)),
+            Selector::Group(name) => Ok(Selector::Group(name.copy(alloc)?)),
+            Selector::Tagged(tag) => Ok(Selector::Tagged(tag.copy(alloc)?)),
+            Selector::Member => Ok(Selector::Member),
+            Selector::AllTagged => Ok(Selector::AllTagged),
+            Selector::Internet => Ok(Selector::Internet),
+            Selector::OwnDevices => Ok(Selector::OwnDevices),
+        }
+    }
 }

@@ -1,6 +1,7 @@
 //! Owners of tags.
 
-use tail_base::{Items, Login, Tag, Text};
+use std::alloc::Global;
+use tail_base::{Duplicate, Items, Login, NoMemory, Tag, Text};
 
 /// A tag, and the users and groups who may give it to their machines.
 #[derive(Drop)]
@@ -9,4 +10,13 @@ pub struct TagOwner {
     pub users: Items<Login>,
     /// The names of the groups, `group:` included.
     pub groups: Items<Text>,
+}
+
+impl Duplicate for TagOwner {
+    fn copy(&self, alloc: Global) -> Result<Self, NoMemory> {
+        let tag = self.tag.copy(alloc)?;
+        let users = self.users.copy(alloc)?;
+        let groups = self.groups.copy(alloc)?;
+        Ok(TagOwner { tag, users, groups })
+    }
 }
