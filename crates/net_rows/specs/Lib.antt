@@ -5,4 +5,3 @@ pub mod Held
 pub mod Damage
 pub mod Room
 pub mod Sound
-pub mod Settings

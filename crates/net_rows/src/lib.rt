@@ -1,10 +1,9 @@
 //! The rows of a tailnet's tables: users, keys, pending entries, machines, extra DNS records and the
-//! policy; the settings; and tables that keep their rules whatever change is made.
+//! policy; and tables that keep their rules whatever change is made.
 #![tactic(auto)]
 
 mod change;
 mod check;
-mod extra;
 mod fits;
 mod id;
 mod key;
@@ -14,7 +13,6 @@ mod machine;
 mod named;
 mod pending;
 mod rows;
-mod settings;
 mod shelf;
 mod tables;
 #[cfg(test)]
@@ -23,7 +21,6 @@ mod user;
 
 pub use change::{Change, Counters, Damage, Kind, Row, RowKey};
 pub use check::damage;
-pub use extra::Extra;
 pub use fits::TableRow;
 pub use id::HasId;
 pub use key::AuthKey;
@@ -35,7 +32,6 @@ pub use lists::Lists;
 pub use machine::Machine;
 pub use pending::Pending;
 pub use rows::Rows;
-pub use settings::{DnsSettings, DomainRoute, Settings, SettingsFields};
 pub use shelf::Shelf;
 pub use tables::Tables;
 pub use user::User;

@@ -5,7 +5,6 @@ ghost use Rattle.net_rows.specs.Rows.{put, take_out, put_all, take_all_out, afte
 ghost use Rattle.net_rows.specs.Held.{Suffices};
 
 use crate::change::{Change, Counters, Row, RowKey};
-use crate::extra::Extra;
 use crate::key::AuthKey;
 use crate::machine::Machine;
 use crate::pending::Pending;
@@ -15,6 +14,7 @@ use crate::user::User;
 use std::alloc::Global;
 use std::marker::Model;
 use tail_base::{Duplicate, Items, NoMemory, Text};
+use tailcfg::DnsExtra;
 
 /// Rows of all kinds, whatever they are, and the places that are spare for more.
 #[derive(Drop)]
@@ -23,7 +23,7 @@ pub struct Lists {
     keys: Shelf<AuthKey>,
     pending: Shelf<Pending>,
     machines: Shelf<Machine>,
-    extras: Items<Extra>,
+    extras: Items<DnsExtra>,
     policy: Option<Text>,
     next: Counters,
 }
@@ -122,7 +122,7 @@ impl Lists {
         self.machines.as_slice()
     }
 
-    pub fn extras(&self) -> &[Extra]
+    pub fn extras(&self) -> &[DnsExtra]
         ensures value { result.now ≡ self.now.rows.extras }
     {
         self.extras.as_slice()

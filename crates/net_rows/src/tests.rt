@@ -2,11 +2,8 @@ ghost use Rattle.std.specs.Prelude.{◌≡◌, [], ◌∷◌, None, IfOk};
 ghost use Rattle.net_rows.specs.Rows.{after, empty_rows};
 ghost use Rattle.net_rows.specs.Damage.{damage};
 
-use crate::{
-    AuthKey, Change, Counters, Damage, Extra, Kind, Pending, Row, Rows, Settings, Tables, User,
-};
+use crate::{AuthKey, Change, Counters, Damage, Kind, Pending, Row, Rows, Tables, User};
 use moments::Moment;
-use net_addr::Addr;
 use std::alloc::Global;
 use std::test::Fail;
 use tail_base::{Duplicate, Items, Login, MachineKey, NoMemory, NodeKey, Text};
@@ -139,27 +136,5 @@ fn a_change_is_applied(rt: HostRuntime) -> Result<(), Fail> {
     tables.apply(change);
     assert!(rt; tables.user(1).is_some() && tables.room(Kind::User));
     assert!(rt; copy.users().len() == 1 && copy.next().user == 2);
-    Ok(())
-}
-
-#[test]
-fn settings_have_defaults(rt: HostRuntime) -> Result<(), Fail> {
-    let made = Settings::with_defaults(
-        rt.alloc(),
-        text(&rt, "tail.example.org")?,
-        text(&rt, "http://127.0.0.1:8080")?,
-        text(&rt, "secret")?,
-    );
-    let settings = made.ok().ok_or("memory")?;
-    assert!(rt; settings.fields().prefix_v4.len() == 10 && settings.fields().workers == 4);
-    Ok(())
-}
-
-#[test]
-fn extra_records_are_copied(rt: HostRuntime) -> Result<(), Fail> {
-    let addr = Addr::read(b"192.168.5.9").ok_or("no address")?;
-    let name = text(&rt, "nas.tail.example")?;
-    let copy = Extra { name, addr }.copy(rt.alloc()).ok().ok_or("memory")?;
-    assert!(rt; copy.name.as_str() == "nas.tail.example" && copy.addr == addr);
     Ok(())
 }
