@@ -1,21 +1,22 @@
 -- What is known of an address that is allotted.
-use Rattle.std.proofs.Common.{◌≡◌, ◌≢◌, ◌<◌, ◌≤◌, ◌+◌, ℕ, Bool, true, false, not, ◌&&◌, ◌||◌, ◌==◌, List, Option, Some, None, nat_le, nat_lt, arith, sym, ap, ◌∙◌, refl, lit<, lit≤}
+use Rattle.std.proofs.Common.{◌≡◌, ◌≢◌, ◌<◌, ◌≤◌, ◌+◌, ◌-◌, ℕ, Bool, true, false, not, ◌&&◌, ◌||◌, ◌==◌, List, Option, Some, None, nat_le, arith, sym, ap, ◌∙◌, refl}
 use Rattle.std.specs.Prelude.{Contains}
 use Rattle.std.specs.Bool.{beq}
 use Rattle.std.specs.Cmp.{booleans_Decides}
 use Rattle.std.specs.Option.{option_map}
 use Rattle.std.proofs.lemmas.Bool.Decides.{nat_tests}
-use Rattle.net_addr.specs.Bits.{Address, Block, IsBlock, size_of}
+use Rattle.net_addr.specs.Bits.{Address, Block, size_of}
+use Rattle.net_addr.specs.Blocks.{is_within, last_of}
 use Rattle.net_rows.specs.Damage.{address_eq}
 use Rattle.net_rows.specs.Limits.{is_inside, tailnet_v4, tailnet_v6}
-use Rattle.net_rows.specs.Settings.{is_within, AreSettings}
-use Rattle.net_rows.proofs.Bools.{both, le_of, lt_of}
+use Rattle.settings.specs.Settings.{AreSettings}
+use Rattle.net_rows.proofs.Bools.{both, le_of}
 use Rattle.net_rows.proofs.Members.{list_any_member}
-use Rattle.net_rows.specs.declared.settings.SettingsFields.{SettingsFields}
+use Rattle.settings.specs.declared.fields.SettingsFields.{SettingsFields}
 use Rattle.net_rows.specs.declared.machine.Machine.{Machine}
 use Rattle.allot.specs.Addresses.{is_reserved, is_free, address_at, free_address}
 use Rattle.allot.proofs.AddressLemmas.{free_at, free_bits}
-use Rattle.allot.proofs.PrefixLemmas.{within_ends, inside_is}
+use Rattle.allot.proofs.PrefixLemmas.{inside_is}
 use Rattle.allot.proofs.SearchLemmas.{least_from-passes, least_from-within, least_from-least, least_from-none}
 
 -- The address is in the prefix, is neither its first nor its last, isn't reserved, and no machine has it.
@@ -102,33 +103,20 @@ address_none p machines h n low high =
     least_from-none (free_at p machines) (size_of p) p.base.bits (mapped_none (address_at p) (free_bits p machines) h) n low high
 
 -- the address that is found in a prefix lies in the prefix around it
-pub address_inside : (outer p : Block) (machines : List Machine) (a : Address) → IsBlock outer → IsBlock p → is_within outer p ≡ true
-    → free_address p machines ≡ Some a → is_inside outer a ≡ true
-address_inside outer p machines a o b within h =
+pub address_inside : (outer p : Block) (machines : List Machine) (a : Address) → is_within p outer ≡ true → free_address p machines ≡ Some a → is_inside outer a ≡ true
+address_inside outer p machines a within h =
     let free = address_fresh p machines a h in
-    let two = both (nat_le outer.len p.len) _ within in
-    let rest = both (beq outer.base.v6 p.base.v6 && nat_le outer.base.bits p.base.bits) (nat_lt p.base.bits (outer.base.bits + size_of outer)) two.1 in
-    let first = both (beq outer.base.v6 p.base.v6) (nat_le outer.base.bits p.base.bits) rest.0 in
-    let family : outer.base.v6 ≡ p.base.v6 = (booleans_Decides outer.base.v6 p.base.v6).0 first.0 in
-    let len : outer.len ≤ p.len = le_of _ _ two.0 in
+    let two = both (beq p.base.v6 outer.base.v6 && nat_le outer.base.bits p.base.bits) (nat_le (last_of p) (last_of outer)) within in
+    let first = both (beq p.base.v6 outer.base.v6) (nat_le outer.base.bits p.base.bits) two.0 in
+    let family : p.base.v6 ≡ outer.base.v6 = (booleans_Decides p.base.v6 outer.base.v6).0 first.0 in
     let low : outer.base.bits ≤ p.base.bits = le_of _ _ first.1 in
-    let below : p.base.bits < outer.base.bits + size_of outer = lt_of _ _ rest.1 in
-    let end : p.base.bits + size_of p ≤ outer.base.bits + size_of outer = within_ends outer p o b family len below in
-    let high : a.bits < outer.base.bits + size_of outer = omega (arith, free.before_last) in
-    inside_is outer a (family ∙ sym free.family) (omega (arith, free.after_first)) high
-
--- the prefixes of the tailnet are prefixes
-pub tailnet_v4_block : IsBlock tailnet_v4
-tailnet_v4_block = record { in_family = lit< tt; fits = lit≤ tt; aligned = refl }
-
-pub tailnet_v6_block : IsBlock tailnet_v6
-tailnet_v6_block = record { in_family = lit< tt; fits = lit≤ tt; aligned = refl }
+    let end : p.base.bits + (size_of p - 1) ≤ outer.base.bits + (size_of outer - 1) = le_of _ _ two.1 in
+    let high : a.bits < outer.base.bits + size_of outer = omega (arith, free.before_last, free.after_first) in
+    inside_is outer a (sym family ∙ sym free.family) (omega (arith, free.after_first)) high
 
 -- an address of a set prefix is the tailnet's
-pub v4_inside : (s : SettingsFields) (machines : List Machine) (a : Address) → AreSettings s → IsBlock s.prefix_v4
-    → free_address s.prefix_v4 machines ≡ Some a → is_inside tailnet_v4 a ≡ true
-v4_inside s machines a rules block h = address_inside tailnet_v4 s.prefix_v4 machines a tailnet_v4_block block rules.prefix_v4 h
+pub v4_inside : (s : SettingsFields) (machines : List Machine) (a : Address) → AreSettings s → free_address s.prefix_v4 machines ≡ Some a → is_inside tailnet_v4 a ≡ true
+v4_inside s machines a rules h = address_inside tailnet_v4 s.prefix_v4 machines a rules.prefix_v4 h
 
-pub v6_inside : (s : SettingsFields) (machines : List Machine) (a : Address) → AreSettings s → IsBlock s.prefix_v6
-    → free_address s.prefix_v6 machines ≡ Some a → is_inside tailnet_v6 a ≡ true
-v6_inside s machines a rules block h = address_inside tailnet_v6 s.prefix_v6 machines a tailnet_v6_block block rules.prefix_v6 h
+pub v6_inside : (s : SettingsFields) (machines : List Machine) (a : Address) → AreSettings s → free_address s.prefix_v6 machines ≡ Some a → is_inside tailnet_v6 a ≡ true
+v6_inside s machines a rules h = address_inside tailnet_v6 s.prefix_v6 machines a rules.prefix_v6 h

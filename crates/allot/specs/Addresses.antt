@@ -5,7 +5,7 @@ use Rattle.std.specs.Option.{option_map}
 use Rattle.net_addr.specs.Bits.{Address, Block, size_of}
 use Rattle.net_rows.specs.Damage.{address_eq}
 use Rattle.net_rows.specs.declared.machine.Machine.{Machine}
-use Rattle.net_rows.specs.declared.settings.SettingsFields.{SettingsFields}
+use Rattle.settings.specs.declared.fields.SettingsFields.{SettingsFields}
 
 -- fd7a:115c:a1e0::53; 100.100.100.100, and 100.115.92.0 to 100.115.93.255
 abbrev pub is_reserved : Address → Bool

@@ -4,7 +4,8 @@ ghost use Rattle.net_addr.specs.Bits.{family_bits, family_size, size_of};
 ghost use Rattle.allot.specs.Addresses.{is_reserved, has_address, is_free, free_address, set_prefix};
 
 use net_addr::{Addr, Prefix};
-use net_rows::{Machine, Settings, Tables};
+use net_rows::{Machine, Tables};
+use settings::Settings;
 
 /// 100.100.100.100, where clients answer MagicDNS.
 const SERVICE_V4: u128 = 0x6464_6464;
