@@ -1,15 +1,18 @@
 //! The settings file.
 ghost use Rattle.std.specs.Prelude.{◌≡◌, IfOk, unwrap_or};
 ghost use Rattle.toml.specs.View.{table_view, view};
-ghost use Rattle.net_rows.specs.Limits.{tailnet_v4, tailnet_v6};
 ghost use Rattle.tail_words.specs.SettingsText.{Gives, IsRead, checked, entry_checked, fields_of, required, settings_at, settings_of, text_at};
 
 use crate::dns::{check_dns, dns_of};
 use crate::fault::{SettingsFault, refused};
 use crate::rule::rule_of;
 use crate::table::{broken_by, number_at, prefix_at, text_at};
-use net_addr::{Addr, Prefix};
-use net_rows::{Settings, SettingsFields};
+use net_addr::{tailnet_v4, tailnet_v6};
+use settings::{
+    CONNECTIONS_DEFAULT, DATABASE_DEFAULT, EPHEMERAL_SECONDS_DEFAULT, KEY_SECONDS_DEFAULT,
+    LISTEN_DEFAULT, PENDING_SECONDS_DEFAULT, POLL_TURNS_DEFAULT, REQUESTS_DEFAULT, Settings,
+    SettingsFields, WORKERS_DEFAULT,
+};
 use std::alloc::Global;
 use tail_base::{NoMemory, Text};
 use toml::{Table, Value};
@@ -61,23 +64,6 @@ fn text_or(alloc: Global, table: &Table, key: &str, default: &str) -> Result<Tex
     }
 }
 
-/// 100.64.0.0/10, the addresses of carrier-grade NAT (RFC 6598 section 7).
-fn tailnet_v4() -> Prefix
-    ensures value { result ≡ tailnet_v4 }
-{
-    Prefix::new(Addr::new(false, 0x6440_0000), 10)
-}
-
-/// fd7a:115c:a1e0::/48, a prefix of unique local addresses (RFC 4193).
-fn tailnet_v6() -> Prefix
-    ensures value { result ≡ tailnet_v6 }
-{
-    Prefix::new(
-        Addr::new(true, 0xfd7a_115c_a1e0_0000_0000_0000_0000_0000),
-        48,
-    )
-}
-
 /// The settings of a table that was checked, with these texts.
 fn fields_of(
     alloc: Global,
@@ -89,18 +75,20 @@ fn fields_of(
     ensures value { IfOk result (λ made. made ≡ fields_of base_domain server_url token (table_view table.now)) }
 {
     Ok(SettingsFields {
-        connections: number_at(table, "connections").unwrap_or(0),
-        database: text_or(alloc, table, "database", ":memory:")?,
+        connections: number_at(table, "connections").unwrap_or(CONNECTIONS_DEFAULT),
+        database: text_or(alloc, table, "database", DATABASE_DEFAULT)?,
         dns: dns_of(alloc, &base_domain, table)?,
-        ephemeral_seconds: number_at(table, "ephemeral_seconds").unwrap_or(1800),
-        key_seconds: number_at(table, "key_seconds").unwrap_or(0),
-        listen: text_or(alloc, table, "listen", "127.0.0.1:8080")?,
-        pending_seconds: number_at(table, "pending_seconds").unwrap_or(3600),
-        poll_turns: number_at(table, "poll_turns").unwrap_or(1000),
+        ephemeral_seconds: number_at(table, "ephemeral_seconds").unwrap_or(
+            EPHEMERAL_SECONDS_DEFAULT,
+        ),
+        key_seconds: number_at(table, "key_seconds").unwrap_or(KEY_SECONDS_DEFAULT),
+        listen: text_or(alloc, table, "listen", LISTEN_DEFAULT)?,
+        pending_seconds: number_at(table, "pending_seconds").unwrap_or(PENDING_SECONDS_DEFAULT),
+        poll_turns: number_at(table, "poll_turns").unwrap_or(POLL_TURNS_DEFAULT),
         prefix_v4: prefix_at(table, "prefix_v4").unwrap_or(tailnet_v4()),
         prefix_v6: prefix_at(table, "prefix_v6").unwrap_or(tailnet_v6()),
-        requests: number_at(table, "requests").unwrap_or(100_000),
-        workers: number_at(table, "workers").unwrap_or(4),
+        requests: number_at(table, "requests").unwrap_or(REQUESTS_DEFAULT),
+        workers: number_at(table, "workers").unwrap_or(WORKERS_DEFAULT),
         base_domain,
         server_url,
         token,
@@ -120,7 +108,7 @@ fn settings_from(alloc: Global, table: &Table) -> Result<Settings, SettingsFault
 
 /// The settings that a file gives, a TOML document. The keys `base_domain` (labels joined by dots,
 /// up to 180 bytes), `server_url` and `token` (1 to 255 visible ASCII bytes each) have to be there.
-/// These have defaults:
+/// A domain is labels joined by dots, up to 253 bytes. These keys have defaults:
 ///
 /// - `connections` (0 to 1000000000, by default 0), `key_seconds` (the same);
 /// - `ephemeral_seconds` (1 to 1000000000, by default 1800), `pending_seconds` (3600), `poll_turns`

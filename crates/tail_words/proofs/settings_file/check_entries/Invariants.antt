@@ -1,7 +1,7 @@
 use Rattle.std.proofs.Common.{◌≡◌}
 use Rattle.toml.specs.View.{members_view, table_view}
 use Rattle.tail_words.specs.SettingsText.{checked}
-use Rattle.tail_words.proofs.settings.check_entries.Given as goal
+use Rattle.tail_words.proofs.settings_file.check_entries.Given as goal
 
 -- what is left to check decides
 abbrev pub invariant-loop-key : goal.invariant-loop-key

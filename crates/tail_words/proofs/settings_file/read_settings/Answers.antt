@@ -9,7 +9,7 @@ use Rattle.tail_words.specs.declared.fault.SettingsFault.TheVariants.{Refused}
 use Rattle.tail_words.specs.SettingsText.{settings_at, settings_of, table_of}
 use Rattle.tail_base.specs.Steps.{◌>>=◌, or_fault}
 use Rattle.tail_words.proofs.FaultLemmas.{fails_from, read_from}
-use Rattle.tail_words.proofs.settings.read_settings.Goals as goal
+use Rattle.tail_words.proofs.settings_file.read_settings.Goals as goal
 
 table_some : (text : List ℕ) (table : Members) → IsUtf8 text → parse_document text ≡ Some table → table_of text ≡ Some table
 table_some text table utf8 same = ap (λ b. cond b (parse_document text) None) (is_utf8-from_IsUtf8 text utf8) ∙ same

@@ -2,7 +2,7 @@ use Rattle.std.proofs.Common.{ap, sym}
 use Rattle.tail_words.specs.declared.fault.SettingsFault.TheVariants.{Refused}
 use Rattle.tail_base.specs.Steps.{or_fault}
 use Rattle.tail_words.proofs.FaultLemmas.{fails_from}
-use Rattle.tail_words.proofs.settings.required.Goals as goal
+use Rattle.tail_words.proofs.settings_file.required.Goals as goal
 
 pub returns-in-None : goal.returns-in-None
 returns-in-None c =

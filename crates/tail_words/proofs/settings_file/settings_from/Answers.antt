@@ -1,9 +1,9 @@
 use Rattle.std.proofs.Common.{sym, subst}
-use Rattle.net_rows.specs.Settings.{AreSettings}
+use Rattle.settings.specs.Settings.{AreSettings}
 use Rattle.toml.specs.Data.{Members}
 use Rattle.toml.specs.View.{table_view}
 use Rattle.tail_words.proofs.FieldLemmas.{base_domain_in, fields_fit, server_url_in, token_in}
-use Rattle.tail_words.proofs.settings.settings_from.Goals as goal
+use Rattle.tail_words.proofs.settings_file.settings_from.Goals as goal
 
 pub new-requires : goal.new-requires
 new-requires c =
