@@ -1,7 +1,7 @@
 -- What asks need, and how long what they hand in may be.
 use Rattle.std.specs.Prelude.{◌≤◌, Bool, true, false, IfSome, length, ◌==◌}
 use Rattle.net_rows.specs.Limits.{asked_tag_limit, tag_limit}
-use Rattle.wire_json.specs.Short.{IsShortForm, IsShortUpdate}
+use Rattle.tailcfg.specs.Short.{IsShortForm, IsShortUpdate}
 use Rattle.desk_state.specs.declared.ask.Ask.{Ask}
 use Rattle.desk_state.specs.declared.ask.Ask.TheVariants.{Register, Update, OneMap, AddKey, SetTags}
 
