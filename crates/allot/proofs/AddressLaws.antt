@@ -7,18 +7,17 @@ use Rattle.std.proofs.Math.Pow.{pow_pos}
 use Rattle.std.proofs.lemmas.Bool.{and_cases, and_from, and_parts, both_ways, eq-eqb, leb-true, ltb-true, not-false, not-true, or_parts}
 use Rattle.tail_base.proofs.Bools.{beq-from, beq-true}
 use Rattle.net_addr.specs.Bits.{Address, Block, IsBlock, size_of}
-use Rattle.net_addr.specs.Blocks.{holds}
-use Rattle.net_addr.proofs.BlockLemmas.{holds_from, holds_parts}
+use Rattle.net_addr.specs.Blocks.{holds, is_within}
+use Rattle.net_addr.proofs.BlockLemmas.{holds_from, holds_parts, within_is}
 use Rattle.net_addr.proofs.PartLemmas.{map_some}
 use Rattle.net_rows.specs.Damage.{address_eq}
-use Rattle.net_rows.specs.Limits.{is_inside, tailnet_v4, tailnet_v6}
-use Rattle.net_rows.specs.Settings.{is_within, AreSettings}
+use Rattle.net_addr.specs.Tailnet.{tailnet_v4, tailnet_v6}
+use Rattle.settings.specs.Settings.{AreSettings}
 use Rattle.net_rows.proofs.Members.{list_any_member}
-use Rattle.net_rows.specs.declared.settings.SettingsFields.{SettingsFields}
+use Rattle.settings.specs.declared.fields.SettingsFields.{SettingsFields}
 use Rattle.net_rows.specs.declared.machine.Machine.{Machine}
 use Rattle.allot.specs.Addresses.{IsFree, address_at, free_address, has_address, is_free, may_be_given}
 use Rattle.allot.proofs.AddressLemmas.{free_at, free_bits}
-use Rattle.allot.proofs.PrefixLemmas.{within_ends, inside_is}
 use Rattle.allot.proofs.SearchLemmas.{least_from-passes, least_from-within, least_from-least, least_from-none}
 
 mapped_none : {A B : Type 0} (f : A → B) (o : Option A) → option_map f o ≡ None → o ≡ None
@@ -99,34 +98,12 @@ pub none_is : (p : Block) (machines : List Machine) → (free_address p machines
 none_is p machines = (address_none p machines, found_or_none p machines (free_address p machines) refl)
 
 -- the address that is found in a prefix lies in the prefix around it
-pub address_inside : (outer p : Block) (machines : List Machine) (a : Address) → IsBlock outer → IsBlock p → is_within outer p ≡ true
-    → free_address p machines ≡ Some a → is_inside outer a ≡ true
-address_inside outer p machines a o b within h =
-    let free = address_fresh p machines a h in
-    let two = and_parts (nat_le outer.len p.len) _ within in
-    let rest = and_parts (beq outer.base.v6 p.base.v6 && nat_le outer.base.bits p.base.bits) (nat_lt p.base.bits (outer.base.bits + size_of outer)) two.1 in
-    let first = and_parts (beq outer.base.v6 p.base.v6) (nat_le outer.base.bits p.base.bits) rest.0 in
-    let family : outer.base.v6 ≡ p.base.v6 = beq-true _ _ first.0 in
-    let len : outer.len ≤ p.len = leb-true _ _ two.0 in
-    let low : outer.base.bits ≤ p.base.bits = leb-true _ _ first.1 in
-    let below : p.base.bits < outer.base.bits + size_of outer = ltb-true _ _ rest.1 in
-    let end : p.base.bits + size_of p ≤ outer.base.bits + size_of outer = within_ends outer p o b family len below in
-    let ends = holds_parts p a free.held in
-    let some : 0 < size_of p = pow_pos _ in
-    inside_is outer a (family ∙ ends.0) (omega (arith, ends.1)) (omega (arith, ends.2))
-
--- the prefixes of the tailnet are prefixes
-pub tailnet_v4_block : IsBlock tailnet_v4
-tailnet_v4_block = record { in_family = lit< tt; fits = lit≤ tt; aligned = refl }
-
-pub tailnet_v6_block : IsBlock tailnet_v6
-tailnet_v6_block = record { in_family = lit< tt; fits = lit≤ tt; aligned = refl }
+address_inside : (outer p : Block) (machines : List Machine) (a : Address) → is_within p outer ≡ true → free_address p machines ≡ Some a → holds outer a ≡ true
+address_inside outer p machines a within h = (within_is p outer).0 within a (address_fresh p machines a h).held
 
 -- an address of a set prefix is the tailnet's
-pub v4_inside : (s : SettingsFields) (machines : List Machine) (a : Address) → AreSettings s → IsBlock s.prefix_v4
-    → free_address s.prefix_v4 machines ≡ Some a → is_inside tailnet_v4 a ≡ true
-v4_inside s machines a rules block h = address_inside tailnet_v4 s.prefix_v4 machines a tailnet_v4_block block rules.prefix_v4 h
+pub v4_inside : (s : SettingsFields) (machines : List Machine) (a : Address) → AreSettings s → free_address s.prefix_v4 machines ≡ Some a → holds tailnet_v4 a ≡ true
+v4_inside s machines a rules h = address_inside tailnet_v4 s.prefix_v4 machines a rules.prefix_v4 h
 
-pub v6_inside : (s : SettingsFields) (machines : List Machine) (a : Address) → AreSettings s → IsBlock s.prefix_v6
-    → free_address s.prefix_v6 machines ≡ Some a → is_inside tailnet_v6 a ≡ true
-v6_inside s machines a rules block h = address_inside tailnet_v6 s.prefix_v6 machines a tailnet_v6_block block rules.prefix_v6 h
+pub v6_inside : (s : SettingsFields) (machines : List Machine) (a : Address) → AreSettings s → free_address s.prefix_v6 machines ≡ Some a → holds tailnet_v6 a ≡ true
+v6_inside s machines a rules h = address_inside tailnet_v6 s.prefix_v6 machines a rules.prefix_v6 h

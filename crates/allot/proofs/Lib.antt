@@ -1,5 +1,4 @@
 pub mod TableLemmas
-pub mod PrefixLemmas
 pub mod SearchLemmas
 pub mod AddressLemmas
 pub mod AddressLaws

@@ -5,7 +5,7 @@ use Rattle.std.specs.Str.{bytes_eq}
 use Rattle.tail_base.specs.Labels.{is_label, label_of_host, numbered_label}
 use Rattle.tail_base.proofs.NumberLemmas.{numbered_is_label}
 use Rattle.tail_base.proofs.HostLemmas.{label_of_host_is_label}
-use Rattle.net_rows.specs.Limits.{machine_limit}
+use Rattle.net_rows.specs.declared.limits.TheConstants.{MACHINE_LIMIT}
 use Rattle.net_rows.specs.declared.machine.Machine.{Machine}
 use Rattle.allot.specs.Addresses.{least_from}
 use Rattle.allot.specs.Names.{has_name, free_number, free_label, free_name}
@@ -36,13 +36,13 @@ found_number machines base n h =
       least = λ k low high. not-false _ (least_from-least test (length machines + 1) 1 n h k low high);
     }
 
-some_number : (machines : List Machine) (base : List ℕ) → length machines ≤ machine_limit
+some_number : (machines : List Machine) (base : List ℕ) → length machines ≤ MACHINE_LIMIT
     → (found : Option ℕ) → found ≡ least_from (is_free_number machines base) (length machines + 1) 1 → IsFreeNumber machines base (unwrap_or found 0)
 some_number machines base few None is = absurd (number_found machines base few (sym is))
 some_number machines base few (Some n) is = found_number machines base n (sym is)
 
 -- the least free number is free, and each smaller one is taken
-pub number_free : (machines : List Machine) (base : List ℕ) → length machines ≤ machine_limit → IsFreeNumber machines base (free_number machines base)
+pub number_free : (machines : List Machine) (base : List ℕ) → length machines ≤ MACHINE_LIMIT → IsFreeNumber machines base (free_number machines base)
 number_free machines base few = some_number machines base few _ refl
 
 not_named : (machines : List Machine) (name : List ℕ) → has_name machines name ≡ false → (m : Machine) → Contains machines m → m.name ≢ name
@@ -51,7 +51,7 @@ not_named machines name none m inside same =
     both_ways _ differs (bytes_eq-from m.name name same)
 
 -- no machine has the label that is given
-pub label_untaken : (machines : List Machine) (base : List ℕ) → length machines ≤ machine_limit → has_name machines (free_label machines base) ≡ false
+pub label_untaken : (machines : List Machine) (base : List ℕ) → length machines ≤ MACHINE_LIMIT → has_name machines (free_label machines base) ≡ false
 label_untaken machines base few =
     elim (cases_Bool (has_name machines base)) [
       | inl taken ↦ rw taken (number_free machines base few).free
@@ -59,12 +59,12 @@ label_untaken machines base few =
     ]
 
 -- no machine has the name that is given
-pub name_fresh : (machines : List Machine) (host : List ℕ) → length machines ≤ machine_limit
+pub name_fresh : (machines : List Machine) (host : List ℕ) → length machines ≤ MACHINE_LIMIT
     → (m : Machine) → Contains machines m → m.name ≢ free_name machines host
 name_fresh machines host few = not_named machines (free_name machines host) (label_untaken machines (label_of_host host) few)
 
 -- a label with a number is a label
-pub free_label_is_label : (machines : List Machine) (base : List ℕ) → length machines ≤ machine_limit → is_label base ≡ true → is_label (free_label machines base) ≡ true
+pub free_label_is_label : (machines : List Machine) (base : List ℕ) → length machines ≤ MACHINE_LIMIT → is_label base ≡ true → is_label (free_label machines base) ≡ true
 free_label_is_label machines base few label =
     elim (cases_Bool (has_name machines base)) [
       | inl taken ↦
@@ -75,7 +75,7 @@ free_label_is_label machines base few label =
     ]
 
 -- the name that is given is a label
-pub name_is_label : (machines : List Machine) (host : List ℕ) → length machines ≤ machine_limit → is_label (free_name machines host) ≡ true
+pub name_is_label : (machines : List Machine) (host : List ℕ) → length machines ≤ MACHINE_LIMIT → is_label (free_name machines host) ≡ true
 name_is_label machines host few = free_label_is_label machines (label_of_host host) few (label_of_host_is_label host)
 
 -- where the bare name is free, it is given
@@ -83,7 +83,7 @@ pub name_bare : (machines : List Machine) (host : List ℕ) → has_name machine
 name_bare machines host free = rw free refl
 
 -- else the name with the least number that is free is given
-pub name_numbered : (machines : List Machine) (host : List ℕ) → length machines ≤ machine_limit → has_name machines (label_of_host host) ≡ true
+pub name_numbered : (machines : List Machine) (host : List ℕ) → length machines ≤ MACHINE_LIMIT → has_name machines (label_of_host host) ≡ true
     → (n : ℕ) × (1 ≤ n) × (free_name machines host ≡ numbered_label (label_of_host host) n)
     × ((k : ℕ) → 1 ≤ k → k < n → has_name machines (numbered_label (label_of_host host) k) ≡ true)
 name_numbered machines host few taken =

@@ -5,7 +5,7 @@ use Rattle.std.specs.Str.{bytes_eq}
 use Rattle.std.proofs.lemmas.Bool.{not-false}
 use Rattle.tail_base.specs.Labels.{numbered_label}
 use Rattle.tail_base.proofs.NumberLemmas.{numbered_label-injective}
-use Rattle.net_rows.specs.Limits.{machine_limit}
+use Rattle.net_rows.specs.declared.limits.TheConstants.{MACHINE_LIMIT}
 use Rattle.net_rows.specs.declared.machine.Machine.{Machine}
 use Rattle.allot.specs.Addresses.{least_from}
 use Rattle.allot.specs.Names.{has_name, free_number}
@@ -44,7 +44,7 @@ pub numbers_apart : (base : List ℕ) → AreApart (numbered_label base) (2 ^ 32
 numbers_apart base = record { apart = numbered_label-injective base }
 
 -- a number is found
-pub number_found : (machines : List Machine) (base : List ℕ) → length machines ≤ machine_limit
+pub number_found : (machines : List Machine) (base : List ℕ) → length machines ≤ MACHINE_LIMIT
     → least_from (is_free_number machines base) (length machines + 1) 1 ≡ None → ⊥
 number_found machines base few none =
     let taken : (k : ℕ) → 1 ≤ k → k < 1 + (length (names_of machines) + 1) → is_member bytes_eq (names_of machines) (numbered_label base k) ≡ true =

@@ -7,7 +7,7 @@ use Rattle.net_addr.specs.Blocks.{holds, last_of}
 use Rattle.net_rows.specs.Damage.{address_eq}
 use Rattle.net_rows.specs.declared.machine.Machine.{Machine}
 use Rattle.allot.specs.declared.addresses.TheConstants.{CHROMEOS_FIRST, CHROMEOS_LAST, SERVICE_V4, SERVICE_V6}
-use Rattle.net_rows.specs.declared.settings.SettingsFields.{SettingsFields}
+use Rattle.settings.specs.declared.fields.SettingsFields.{SettingsFields}
 
 -- the addresses where clients answer MagicDNS, and those that ChromeOS gives its virtual machines
 abbrev pub is_reserved : Address → Bool

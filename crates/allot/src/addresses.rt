@@ -3,7 +3,8 @@ ghost use Rattle.std.specs.Prelude.{◌≡◌};
 ghost use Rattle.allot.specs.Addresses.{free_address, has_address, is_free, is_reserved, may_be_given, set_prefix};
 
 use net_addr::{Addr, Prefix};
-use net_rows::{Machine, Settings, Tables};
+use net_rows::{Machine, Tables};
+use settings::Settings;
 
 /// 100.100.100.100, where clients answer MagicDNS.
 pub const SERVICE_V4: u128 = 0x6464_6464;

@@ -2,7 +2,7 @@
 ghost use Rattle.std.specs.Prelude.{◌≡◌, ◌≢◌, ◌↔◌, ◌<◌, ◌≤◌, ℕ, List, Contains, Some, None, length, true, false};
 ghost use Rattle.net_addr.specs.Bits.{Address, Block};
 ghost use Rattle.net_addr.specs.Blocks.{holds};
-ghost use Rattle.net_rows.specs.Limits.{machine_limit};
+ghost use Rattle.net_rows.specs.declared.limits.TheConstants.{MACHINE_LIMIT};
 ghost use Rattle.net_rows.specs.declared.machine.Machine.{Machine};
 ghost use Rattle.tail_base.specs.Labels.{is_label, label_of_host, numbered_label};
 ghost use Rattle.allot.specs.Addresses.{IsFree, free_address, has_address, may_be_given};
@@ -24,14 +24,14 @@ pub fn the_least_free_address_is_given()
 /// The name that is given is a label that no machine has: the host's own label if that is free, else
 /// with the least number from 1 on that is free, so that machines have it with all smaller numbers.
 pub fn the_least_free_name_is_given()
-    ensures fresh { (machines : List Machine) (host : List ℕ) → length machines ≤ machine_limit
+    ensures fresh { (machines : List Machine) (host : List ℕ) → length machines ≤ MACHINE_LIMIT
         → (m : Machine) → Contains machines m → m.name ≢ free_name machines host }
-    ensures label { (machines : List Machine) (host : List ℕ) → length machines ≤ machine_limit
+    ensures label { (machines : List Machine) (host : List ℕ) → length machines ≤ MACHINE_LIMIT
         → is_label (free_name machines host) ≡ true }
     ensures bare { (machines : List Machine) (host : List ℕ)
         → has_name machines (label_of_host host) ≡ false
         → free_name machines host ≡ label_of_host host }
-    ensures numbered { (machines : List Machine) (host : List ℕ) → length machines ≤ machine_limit
+    ensures numbered { (machines : List Machine) (host : List ℕ) → length machines ≤ MACHINE_LIMIT
         → has_name machines (label_of_host host) ≡ true
         → (n : ℕ) × (1 ≤ n) × (free_name machines host ≡ numbered_label (label_of_host host) n)
         × ((k : ℕ) → 1 ≤ k → k < n

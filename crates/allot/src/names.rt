@@ -1,7 +1,7 @@
 //! Names for new machines.
 ghost use Rattle.std.specs.Prelude.{◌≡◌, ◌≤◌, length, IfOk};
 ghost use Rattle.tail_base.specs.Labels.{numbered_label};
-ghost use Rattle.net_rows.specs.Limits.{machine_limit};
+ghost use Rattle.net_rows.specs.declared.limits.TheConstants.{MACHINE_LIMIT};
 ghost use Rattle.allot.specs.Names.{has_name, free_number, free_label, free_name};
 
 use net_rows::{Machine, Tables};
@@ -18,7 +18,7 @@ fn has_name(machines: &[Machine], name: &Label) -> bool
 
 /// The label with the least number from 1 on with which no machine has it.
 fn numbered(alloc: Global, machines: &[Machine], base: &Label) -> Result<Label, NoMemory>
-    requires few { length machines.now ≤ machine_limit }
+    requires few { length machines.now ≤ MACHINE_LIMIT }
     ensures value { IfOk result
         (λ name. name ≡ numbered_label base.now (free_number machines.now base.now)) }
 {
@@ -38,7 +38,7 @@ pub(crate) fn free_label(
     machines: &[Machine],
     base: Label,
 ) -> Result<Label, NoMemory>
-    requires few { length machines.now ≤ machine_limit }
+    requires few { length machines.now ≤ MACHINE_LIMIT }
     ensures value { IfOk result (λ name. name ≡ free_label machines.now base) }
 {
     if has_name(machines, &base) {

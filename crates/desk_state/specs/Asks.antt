@@ -1,7 +1,8 @@
 -- What asks need, and how long what they hand in may be.
 use Rattle.std.specs.Prelude.{◌≤◌, Bool, true, false, IfSome, length, ◌==◌}
-use Rattle.net_rows.specs.Limits.{asked_tag_limit, tag_limit}
-use Rattle.wire_json.specs.Short.{IsShortForm, IsShortUpdate}
+use Rattle.tailcfg.specs.declared.limits.TheConstants.{ASKED_TAG_LIMIT}
+use Rattle.net_rows.specs.declared.limits.TheConstants.{TAG_LIMIT}
+use Rattle.tailcfg.specs.Short.{IsShortForm, IsShortUpdate}
 use Rattle.desk_state.specs.declared.ask.Ask.{Ask}
 use Rattle.desk_state.specs.declared.ask.Ask.TheVariants.{Register, Update, OneMap, AddKey, SetTags}
 
@@ -16,6 +17,6 @@ abbrev pub IsShort : Ask → Type 0
 IsShort (Register machine form) = IsShortForm form
 IsShort (Update machine node update) = IsShortUpdate update
 IsShort (OneMap machine node update) = IfSome update IsShortUpdate
-IsShort (AddKey form) = length form.tags ≤ asked_tag_limit
-IsShort (SetTags id tags) = length tags ≤ tag_limit
+IsShort (AddKey form) = length form.tags ≤ ASKED_TAG_LIMIT
+IsShort (SetTags id tags) = length tags ≤ TAG_LIMIT
 IsShort ask = Unit {0}

@@ -4,7 +4,5 @@ pub mod Lines
 pub mod Rulings
 pub mod State
 pub mod Steps
-pub mod TagPlaces
-pub mod Tags
 pub mod Texts
 pub mod Users

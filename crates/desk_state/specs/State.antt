@@ -9,7 +9,7 @@ use Rattle.net_rows.specs.declared.change.RowKey.{RowKey}
 use Rattle.net_rows.specs.declared.change.RowKey.TheVariants as gone
 use Rattle.net_rows.specs.declared.machine.Machine.{Machine}
 use Rattle.net_rows.specs.declared.pending.Pending.{Pending}
-use Rattle.net_rows.specs.declared.settings.SettingsFields.{SettingsFields}
+use Rattle.settings.specs.declared.fields.SettingsFields.{SettingsFields}
 use Rattle.desk_state.specs.declared.presence.Presence.{Presence}
 use Rattle.desk_state.specs.declared.presence.Presence.TheVariants.{Online, OfflineSince}
 use Rattle.desk_state.specs.declared.presence.MachinePresence.{MachinePresence}

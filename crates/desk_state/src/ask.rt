@@ -4,7 +4,7 @@ ghost use Rattle.desk_state.specs.Asks.{needs_words as needs};
 
 use moments::Moment;
 use tail_base::{Items, MachineKey, NodeKey, Tag, Text};
-use wire_json::{Register, Update};
+use tailcfg::{Register, Update};
 
 /// What an operator asks of a new pre-auth key.
 #[derive(Drop)]

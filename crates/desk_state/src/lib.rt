@@ -9,7 +9,6 @@ mod life;
 mod lines;
 mod presence;
 mod reply;
-mod tags;
 mod texts;
 mod users;
 
@@ -20,6 +19,5 @@ pub use life::{Snapshot, is_ahead, is_live, is_live_with, is_online, is_overdue,
 pub use lines::{KeyLine, NodeLine, key_line, login_of, node_line, offline_line};
 pub use presence::{MachinePresence, Presence};
 pub use reply::{Answer, Refusal, Reply, Scarce};
-pub use tags::sorted_once;
 pub use texts::row_text;
 pub use users::{tags_defined, user_named};

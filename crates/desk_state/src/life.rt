@@ -4,7 +4,8 @@ ghost use Rattle.desk_state.specs.State.{State, is_ahead, is_live, is_live_with,
 
 use crate::presence::{MachinePresence, Presence};
 use moments::Moment;
-use net_rows::{Machine, Pending, Settings, SettingsFields, Tables};
+use net_rows::{Machine, Pending, Tables};
+use settings::{Settings, SettingsFields};
 use std::marker::Model;
 
 /// The state at an event's moment, as its decision sees it.

@@ -2,7 +2,7 @@
 use crate::lines::{KeyLine, NodeLine};
 use net_rows::{Pending, User};
 use tail_base::{Items, Text};
-use wire_json::{Profile, Response};
+use tailcfg::{Profile, Response};
 
 /// What there may be no room for.
 #[derive(Clone, Copy, Debug, PartialEq, Eq, Drop)]

@@ -2,7 +2,7 @@
 use Rattle.std.proofs.Common.{◌≡◌, ◌∙◌, ◌++◌, ◌∷◌, [], Bool, inl, inr, List, sym, append_assoc, if◌then◌else◌}
 use Rattle.std.proofs.lemmas.List.{append-nil}
 use Rattle.std.specs.Prelude.{map, filter}
-use Rattle.net_rows.proofs.Bools.{truth}
+use Rattle.std.proofs.lemmas.Bool.{cases_Bool}
 
 -- what is gathered of a list, behind what was gathered before
 abbrev pub gathered : {A B : Type 0} → (A → Bool) → (A → B) → List B → List A → List B
@@ -13,7 +13,7 @@ gathered test f out (x ∷ xs) = gathered test f (out ++ (if test x then f x ∷
 pub next_taken : {A B : Type 0} (test : A → Bool) (f : A → B) (out : List B) (x : A) (xs : List A)
     → (out ++ (if test x then f x ∷ [] else [])) ++ map f (filter test xs) ≡ out ++ map f (filter test (x ∷ xs))
 next_taken test f out x xs =
-    elim (truth (test x)) [
+    elim (cases_Bool (test x)) [
       | inl passes ↦ rw passes (append_assoc out (f x ∷ []) (map f (filter test xs)))
       | inr fails ↦ rw fails (append_assoc out [] (map f (filter test xs)))
     ]

@@ -3,9 +3,9 @@ use Rattle.std.specs.Prelude.{List, [], ◌∷◌, map}
 use Rattle.net_addr.specs.Bits.{Block}
 use Rattle.net_rows.specs.declared.machine.Machine.{Machine}
 use Rattle.port_sets.specs.declared.range.PortRange.{PortRange}
-use Rattle.wire_json.specs.declared.dest_range.DestRange.{DestRange}
-use Rattle.wire_json.specs.declared.filter_rule.FilterRule.{FilterRule}
-use Rattle.wire_json.specs.declared.sources.Sources.TheVariants.{Any}
+use Rattle.tailcfg.specs.declared.filter.DestRange.{DestRange}
+use Rattle.tailcfg.specs.declared.filter.FilterRule.{FilterRule}
+use Rattle.tailcfg.specs.declared.filter.Sources.TheVariants.{Any}
 use Rattle.map_delta.specs.Nodes.{own_addresses}
 
 abbrev pub all_ports : PortRange

@@ -1,7 +1,7 @@
 -- Responses as frames: the length of the JSON text in four bytes, the lowest first, and then the text.
 use Rattle.std.specs.Prelude.{ℕ, List, ◌++◌, length}
 use Rattle.std.specs.Int.{w32, to_le_bytes}
-use Rattle.wire_json.specs.declared.response.Response.{Response}
+use Rattle.tailcfg.specs.declared.response.Response.{Response}
 use Rattle.wire_text.specs.Responses.{response_text}
 
 -- a text with its length before it

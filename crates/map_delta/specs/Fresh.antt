@@ -4,10 +4,9 @@ use Rattle.std.specs.Prelude.{ℕ, Bool, false, List, ◌∷◌, map, filter, no
 use Rattle.std.specs.List.{list_any}
 use Rattle.net_rows.specs.declared.machine.Machine.{Machine}
 use Rattle.net_rows.specs.declared.rows.Rows.{Rows}
-use Rattle.net_rows.specs.declared.settings.SettingsFields.{SettingsFields}
-use Rattle.wire_json.specs.declared.node_row.NodeRow.{NodeRow}
+use Rattle.settings.specs.declared.fields.SettingsFields.{SettingsFields}
+use Rattle.tailcfg.specs.declared.node_row.NodeRow.{NodeRow}
 use Rattle.map_delta.specs.Filters.{open_filter}
-use Rattle.map_delta.specs.Names.{dns_of}
 use Rattle.map_delta.specs.Nodes.{node_of, own_addresses}
 use Rattle.map_delta.specs.Profiles.{owners_of}
 use Rattle.map_delta.specs.declared.view.View.{View}
@@ -34,7 +33,7 @@ fresh settings rows live m = record {
   node = shown settings.base_domain m;
   peers = peers_of settings.base_domain rows.machines live m.id;
   filter = open_filter m;
-  dns = dns_of settings.dns rows.extras;
+  dns = record { settings = settings.dns; extras = rows.extras };
   domain = settings.base_domain;
   profiles = owners_of rows.users (shown settings.base_domain m ∷ peers_of settings.base_domain rows.machines live m.id);
 }

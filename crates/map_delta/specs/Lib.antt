@@ -1,6 +1,5 @@
 pub mod Nodes
 pub mod Filters
-pub mod Names
 pub mod Profiles
 pub mod Fresh
 pub mod Responses

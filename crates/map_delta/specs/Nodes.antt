@@ -2,7 +2,7 @@
 use Rattle.std.specs.Prelude.{ℕ, Bool, List, [], ◌∷◌, ◌++◌, length, codes, nat_lt, if◌then◌else◌}
 use Rattle.net_addr.specs.Bits.{Address, Block, family_bits}
 use Rattle.net_rows.specs.declared.machine.Machine.{Machine}
-use Rattle.wire_json.specs.declared.node_row.NodeRow.{NodeRow}
+use Rattle.tailcfg.specs.declared.node_row.NodeRow.{NodeRow}
 
 -- the prefix that one address is
 abbrev pub of_one : Address → Block

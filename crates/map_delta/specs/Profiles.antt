@@ -3,8 +3,8 @@ use Rattle.std.specs.Prelude.{ℕ, Bool, List, [], ◌∷◌, ◌++◌, Option, 
 use Rattle.std.specs.List.{before_first, list_any}
 use Rattle.net_rows.specs.Rows.{user_with}
 use Rattle.net_rows.specs.declared.user.User.{User}
-use Rattle.wire_json.specs.declared.node_row.NodeRow.{NodeRow}
-use Rattle.wire_json.specs.declared.profile.Profile.{Profile}
+use Rattle.tailcfg.specs.declared.node_row.NodeRow.{NodeRow}
+use Rattle.tailcfg.specs.declared.profile.Profile.{Profile}
 use Rattle.map_delta.specs.Nodes.{tagged_owner}
 
 -- the login before its `@`

@@ -1,6 +1,6 @@
 -- The response that is a whole map.
 use Rattle.std.specs.Prelude.{ℕ, List, [], Option, Some}
-use Rattle.wire_json.specs.declared.response.Response.{Response}
+use Rattle.tailcfg.specs.declared.response.Response.{Response}
 use Rattle.map_delta.specs.declared.view.View.{View}
 
 -- the whole map, with a session's handle and a number where there are any

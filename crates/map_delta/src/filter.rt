@@ -8,7 +8,7 @@ use net_rows::Machine;
 use port_sets::PortRange;
 use std::alloc::Global;
 use tail_base::{Items, NoMemory};
-use wire_json::{DestRange, FilterRule, Sources};
+use tailcfg::{DestRange, FilterRule, Sources};
 
 /// The prefix with all ports.
 fn all_of(to: Prefix) -> DestRange

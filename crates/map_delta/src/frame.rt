@@ -4,7 +4,7 @@ ghost use Rattle.map_delta.specs.Frames.{frame_of, framed};
 
 use std::alloc::Global;
 use tail_base::NoMemory;
-use wire_json::Response;
+use tailcfg::Response;
 use wire_text::response_text;
 
 /// A text with its length before it. A text of 2^32 bytes or more has no frame.

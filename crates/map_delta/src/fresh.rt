@@ -2,15 +2,15 @@
 ghost use Rattle.std.specs.Prelude.{◌≡◌, ◌∷◌, ◌++◌, [], IfOk, OnOk, if◌then◌else◌};
 ghost use Rattle.map_delta.specs.Fresh.{fresh, is_listed, peers_of, sees, shown};
 
-use crate::dns::dns_of;
 use crate::filter::open_filter;
 use crate::node::{node_of, own_addresses};
 use crate::profile::owners_of;
 use crate::view::View;
-use net_rows::{Machine, Settings, Tables};
+use net_rows::{Machine, Tables};
+use settings::Settings;
 use std::alloc::Global;
 use tail_base::{Duplicate, Items, NoMemory};
-use wire_json::NodeRow;
+use tailcfg::{Dns, NodeRow};
 
 /// The machine's node as everybody is shown it.
 fn shown(alloc: Global, domain: &str, machine: &Machine) -> Result<NodeRow, NoMemory>
@@ -94,7 +94,10 @@ pub fn plain_map(
         node,
         peers,
         filter: open_filter(alloc, machine)?,
-        dns: dns_of(alloc, &fields.dns, tables.extras())?,
+        dns: Dns {
+            settings: fields.dns.copy(alloc)?,
+            extras: Items::from_slice(alloc, tables.extras())?,
+        },
         domain: fields.base_domain.copy(alloc)?,
         profiles,
     })

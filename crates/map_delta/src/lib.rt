@@ -2,7 +2,6 @@
 //! that carry it.
 #![tactic(auto)]
 
-mod dns;
 mod filter;
 mod frame;
 mod fresh;

@@ -7,7 +7,7 @@ use net_addr::{Addr, Prefix};
 use net_rows::Machine;
 use std::alloc::Global;
 use tail_base::{Duplicate, Items, NoMemory, Text};
-use wire_json::NodeRow;
+use tailcfg::NodeRow;
 
 /// The user that tagged machines are shown to belong to.
 pub(crate) const TAGGED_OWNER: u32 = 2_147_483_647;

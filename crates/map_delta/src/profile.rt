@@ -7,7 +7,7 @@ use crate::node::TAGGED_OWNER;
 use net_rows::{Tables, User};
 use std::alloc::Global;
 use tail_base::{Items, NoMemory, Text};
-use wire_json::{NodeRow, Profile};
+use tailcfg::{NodeRow, Profile};
 
 /// The login before its `@`.
 fn display_of(alloc: Global, login: &str) -> Result<Text, NoMemory>

@@ -5,7 +5,7 @@ ghost use Rattle.map_delta.specs.Responses.{first_response};
 use crate::view::View;
 use std::alloc::Global;
 use tail_base::{Items, Text};
-use wire_json::Response;
+use tailcfg::Response;
 
 /// The response that is a whole map, with the handle of its session and its number there, if it has
 /// any.

@@ -1,7 +1,7 @@
 //! Maps.
 use std::alloc::Global;
 use tail_base::{Duplicate, Items, NoMemory, Text};
-use wire_json::{Dns, FilterRule, NodeRow, Profile};
+use tailcfg::{Dns, FilterRule, NodeRow, Profile};
 
 /// What a machine knows of the tailnet: its netmap.
 #[derive(Drop)]

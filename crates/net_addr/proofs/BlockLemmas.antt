@@ -47,7 +47,7 @@ holds_parts p addr h =
     (beq-true _ _ front.0, leb-true _ _ front.1, leb-true _ _ parts.1)
 
 -- the ends of the inner prefix lie in the outer one
-within_is : (p q : Block) → IsTrue (is_within p q) ↔ IsWithin p q
+pub within_is : (p q : Block) → IsTrue (is_within p q) ↔ IsWithin p q
 within_is p q = (to, from)
   where
     to : is_within p q ≡ true → IsWithin p q

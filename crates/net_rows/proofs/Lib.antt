@@ -1,4 +1,3 @@
-pub mod Bools
 pub mod Members
 pub mod HeldLemmas
 pub mod Empty

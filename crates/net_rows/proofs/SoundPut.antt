@@ -9,7 +9,7 @@ use Rattle.net_rows.specs.declared.user.User.{User}
 use Rattle.net_rows.specs.declared.key.AuthKey.{AuthKey}
 use Rattle.net_rows.specs.declared.pending.Pending.{Pending}
 use Rattle.net_rows.specs.declared.machine.Machine.{Machine}
-use Rattle.net_rows.specs.declared.extra.Extra.{Extra}
+use Rattle.tailcfg.specs.declared.dns.DnsExtra.{DnsExtra}
 use Rattle.net_rows.proofs.PutLemmas.{Tells-put, IsAscending-put, AreBelow-put, HasRow-put, count-put, keeps-put}
 
 -- a key that keeps its rules keeps them where a user is put
@@ -129,7 +129,7 @@ sound_machine t m next s f below up top = record {
 }
 
 -- the extra records are replaced
-pub sound_extras : (t : Rows) (xs : List Extra) → AreSound t → length xs ≤ EXTRA_LIMIT → AreSound (record t { extras = xs })
+pub sound_extras : (t : Rows) (xs : List DnsExtra) → AreSound t → length xs ≤ EXTRA_LIMIT → AreSound (record t { extras = xs })
 sound_extras t xs s h = record {
   counters = s.counters;
   users = s.users;

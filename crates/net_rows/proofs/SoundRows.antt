@@ -1,6 +1,7 @@
 -- Rows of one kind: where each fits beside those before it, all rules of the kind are kept, and back.
 use Rattle.std.proofs.Common.{◌≡◌, ℕ, true, List, [], ◌∷◌, ◌++◌, length, arith, nat_le, codes}
-use Rattle.net_rows.specs.declared.limits.TheConstants.{USER_LIMIT, KEY_LIMIT, PENDING_LIMIT, MACHINE_LIMIT, ENDPOINT_LIMIT, ROUTE_LIMIT, ASKED_TAG_LIMIT, TAG_LIMIT, HOST_LIMIT}
+use Rattle.tailcfg.specs.declared.limits.TheConstants.{ENDPOINT_LIMIT, ROUTE_LIMIT, ASKED_TAG_LIMIT, HOST_LIMIT}
+use Rattle.net_rows.specs.declared.limits.TheConstants.{USER_LIMIT, KEY_LIMIT, PENDING_LIMIT, MACHINE_LIMIT, TAG_LIMIT}
 use Rattle.net_addr.specs.Tailnet.{tailnet_v4, tailnet_v6}
 use Rattle.net_addr.specs.Blocks.{holds}
 use Rattle.net_rows.specs.Rows.{Rows}

@@ -1,8 +1,6 @@
-pub mod Limits
 pub mod Shelf
 pub mod Rows
 pub mod Held
 pub mod Damage
 pub mod Room
 pub mod Sound
-pub mod Settings

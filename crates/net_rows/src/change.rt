@@ -1,13 +1,13 @@
 //! What changes of the tables, and what may be wrong with them.
 ghost use Rattle.std.specs.Prelude.{◌≡◌};
 
-use crate::extra::Extra;
 use crate::key::AuthKey;
 use crate::machine::Machine;
 use crate::pending::Pending;
 use crate::user::User;
 use std::alloc::Global;
 use tail_base::{Duplicate, Items, NoMemory, Text};
+use tailcfg::DnsExtra;
 
 /// The next id of each kind of row. An id is never given twice.
 #[derive(Clone, Copy, Debug, PartialEq, Eq, Drop)]
@@ -49,7 +49,7 @@ pub enum Row {
     Key(AuthKey),
     Pending(Pending),
     Machine(Machine),
-    Extras(Items<Extra>),
+    Extras(Items<DnsExtra>),
     Policy(Text),
 }
 

@@ -8,16 +8,14 @@ ghost use Rattle.net_rows.specs.Damage.{stands, is_new, is_new_address, has_user
 
 use crate::id::HasId;
 use crate::key::AuthKey;
-use crate::limits::{
-    ASKED_TAG_LIMIT, ENDPOINT_LIMIT, HOST_LIMIT, KEY_LIMIT, MACHINE_LIMIT, PENDING_LIMIT,
-    ROUTE_LIMIT, TAG_LIMIT, USER_LIMIT,
-};
+use crate::limits::{KEY_LIMIT, MACHINE_LIMIT, PENDING_LIMIT, TAG_LIMIT, USER_LIMIT};
 use crate::machine::Machine;
 use crate::named::{names_key, names_pending};
 use crate::pending::Pending;
 use crate::rows::Rows;
 use crate::user::User;
 use net_addr::{tailnet_v4, tailnet_v6};
+use tailcfg::{ASKED_TAG_LIMIT, ENDPOINT_LIMIT, HOST_LIMIT, ROUTE_LIMIT};
 
 /// A row of one of the tables.
 pub trait TableRow: HasId + Sized {

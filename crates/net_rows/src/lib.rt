@@ -1,10 +1,9 @@
 //! The rows of a tailnet's tables: users, keys, pending entries, machines, extra DNS records and the
-//! policy; the settings; and tables that keep their rules whatever change is made.
+//! policy; and tables that keep their rules whatever change is made.
 #![tactic(auto)]
 
 mod change;
 mod check;
-mod extra;
 mod fits;
 mod id;
 mod key;
@@ -15,27 +14,24 @@ mod machine;
 mod named;
 mod pending;
 mod rows;
-mod settings;
 mod shelf;
 mod tables;
 mod user;
 
 pub use change::{Change, Counters, Damage, Kind, Row, RowKey};
 pub use check::damage;
-pub use extra::Extra;
 pub use fits::TableRow;
 pub use id::HasId;
 pub use key::AuthKey;
 pub use laws::{rows_are_maps, sound_rows_have_no_damage};
 pub use limits::{
-    ASKED_TAG_LIMIT, COUNTER_LIMIT, ENDPOINT_LIMIT, EXTRA_LIMIT, HOST_LIMIT, KEY_LIMIT,
-    MACHINE_LIMIT, PENDING_LIMIT, POLICY_LIMIT, ROUTE_LIMIT, TAG_LIMIT, USER_LIMIT,
+    COUNTER_LIMIT, EXTRA_LIMIT, KEY_LIMIT, MACHINE_LIMIT, PENDING_LIMIT, POLICY_LIMIT, TAG_LIMIT,
+    USER_LIMIT,
 };
 pub use lists::Lists;
 pub use machine::Machine;
 pub use pending::Pending;
 pub use rows::Rows;
-pub use settings::{DnsSettings, DomainRoute, Settings, SettingsFields};
 pub use shelf::{Shelf, row_of};
 pub use tables::Tables;
 pub use user::User;

@@ -15,20 +15,8 @@ pub const MACHINE_LIMIT: usize = 512;
 /// Extra DNS records.
 pub const EXTRA_LIMIT: usize = 256;
 
-/// Endpoints of a machine.
-pub const ENDPOINT_LIMIT: usize = 32;
-
-/// Routes of a machine or a pending entry.
-pub const ROUTE_LIMIT: usize = 32;
-
-/// Tags of a key or a pending entry.
-pub const ASKED_TAG_LIMIT: usize = 16;
-
 /// Tags of a machine.
 pub const TAG_LIMIT: usize = 32;
-
-/// Bytes of a host name as a machine gives it.
-pub const HOST_LIMIT: usize = 255;
 
 /// Bytes of a policy text.
 pub const POLICY_LIMIT: usize = 262_144;

@@ -7,7 +7,6 @@ ghost use Rattle.net_rows.specs.Held.{Suffices};
 ghost use Rattle.net_rows.specs.Shelf.{IsAscending};
 
 use crate::change::{Change, Counters, Row, RowKey};
-use crate::extra::Extra;
 use crate::key::AuthKey;
 use crate::machine::Machine;
 use crate::pending::Pending;
@@ -17,6 +16,7 @@ use crate::user::User;
 use std::alloc::Global;
 use std::marker::Model;
 use tail_base::{Duplicate, Items, NoMemory, Text};
+use tailcfg::DnsExtra;
 
 /// Rows of all kinds, each by ascending id, and the places that are spare for more.
 #[derive(Drop)]
@@ -25,7 +25,7 @@ pub struct Lists {
     keys: Shelf<AuthKey>,
     pending: Shelf<Pending>,
     machines: Shelf<Machine>,
-    extras: Items<Extra>,
+    extras: Items<DnsExtra>,
     policy: Option<Text>,
     next: Counters,
 }
@@ -129,7 +129,7 @@ impl Lists {
         self.machines.as_slice()
     }
 
-    pub fn extras(&self) -> &[Extra]
+    pub fn extras(&self) -> &[DnsExtra]
         ensures value { result.now ≡ self.now.rows.extras }
     {
         self.extras.as_slice()

@@ -2,12 +2,12 @@
 ghost use Rattle.std.specs.Prelude.{◌≡◌};
 
 use crate::change::Counters;
-use crate::extra::Extra;
 use crate::key::AuthKey;
 use crate::machine::Machine;
 use crate::pending::Pending;
 use crate::user::User;
 use tail_base::{Items, Text};
+use tailcfg::DnsExtra;
 
 /// All rows of the tables, and the next ids. The tables of a tailnet are such rows that keep the
 /// rules; these may break any.
@@ -17,7 +17,7 @@ pub struct Rows {
     pub keys: Items<AuthKey>,
     pub pending: Items<Pending>,
     pub machines: Items<Machine>,
-    pub extras: Items<Extra>,
+    pub extras: Items<DnsExtra>,
     pub policy: Option<Text>,
     pub next: Counters,
 }

@@ -8,7 +8,6 @@ ghost use Rattle.net_rows.specs.Room.{has_room};
 
 use crate::change::{Change, Counters, Damage, Kind};
 use crate::check::damage;
-use crate::extra::Extra;
 use crate::key::AuthKey;
 use crate::limits::{COUNTER_LIMIT, KEY_LIMIT, MACHINE_LIMIT, PENDING_LIMIT, USER_LIMIT};
 use crate::lists::Lists;
@@ -20,6 +19,7 @@ use crate::user::User;
 use std::alloc::Global;
 use std::marker::Model;
 use tail_base::{Duplicate, MachineKey, NoMemory, Text};
+use tailcfg::DnsExtra;
 
 /// The tables of a tailnet: rows without damage, and spare places. Only `reserve` and the condition of
 /// `apply` speak of the places.
@@ -126,7 +126,7 @@ impl Tables {
     }
 
     /// The extra DNS records.
-    pub fn extras(&self) -> &[Extra]
+    pub fn extras(&self) -> &[DnsExtra]
         ensures value { result.now ≡ self.now.rows.extras }
         ensures sound { damage self.now.rows ≡ None }
     {

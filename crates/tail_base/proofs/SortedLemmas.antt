@@ -1,5 +1,5 @@
 -- Elements in ascending order, each once: they rise, and they are those that were given.
-use Rattle.std.proofs.Common.{◌≡◌, Bool, true, false, ◌||◌, List, [], ◌∷◌, refl, sym, ap, ◌∙◌}
+use Rattle.std.proofs.Common.{◌≡◌, ◌≤◌, ◌+◌, Bool, true, false, ◌||◌, List, [], ◌∷◌, length, arith, refl, sym, ap, ◌∙◌}
 use Rattle.std.specs.Prelude.{fold}
 use Rattle.std.specs.List.{AllByRecursion, list_any}
 use Rattle.std.specs.List.Sorted.{IsStrictlySortedBy}
@@ -102,3 +102,21 @@ fold_same cmp other same held (x ∷ xs) = rw (with_element_same cmp other same 
 -- two comparisons that agree give one list
 pub sorted_once_same : {T : Type 0} (cmp other : T → T → Ordering) → ((x y : T) → cmp x y ≡ other x y) → (xs : List T) → sorted_once cmp xs ≡ sorted_once other xs
 sorted_once_same cmp other same xs = fold_same cmp other same [] xs
+
+length_by : {T : Type 0} (cmp : T → T → Ordering) (y x : T) (ys : List T) → length (with_element cmp ys x) ≤ length ys + 1
+    → (o : Ordering) → length (match_ordering o (x ∷ y ∷ ys) (y ∷ ys) (y ∷ with_element cmp ys x)) ≤ length (y ∷ ys) + 1
+length_by cmp y x ys rest Less = omega arith
+length_by cmp y x ys rest Equal = omega arith
+length_by cmp y x ys rest Greater = omega (arith, rest)
+
+length-with_element : {T : Type 0} (cmp : T → T → Ordering) (ys : List T) (x : T) → length (with_element cmp ys x) ≤ length ys + 1
+length-with_element cmp [] x = omega arith
+length-with_element cmp (y ∷ ys) x = length_by cmp y x ys (length-with_element cmp ys x) (cmp x y)
+
+length-fold : {T : Type 0} (cmp : T → T → Ordering) (held xs : List T) → length (fold (with_element cmp) held xs) ≤ length held + length xs
+length-fold cmp held [] = omega arith
+length-fold cmp held (x ∷ xs) = omega (arith, length-with_element cmp held x, length-fold cmp (with_element cmp held x) xs)
+
+-- in order, the elements are no more than there were
+pub length-sorted_once : {T : Type 0} (cmp : T → T → Ordering) (xs : List T) → length (sorted_once cmp xs) ≤ length xs
+length-sorted_once cmp xs = omega (arith, length-fold cmp [] xs)

@@ -1,7 +1,7 @@
 -- Faults of parts are faults of the whole.
 use Rattle.std.proofs.Common.{◌≡◌, refl}
 use Rattle.std.specs.Prelude.{Result, Ok, Err}
-use Rattle.net_rows.specs.declared.settings.SettingsFields.{SettingsFields}
+use Rattle.settings.specs.declared.fields.SettingsFields.{SettingsFields}
 use Rattle.tail_words.specs.declared.fault.SettingsFault.{SettingsFault}
 use Rattle.tail_words.specs.declared.fault.SettingsFault.TheVariants.{Refused, NoMemory}
 use Rattle.tail_base.specs.Steps.{◌>>=◌}

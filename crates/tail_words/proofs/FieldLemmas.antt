@@ -9,9 +9,11 @@ use Rattle.toml.specs.Data.{Data, Members, as_integer, as_str, get_member}
 use Rattle.tail_base.specs.Steps.{or_fault}
 use Rattle.net_addr.specs.Bits.{Address, Block}
 use Rattle.net_addr.specs.PrefixTexts.{prefix_of_text}
-use Rattle.net_rows.specs.Limits.{tailnet_v4, tailnet_v6}
-use Rattle.net_rows.specs.Settings.{AreDnsSettings, AreSettings, IsFrom, is_domain, is_domain_route, is_visible}
-use Rattle.net_rows.specs.declared.settings.DomainRoute.{DomainRoute}
+use Rattle.net_addr.specs.Tailnet.{tailnet_v4, tailnet_v6}
+use Rattle.settings.specs.Settings.{AreDnsSettings, AreSettings, IsFrom, is_base_domain, is_domain, is_domain_route, is_visible}
+use Rattle.settings.specs.declared.defaults.TheConstants.{CONNECTIONS_DEFAULT, EPHEMERAL_SECONDS_DEFAULT, KEY_SECONDS_DEFAULT, PENDING_SECONDS_DEFAULT, POLL_TURNS_DEFAULT, REQUESTS_DEFAULT, WORKERS_DEFAULT}
+use Rattle.settings.specs.declared.limits.TheConstants.{BASE_DOMAIN_LIMIT, COUNT_LIMIT, DNS_ROUTE_LIMIT, PREFIX_V4_LEN_LIMIT, PREFIX_V6_LEN_LIMIT, RESOLVER_LIMIT, SEARCH_LIMIT, SECONDS_LIMIT, WORKER_LIMIT}
+use Rattle.tailcfg.specs.declared.dns.DnsRoute.{DnsRoute}
 use Rattle.tail_words.specs.SettingsText.{dns_at, dns_of, fields_of, number_at, number_by, prefix_at, prefix_by, required, rule_of, text_at, text_by}
 use Rattle.tail_words.specs.SettingsValues.{addresses, are_domains, before, each_address, each_route, number, number_within, passes, passing, prefix, prefix_fits, prefix_within, reading, resolvers, route, routes, routes_within, search_domains, table_texts, text, texts}
 use Rattle.tail_words.specs.declared.fault.SettingsFault.{SettingsFault}
@@ -19,7 +21,7 @@ use Rattle.tail_words.specs.declared.lists.RouteTexts.{RouteTexts}
 use Rattle.tail_words.specs.declared.rule.Rule.{Rule}
 use Rattle.tail_words.specs.declared.rule.Rule.TheVariants.{Number, Prefix, Text}
 use Rattle.tail_words.specs.declared.rule.TextRule.{TextRule}
-use Rattle.tail_words.specs.declared.rule.TextRule.TheVariants.{Any, Domain, Visible}
+use Rattle.tail_words.specs.declared.rule.TextRule.TheVariants.{Any, BaseDomain, Visible}
 
 -- a value that was read is what the rule gave
 ruled : {B : Type 0} (o : Option B) (b : B) → result_ok {E = ℕ} (or_fault 4 o) ≡ Some b → o ≡ Some b
@@ -94,19 +96,19 @@ text_in key rule table t has there =
     let spelt = read_by (passing (passes rule)) (as_str found.0) t here in
     passed (passes rule) spelt.0 t spelt.1
 
-short_addresses : (ts : List (List ℕ)) (made : List Address) → addresses ts ≡ Some made → nat_le (length made) 16 ≡ true
+short_addresses : (ts : List (List ℕ)) (made : List Address) → addresses ts ≡ Some made → nat_le (length made) RESOLVER_LIMIT ≡ true
 short_addresses ts made h =
-    let found = found_by (passing (λ l. nat_le (length l) 16)) (each_address ts) made h in
-    passed (λ l. nat_le (length l) 16) found.0 made found.1
+    let found = found_by (passing (λ l. nat_le (length l) RESOLVER_LIMIT)) (each_address ts) made h in
+    passed (λ l. nat_le (length l) RESOLVER_LIMIT) found.0 made found.1
 
-abbrev made_route : RouteTexts → List Address → DomainRoute
-made_route r l = record { domain = r.domain; resolvers = l }
+abbrev made_route : RouteTexts → List Address → DnsRoute
+made_route r l = record { suffix = r.suffix; resolvers = l }
 
-route_fits : (r : RouteTexts) (made : DomainRoute) → route r ≡ Some made → is_domain_route made ≡ true
+route_fits : (r : RouteTexts) (made : DnsRoute) → route r ≡ Some made → is_domain_route made ≡ true
 route_fits r made h =
-    let parts = if_parts (is_domain r.domain) (option_map (made_route r) (addresses r.resolvers)) made h in
+    let parts = if_parts (is_domain r.suffix) (option_map (made_route r) (addresses r.resolvers)) made h in
     let mapped = map_parts (made_route r) (addresses r.resolvers) made parts.1 in
-    ap is_domain_route (sym mapped.2) ∙ both (is_domain r.domain) (nat_le (length mapped.0) 16) parts.0 (short_addresses r.resolvers mapped.0 mapped.1)
+    ap is_domain_route (sym mapped.2) ∙ both (is_domain r.suffix) (nat_le (length mapped.0) RESOLVER_LIMIT) parts.0 (short_addresses r.resolvers mapped.0 mapped.1)
 
 before_parts : {A : Type 0} (o : Option A) (others : Option (List A)) (made : List A) → before o others ≡ Some made
     → (a : A) × (more : List A) × (o ≡ Some a) × (others ≡ Some more) × (a ∷ more ≡ made)
@@ -114,7 +116,7 @@ before_parts None others made h = absurd (cc)
 before_parts (Some a) None made h = absurd (cc)
 before_parts (Some a) (Some more) made h = (a, more, refl, refl, cc)
 
-routes_fit : (rs : List RouteTexts) (made : List DomainRoute) → each_route rs ≡ Some made → list_all is_domain_route made ≡ true
+routes_fit : (rs : List RouteTexts) (made : List DnsRoute) → each_route rs ≡ Some made → list_all is_domain_route made ≡ true
 routes_fit [] made h = let same : [] ≡ made = cc in ap (list_all is_domain_route) (sym same)
 routes_fit (r ∷ rs) made h =
     let parts = before_parts (route r) (each_route rs) made h in
@@ -123,28 +125,28 @@ routes_fit (r ∷ rs) made h =
 small : (n most : ℕ) → nat_le n most ≡ true → n ≤ most
 small n most h = grind (arith, nat_tests)
 
-resolvers_in : (base : List ℕ) (table : Members) → length (dns_of base table).resolvers ≤ 16
+resolvers_in : (base : List ℕ) (table : Members) → length (dns_of base table).resolvers ≤ RESOLVER_LIMIT
 resolvers_in base table =
-    or_default (λ l. length l ≤ 16) (option_and_then (λ d. result_ok (resolvers d)) (dns_at (codes "resolvers") table)) [] (omega arith) (λ made at.
+    or_default (λ l. length l ≤ RESOLVER_LIMIT) (option_and_then (λ d. result_ok (resolvers d)) (dns_at (codes "resolvers") table)) [] (omega arith) (λ made at.
     let found = found_by (λ d. result_ok (resolvers d)) (dns_at (codes "resolvers") table) made at in
     let read = read_by addresses (texts found.0) made found.1 in
-    small (length made) 16 (short_addresses read.0 made read.1))
+    small (length made) RESOLVER_LIMIT (short_addresses read.0 made read.1))
 
-abbrev FitRoutes : List DomainRoute → Type 0
-FitRoutes l = (length l ≤ 64) × (list_all is_domain_route l ≡ true)
+abbrev FitRoutes : List DnsRoute → Type 0
+FitRoutes l = (length l ≤ DNS_ROUTE_LIMIT) × (list_all is_domain_route l ≡ true)
 
 routes_in : (base : List ℕ) (table : Members) → FitRoutes (dns_of base table).routes
 routes_in base table =
     or_default FitRoutes (option_and_then (λ d. result_ok (routes d)) (dns_at (codes "routes") table)) [] (omega arith, refl) (λ made at.
     let found = found_by (λ d. result_ok (routes d)) (dns_at (codes "routes") table) made at in
     let read = read_by routes_within (table_texts found.0) made found.1 in
-    let few = found_by (passing (λ l. nat_le (length l) 64)) (each_route read.0) made read.1 in
-    (small (length made) 64 (passed (λ l. nat_le (length l) 64) few.0 made few.1), routes_fit read.0 made (few.2 ∙ ap Some (same_value (λ l. nat_le (length l) 64) few.0 made few.1))))
+    let few = found_by (passing (λ l. nat_le (length l) DNS_ROUTE_LIMIT)) (each_route read.0) made read.1 in
+    (small (length made) DNS_ROUTE_LIMIT (passed (λ l. nat_le (length l) DNS_ROUTE_LIMIT) few.0 made few.1), routes_fit read.0 made (few.2 ∙ ap Some (same_value (λ l. nat_le (length l) DNS_ROUTE_LIMIT) few.0 made few.1))))
 
 abbrev FitSearch : List (List ℕ) → Type 0
 FitSearch l = are_domains l ≡ true
 
-search_in : (base : List ℕ) (table : Members) → is_domain base ≡ true → FitSearch (dns_of base table).search
+search_in : (base : List ℕ) (table : Members) → is_domain base ≡ true → FitSearch (dns_of base table).domains
 search_in base table good =
     or_default FitSearch (option_and_then (λ d. result_ok (search_domains d)) (dns_at (codes "search") table)) (base ∷ []) (rw good refl) (λ made at.
     let found = found_by (λ d. result_ok (search_domains d)) (dns_at (codes "search") table) made at in
@@ -155,39 +157,39 @@ dns_fits : (base : List ℕ) (table : Members) → is_domain base ≡ true → A
 dns_fits base table good =
     let found = and_parts _ _ (search_in base table good) in
     record {
+      domains = small _ SEARCH_LIMIT found.0;
+      each_domain = found.1;
       resolvers = resolvers_in base table;
       routes = (routes_in base table).0;
       each_route = (routes_in base table).1;
-      search = small _ 16 found.0;
-      each_search = found.1;
     }
 
-pub fields_fit : (base url token : List ℕ) (table : Members) → is_domain base ≡ true → is_visible url ≡ true → is_visible token ≡ true → AreSettings (fields_of base url token table)
+pub fields_fit : (base url token : List ℕ) (table : Members) → is_base_domain base ≡ true → is_visible url ≡ true → is_visible token ≡ true → AreSettings (fields_of base url token table)
 unfolding rule_of
 fields_fit base url token table good_base good_url good_token =
     let v4 = and_parts _ _ (prefix_in (codes "prefix_v4") false tailnet_v4 table refl refl) in
     let v6 = and_parts _ _ (prefix_in (codes "prefix_v6") true tailnet_v6 table refl refl) in
     record {
       base_domain = good_base;
-      connections = (number_in (codes "connections") 0 1000000000 0 table refl (omega arith, omega arith)).1;
-      dns = dns_fits base table good_base;
-      ephemeral_seconds = number_in (codes "ephemeral_seconds") 1 1000000000 1800 table refl (omega arith, omega arith);
-      key_seconds = (number_in (codes "key_seconds") 0 1000000000 0 table refl (omega arith, omega arith)).1;
-      pending_seconds = number_in (codes "pending_seconds") 1 1000000000 3600 table refl (omega arith, omega arith);
-      poll_turns = number_in (codes "poll_turns") 1 1000000000 1000 table refl (omega arith, omega arith);
+      connections = (number_in (codes "connections") 0 COUNT_LIMIT CONNECTIONS_DEFAULT table refl (omega arith, omega arith)).1;
+      dns = dns_fits base table (and_parts _ _ good_base).1;
+      ephemeral_seconds = number_in (codes "ephemeral_seconds") 1 SECONDS_LIMIT EPHEMERAL_SECONDS_DEFAULT table refl (omega arith, omega arith);
+      key_seconds = (number_in (codes "key_seconds") 0 SECONDS_LIMIT KEY_SECONDS_DEFAULT table refl (omega arith, omega arith)).1;
+      pending_seconds = number_in (codes "pending_seconds") 1 SECONDS_LIMIT PENDING_SECONDS_DEFAULT table refl (omega arith, omega arith);
+      poll_turns = number_in (codes "poll_turns") 1 COUNT_LIMIT POLL_TURNS_DEFAULT table refl (omega arith, omega arith);
       prefix_v4 = v4.0;
-      prefix_v4_len = small _ 30 v4.1;
+      prefix_v4_len = small _ PREFIX_V4_LEN_LIMIT v4.1;
       prefix_v6 = v6.0;
-      prefix_v6_len = small _ 126 v6.1;
-      requests = number_in (codes "requests") 1 1000000000 100000 table refl (omega arith, omega arith);
+      prefix_v6_len = small _ PREFIX_V6_LEN_LIMIT v6.1;
+      requests = number_in (codes "requests") 1 COUNT_LIMIT REQUESTS_DEFAULT table refl (omega arith, omega arith);
       server_url = good_url;
       token = good_token;
-      workers = number_in (codes "workers") 1 64 4 table refl (omega arith, omega arith);
+      workers = number_in (codes "workers") 1 WORKER_LIMIT WORKERS_DEFAULT table refl (omega arith, omega arith);
     }
 
-pub base_domain_in : (table : Members) (t : List ℕ) → required (codes "base_domain") table ≡ Ok t → is_domain t ≡ true
+pub base_domain_in : (table : Members) (t : List ℕ) → required (codes "base_domain") table ≡ Ok t → is_base_domain t ≡ true
 unfolding rule_of
-base_domain_in table t there = text_in (codes "base_domain") Domain table t refl there
+base_domain_in table t there = text_in (codes "base_domain") BaseDomain table t refl there
 
 pub server_url_in : (table : Members) (t : List ℕ) → required (codes "server_url") table ≡ Ok t → is_visible t ≡ true
 unfolding rule_of

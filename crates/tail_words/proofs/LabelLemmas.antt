@@ -5,7 +5,7 @@ use Rattle.std.specs.List.{between}
 use Rattle.std.proofs.lemmas.List.{drop_more}
 use Rattle.std.proofs.lemmas.List.Edits.{between_more, between_none}
 use Rattle.tail_base.specs.Labels.{is_label}
-use Rattle.net_rows.specs.Settings.{are_labels}
+use Rattle.settings.specs.Settings.{are_labels}
 
 no_dot : (b : ℕ) → (b ≡ 46 → ⊥) → (b == 46) ≡ false
 no_dot b other = grind (arith, nat_tests)

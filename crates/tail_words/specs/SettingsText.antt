@@ -6,15 +6,17 @@ use Rattle.toml.specs.Data.{Data, Members, no_members, member, as_bool, as_table
 use Rattle.toml.specs.Parse.{parse_document}
 use Rattle.tail_base.specs.Steps.{◌>>=◌, or_fault}
 use Rattle.net_addr.specs.Bits.{Block}
-use Rattle.net_rows.specs.Limits.{tailnet_v4, tailnet_v6}
-use Rattle.net_rows.specs.declared.settings.DnsSettings.{DnsSettings}
-use Rattle.net_rows.specs.declared.settings.SettingsFields.{SettingsFields}
+use Rattle.net_addr.specs.Tailnet.{tailnet_v4, tailnet_v6}
+use Rattle.tailcfg.specs.declared.dns.DnsSettings.{DnsSettings}
+use Rattle.settings.specs.declared.defaults.TheConstants.{CONNECTIONS_DEFAULT, DATABASE_DEFAULT, EPHEMERAL_SECONDS_DEFAULT, KEY_SECONDS_DEFAULT, LISTEN_DEFAULT, PENDING_SECONDS_DEFAULT, POLL_TURNS_DEFAULT, PROXIED_DEFAULT, REQUESTS_DEFAULT, WORKERS_DEFAULT}
+use Rattle.settings.specs.declared.fields.SettingsFields.{SettingsFields}
+use Rattle.settings.specs.declared.limits.TheConstants.{COUNT_LIMIT, SECONDS_LIMIT, WORKER_LIMIT}
 use Rattle.tail_words.specs.SettingsValues.{number, prefix, resolvers, routes, search_domains, text}
 use Rattle.tail_words.specs.declared.fault.SettingsFault.{SettingsFault}
 use Rattle.tail_words.specs.declared.fault.SettingsFault.TheVariants.{Refused, NoMemory}
 use Rattle.tail_words.specs.declared.rule.Rule.{Rule}
 use Rattle.tail_words.specs.declared.rule.Rule.TheVariants.{Number, Prefix, Text}
-use Rattle.tail_words.specs.declared.rule.TextRule.TheVariants.{Any, Domain, Visible}
+use Rattle.tail_words.specs.declared.rule.TextRule.TheVariants.{Any, BaseDomain, Visible}
 
 -- the settings that were read are those, and so is the fault, but want of memory, which is free
 abbrev pub IsRead : Result SettingsFields SettingsFault → Result SettingsFields SettingsFault → Type 0
@@ -40,20 +42,20 @@ Gives view (Err e) read = Fails e read
 -- the rule of each key but `dns`
 unfoldable pub rule_of : List ℕ → Option Rule
 rule_of key =
-    if bytes_eq key (codes "base_domain") then Some (Text Domain)
-    else if bytes_eq key (codes "connections") then Some (Number 0 1000000000)
+    if bytes_eq key (codes "base_domain") then Some (Text BaseDomain)
+    else if bytes_eq key (codes "connections") then Some (Number 0 COUNT_LIMIT)
     else if bytes_eq key (codes "database") then Some (Text Any)
-    else if bytes_eq key (codes "ephemeral_seconds") then Some (Number 1 1000000000)
-    else if bytes_eq key (codes "key_seconds") then Some (Number 0 1000000000)
+    else if bytes_eq key (codes "ephemeral_seconds") then Some (Number 1 SECONDS_LIMIT)
+    else if bytes_eq key (codes "key_seconds") then Some (Number 0 SECONDS_LIMIT)
     else if bytes_eq key (codes "listen") then Some (Text Any)
-    else if bytes_eq key (codes "pending_seconds") then Some (Number 1 1000000000)
-    else if bytes_eq key (codes "poll_turns") then Some (Number 1 1000000000)
+    else if bytes_eq key (codes "pending_seconds") then Some (Number 1 SECONDS_LIMIT)
+    else if bytes_eq key (codes "poll_turns") then Some (Number 1 COUNT_LIMIT)
     else if bytes_eq key (codes "prefix_v4") then Some (Prefix false)
     else if bytes_eq key (codes "prefix_v6") then Some (Prefix true)
-    else if bytes_eq key (codes "requests") then Some (Number 1 1000000000)
+    else if bytes_eq key (codes "requests") then Some (Number 1 COUNT_LIMIT)
     else if bytes_eq key (codes "server_url") then Some (Text Visible)
     else if bytes_eq key (codes "token") then Some (Text Visible)
-    else if bytes_eq key (codes "workers") then Some (Number 1 64)
+    else if bytes_eq key (codes "workers") then Some (Number 1 WORKER_LIMIT)
     else None
 
 -- the number of the rule that a value breaks: a key without a rule is unknown
@@ -127,30 +129,30 @@ required key table = or_fault (Refused 5 key) (text_at key table)
 -- the DNS settings, with their defaults
 abbrev pub dns_of : List ℕ → Members → DnsSettings
 dns_of base_domain table = record {
-  magic = unwrap_or (option_and_then as_bool (dns_at (codes "magic") table)) true;
+  domains = unwrap_or (option_and_then (λ d. result_ok (search_domains d)) (dns_at (codes "search") table)) (base_domain ∷ []);
+  proxied = unwrap_or (option_and_then as_bool (dns_at (codes "magic") table)) PROXIED_DEFAULT;
   resolvers = unwrap_or (option_and_then (λ d. result_ok (resolvers d)) (dns_at (codes "resolvers") table)) [];
   routes = unwrap_or (option_and_then (λ d. result_ok (routes d)) (dns_at (codes "routes") table)) [];
-  search = unwrap_or (option_and_then (λ d. result_ok (search_domains d)) (dns_at (codes "search") table)) (base_domain ∷ []);
 }
 
 -- the settings of a checked table, with their defaults
 abbrev pub fields_of : List ℕ → List ℕ → List ℕ → Members → SettingsFields
 fields_of base_domain server_url token table = record {
   base_domain = base_domain;
-  connections = unwrap_or (number_at (codes "connections") table) 0;
-  database = unwrap_or (text_at (codes "database") table) (codes ":memory:");
+  connections = unwrap_or (number_at (codes "connections") table) CONNECTIONS_DEFAULT;
+  database = unwrap_or (text_at (codes "database") table) DATABASE_DEFAULT.now;
   dns = dns_of base_domain table;
-  ephemeral_seconds = unwrap_or (number_at (codes "ephemeral_seconds") table) 1800;
-  key_seconds = unwrap_or (number_at (codes "key_seconds") table) 0;
-  listen = unwrap_or (text_at (codes "listen") table) (codes "127.0.0.1:8080");
-  pending_seconds = unwrap_or (number_at (codes "pending_seconds") table) 3600;
-  poll_turns = unwrap_or (number_at (codes "poll_turns") table) 1000;
+  ephemeral_seconds = unwrap_or (number_at (codes "ephemeral_seconds") table) EPHEMERAL_SECONDS_DEFAULT;
+  key_seconds = unwrap_or (number_at (codes "key_seconds") table) KEY_SECONDS_DEFAULT;
+  listen = unwrap_or (text_at (codes "listen") table) LISTEN_DEFAULT.now;
+  pending_seconds = unwrap_or (number_at (codes "pending_seconds") table) PENDING_SECONDS_DEFAULT;
+  poll_turns = unwrap_or (number_at (codes "poll_turns") table) POLL_TURNS_DEFAULT;
   prefix_v4 = unwrap_or (prefix_at (codes "prefix_v4") table) tailnet_v4;
   prefix_v6 = unwrap_or (prefix_at (codes "prefix_v6") table) tailnet_v6;
-  requests = unwrap_or (number_at (codes "requests") table) 100000;
+  requests = unwrap_or (number_at (codes "requests") table) REQUESTS_DEFAULT;
   server_url = server_url;
   token = token;
-  workers = unwrap_or (number_at (codes "workers") table) 4;
+  workers = unwrap_or (number_at (codes "workers") table) WORKERS_DEFAULT;
 }
 
 -- the settings that a table gives: its entries are checked, and then the keys that have to be there

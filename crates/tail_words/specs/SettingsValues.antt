@@ -6,13 +6,15 @@ use Rattle.tail_base.specs.Steps.{or_fault}
 use Rattle.net_addr.specs.AddrTexts.{addr_of_text}
 use Rattle.net_addr.specs.Bits.{Address, Block}
 use Rattle.net_addr.specs.PrefixTexts.{prefix_of_text}
-use Rattle.net_rows.specs.Limits.{tailnet_v4, tailnet_v6}
-use Rattle.net_rows.specs.Settings.{is_domain, is_visible, is_within}
-use Rattle.net_rows.specs.declared.settings.DomainRoute.{DomainRoute}
+use Rattle.net_addr.specs.Blocks.{is_within}
+use Rattle.net_addr.specs.Tailnet.{tailnet_v4, tailnet_v6}
+use Rattle.settings.specs.Settings.{is_base_domain, is_domain, is_visible}
+use Rattle.settings.specs.declared.limits.TheConstants.{DNS_ROUTE_LIMIT, PREFIX_V4_LEN_LIMIT, PREFIX_V6_LEN_LIMIT, RESOLVER_LIMIT, SEARCH_LIMIT}
+use Rattle.tailcfg.specs.declared.dns.DnsRoute.{DnsRoute}
 use Rattle.toml.specs.Data.{Data, Items, no_items, item, Members, no_members, member, as_array, as_bool, as_integer, as_str, as_table}
 use Rattle.tail_words.specs.declared.lists.RouteTexts.{RouteTexts}
 use Rattle.tail_words.specs.declared.rule.TextRule.{TextRule}
-use Rattle.tail_words.specs.declared.rule.TextRule.TheVariants.{Any, Domain, Visible}
+use Rattle.tail_words.specs.declared.rule.TextRule.TheVariants.{Any, BaseDomain, Visible}
 
 -- what a rule makes of a value of its type; rule 3 is broken where the type is another, and 4 where the rule refuses
 abbrev pub reading : {A B : Type 0} → (A → Option B) → Option A → Result B ℕ
@@ -35,7 +37,7 @@ number least greatest d = reading (number_within least greatest) (as_integer d)
 -- the test of a text
 abbrev pub passes : TextRule → List ℕ → Bool
 passes Any t = true
-passes Domain t = is_domain t
+passes BaseDomain t = is_base_domain t
 passes Visible t = is_visible t
 
 -- a string that passes its test
@@ -44,8 +46,8 @@ text rule d = reading (passing (passes rule)) (as_str d)
 
 -- a prefix of the tailnet's addresses with room for some
 abbrev pub prefix_fits : Bool → Block → Bool
-prefix_fits false p = is_within tailnet_v4 p && nat_le p.len 30
-prefix_fits true p = is_within tailnet_v6 p && nat_le p.len 126
+prefix_fits false p = is_within p tailnet_v4 && nat_le p.len PREFIX_V4_LEN_LIMIT
+prefix_fits true p = is_within p tailnet_v6 && nat_le p.len PREFIX_V6_LEN_LIMIT
 
 -- such a prefix that a text spells
 abbrev pub prefix_within : Bool → List ℕ → Option Block
@@ -74,48 +76,48 @@ abbrev pub each_address : List (List ℕ) → Option (List Address)
 each_address [] = Some []
 each_address (t ∷ more) = before (addr_of_text t) (each_address more)
 
--- up to 16 addresses
+-- few addresses
 abbrev pub addresses : List (List ℕ) → Option (List Address)
-addresses ts = option_and_then (passing (λ made. nat_le (length made) 16)) (each_address ts)
+addresses ts = option_and_then (passing (λ made. nat_le (length made) RESOLVER_LIMIT)) (each_address ts)
 
--- an array of up to 16 strings that spell addresses
+-- an array of few strings that spell addresses
 abbrev pub resolvers : Data → Result (List Address) ℕ
 resolvers d = reading addresses (texts d)
 
--- up to 16 domains
+-- few domains
 abbrev pub are_domains : List (List ℕ) → Bool
-are_domains ts = nat_le (length ts) 16 && list_all is_domain ts
+are_domains ts = nat_le (length ts) SEARCH_LIMIT && list_all is_domain ts
 
--- an array of up to 16 domains
+-- an array of few domains
 abbrev pub search_domains : Data → Result (List (List ℕ)) ℕ
 search_domains d = reading (passing are_domains) (texts d)
 
--- the texts at a domain, if they are an array of strings
+-- the texts at a suffix, if they are an array of strings
 abbrev pub route_texts : List ℕ → Data → Option RouteTexts
-route_texts domain d = option_map (λ ts. record { domain = domain; resolvers = ts }) (texts d)
+route_texts suffix d = option_map (λ ts. record { suffix = suffix; resolvers = ts }) (texts d)
 
 -- the texts at each key, if each has an array of strings
 abbrev pub member_texts : Members → Option (List RouteTexts)
 member_texts no_members = Some []
-member_texts (member domain d more) = before (route_texts domain d) (member_texts more)
+member_texts (member suffix d more) = before (route_texts suffix d) (member_texts more)
 
 -- a table of arrays of strings
 abbrev pub table_texts : Data → Option (List RouteTexts)
 table_texts d = option_and_then member_texts (as_table d)
 
--- a domain with up to 16 addresses
-abbrev pub route : RouteTexts → Option DomainRoute
-route r = if is_domain r.domain then option_map (λ made. record { domain = r.domain; resolvers = made }) (addresses r.resolvers) else None
+-- a domain with few addresses
+abbrev pub route : RouteTexts → Option DnsRoute
+route r = if is_domain r.suffix then option_map (λ made. record { suffix = r.suffix; resolvers = made }) (addresses r.resolvers) else None
 
 -- the routes that texts spell, if they all do
-abbrev pub each_route : List RouteTexts → Option (List DomainRoute)
+abbrev pub each_route : List RouteTexts → Option (List DnsRoute)
 each_route [] = Some []
 each_route (r ∷ more) = before (route r) (each_route more)
 
--- up to 64 domains, each with its addresses
-abbrev pub routes_within : List RouteTexts → Option (List DomainRoute)
-routes_within rs = option_and_then (passing (λ made. nat_le (length made) 64)) (each_route rs)
+-- few domains, each with its addresses
+abbrev pub routes_within : List RouteTexts → Option (List DnsRoute)
+routes_within rs = option_and_then (passing (λ made. nat_le (length made) DNS_ROUTE_LIMIT)) (each_route rs)
 
--- a table of up to 64 domains, each with an array of up to 16 strings that spell addresses
-abbrev pub routes : Data → Result (List DomainRoute) ℕ
+-- a table of few domains, each with an array of few strings that spell addresses
+abbrev pub routes : Data → Result (List DnsRoute) ℕ
 routes d = reading routes_within (table_texts d)

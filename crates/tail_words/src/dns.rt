@@ -9,9 +9,10 @@ use crate::fault::{SettingsFault, refused};
 use crate::lists::{resolvers, routes, search_domains};
 use crate::table::member;
 use net_addr::Addr;
-use net_rows::{DnsSettings, DomainRoute};
+use settings::PROXIED_DEFAULT;
 use std::alloc::Global;
 use tail_base::{Duplicate, Items, NoMemory, Text};
+use tailcfg::{DnsRoute, DnsSettings};
 use toml::{Table, Value};
 
 /// The number of the rule that an entry breaks, if it breaks one.
@@ -71,12 +72,12 @@ fn dns_at<'a>(table: &'a Table, key: &str) -> Option<&'a Value>
     member(dns, key)
 }
 
-fn magic_of(table: &Table) -> bool
-    ensures value { result ≡ (dns_of [] (table_view table.now)).magic }
+fn proxied_of(table: &Table) -> bool
+    ensures value { result ≡ (dns_of [] (table_view table.now)).proxied }
 {
     match dns_at(table, "magic") {
-        Some(value) => value.as_bool().unwrap_or(true),
-        None => true,
+        Some(value) => value.as_bool().unwrap_or(PROXIED_DEFAULT),
+        None => PROXIED_DEFAULT,
     }
 }
 
@@ -89,7 +90,7 @@ fn resolvers_of(alloc: Global, table: &Table) -> Result<Items<Addr>, NoMemory>
     }
 }
 
-fn routes_of(alloc: Global, table: &Table) -> Result<Items<DomainRoute>, NoMemory>
+fn routes_of(alloc: Global, table: &Table) -> Result<Items<DnsRoute>, NoMemory>
     ensures value { IfOk result (λ made. made ≡ (dns_of [] (table_view table.now)).routes) }
 {
     match dns_at(table, "routes") {
@@ -98,8 +99,8 @@ fn routes_of(alloc: Global, table: &Table) -> Result<Items<DomainRoute>, NoMemor
     }
 }
 
-fn search_of(alloc: Global, base_domain: &Text, table: &Table) -> Result<Items<Text>, NoMemory>
-    ensures value { IfOk result (λ made. made ≡ (dns_of base_domain.now (table_view table.now)).search) }
+fn domains_of(alloc: Global, base_domain: &Text, table: &Table) -> Result<Items<Text>, NoMemory>
+    ensures value { IfOk result (λ made. made ≡ (dns_of base_domain.now (table_view table.now)).domains) }
 {
     if let Some(value) = dns_at(table, "search")
         && let Ok(made) = search_domains(alloc, value)?
@@ -120,9 +121,9 @@ pub(crate) fn dns_of(
     ensures value { IfOk result (λ made. made ≡ dns_of base_domain.now (table_view table.now)) }
 {
     Ok(DnsSettings {
-        magic: magic_of(table),
+        domains: domains_of(alloc, base_domain, table)?,
+        proxied: proxied_of(table),
         resolvers: resolvers_of(alloc, table)?,
         routes: routes_of(alloc, table)?,
-        search: search_of(alloc, base_domain, table)?,
     })
 }

@@ -6,13 +6,13 @@ mod fault;
 mod lists;
 mod rule;
 mod rules;
-mod settings;
+mod settings_file;
 mod table;
 mod values;
 mod words;
 
 pub use fault::SettingsFault;
-pub use settings::read_settings;
+pub use settings_file::read_settings;
 pub use words::{Command, Pipe, read_command, read_words};
 
 #[cfg(test)]

@@ -2,21 +2,22 @@
 //! type or that of an element is another, 4 where it is against its key's rule.
 ghost use Rattle.std.specs.Prelude.{◌≡◌, IfOk};
 ghost use Rattle.std.specs.List.{list_all};
-ghost use Rattle.net_rows.specs.Settings.{is_domain};
+ghost use Rattle.settings.specs.Settings.{is_domain};
 ghost use Rattle.toml.specs.View.{items_view, table_view, view};
 ghost use Rattle.tail_words.specs.SettingsValues.{addresses, are_domains, each_address, each_route, item_texts, member_texts, resolvers, route, routes, routes_within, search_domains, table_texts, texts};
 
 use crate::rules::is_domain;
 use net_addr::Addr;
-use net_rows::DomainRoute;
+use settings::{DNS_ROUTE_LIMIT, RESOLVER_LIMIT, SEARCH_LIMIT};
 use std::alloc::Global;
 use tail_base::{Duplicate, Items, NoMemory, Text};
+use tailcfg::DnsRoute;
 use toml::{Table, Value};
 
-/// A domain, and the texts of its resolvers.
+/// A suffix, and the texts of its resolvers.
 #[derive(Drop)]
 pub(crate) struct RouteTexts {
-    domain: Text,
+    suffix: Text,
     resolvers: Items<Text>,
 }
 
@@ -60,17 +61,17 @@ fn each_address(alloc: Global, texts: &[Text]) -> Result<Option<Items<Addr>>, No
     Ok(Some(made))
 }
 
-/// The addresses that up to 16 texts spell, if they all do.
+/// The addresses that texts spell, if they all do and are few.
 fn addresses(alloc: Global, texts: &[Text]) -> Result<Option<Items<Addr>>, NoMemory>
     ensures value { IfOk result (λ made. made ≡ addresses texts.now) }
 {
     match each_address(alloc, texts)? {
-        Some(made) if made.len() <= 16 => Ok(Some(made)),
+        Some(made) if made.len() <= RESOLVER_LIMIT => Ok(Some(made)),
         _ => Ok(None),
     }
 }
 
-/// The addresses that an array of up to 16 strings spells.
+/// The addresses that an array of few strings spells.
 pub(crate) fn resolvers(alloc: Global, value: &Value) -> Result<Result<Items<Addr>, u8>, NoMemory>
     ensures value { IfOk result (λ read. read ≡ resolvers (view value.now)) }
 {
@@ -97,10 +98,10 @@ fn each_is_domain(texts: &[Text]) -> bool
 fn are_domains(texts: &[Text]) -> bool
     ensures value { result ≡ are_domains texts.now }
 {
-    texts.len() <= 16 && each_is_domain(texts)
+    texts.len() <= SEARCH_LIMIT && each_is_domain(texts)
 }
 
-/// The domains that an array of up to 16 strings gives.
+/// The domains that an array of few strings gives.
 pub(crate) fn search_domains(
     alloc: Global,
     value: &Value,
@@ -124,29 +125,29 @@ fn member_texts(alloc: Global, table: &Table) -> Result<Option<Items<RouteTexts>
         let Some(resolvers) = texts(alloc, value)? else {
             return Ok(None);
         };
-        let domain = Text::from_str(alloc, key.as_str())?;
-        made.push(RouteTexts { domain, resolvers })?;
+        let suffix = Text::from_str(alloc, key.as_str())?;
+        made.push(RouteTexts { suffix, resolvers })?;
     }
     Ok(Some(made))
 }
 
 /// The route that texts spell.
-fn route(alloc: Global, texts: &RouteTexts) -> Result<Option<DomainRoute>, NoMemory>
+fn route(alloc: Global, texts: &RouteTexts) -> Result<Option<DnsRoute>, NoMemory>
     ensures value { IfOk result (λ made. made ≡ route texts.now) }
 {
-    if !is_domain(texts.domain.as_slice()) {
+    if !is_domain(texts.suffix.as_slice()) {
         return Ok(None);
     }
     let Some(resolvers) = addresses(alloc, texts.resolvers.as_slice())? else {
         return Ok(None);
     };
-    let domain = texts.domain.copy(alloc)?;
-    Ok(Some(DomainRoute { domain, resolvers }))
+    let suffix = texts.suffix.copy(alloc)?;
+    Ok(Some(DnsRoute { suffix, resolvers }))
 }
 
 /// The routes that texts spell, if they all do.
 #[tactic(auto, using(crate::proofs::ListLemmas::onto_start, crate::proofs::ListLemmas::onto_one, crate::proofs::ListLemmas::onto_end))]
-fn each_route(alloc: Global, texts: &[RouteTexts]) -> Result<Option<Items<DomainRoute>>, NoMemory>
+fn each_route(alloc: Global, texts: &[RouteTexts]) -> Result<Option<Items<DnsRoute>>, NoMemory>
     ensures value { IfOk result (λ made. made ≡ each_route texts.now) }
 {
     let mut made = Items::new(alloc);
@@ -159,11 +160,8 @@ fn each_route(alloc: Global, texts: &[RouteTexts]) -> Result<Option<Items<Domain
     Ok(Some(made))
 }
 
-/// The up to 64 routes that a table gives: at each domain the addresses of its resolvers.
-pub(crate) fn routes(
-    alloc: Global,
-    value: &Value,
-) -> Result<Result<Items<DomainRoute>, u8>, NoMemory>
+/// The routes that a table gives, if they are few: at each domain the addresses of its resolvers.
+pub(crate) fn routes(alloc: Global, value: &Value) -> Result<Result<Items<DnsRoute>, u8>, NoMemory>
     ensures value { IfOk result (λ read. read ≡ routes (view value.now)) }
 {
     let Some(table) = value.as_table() else {
@@ -173,7 +171,7 @@ pub(crate) fn routes(
         return Ok(Err(3));
     };
     match each_route(alloc, texts.as_slice())? {
-        Some(made) if made.len() <= 64 => Ok(Ok(made)),
+        Some(made) if made.len() <= DNS_ROUTE_LIMIT => Ok(Ok(made)),
         _ => Ok(Err(4)),
     }
 }

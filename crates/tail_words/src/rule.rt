@@ -2,14 +2,16 @@
 ghost use Rattle.std.specs.Prelude.{◌≡◌};
 ghost use Rattle.tail_words.specs.SettingsText.{rule_of};
 
+use settings::{COUNT_LIMIT, SECONDS_LIMIT, WORKER_LIMIT};
+
 /// What a text has to be.
 #[derive(Clone, Copy, Debug, PartialEq, Eq, Drop)]
 pub(crate) enum TextRule {
     /// Any text.
     Any,
-    /// Labels joined by dots, up to 180 bytes.
-    Domain,
-    /// 1 to 255 visible ASCII bytes.
+    /// A domain with room for a machine's label before it.
+    BaseDomain,
+    /// Some visible ASCII bytes, up to a limit.
     Visible,
 }
 
@@ -18,15 +20,11 @@ pub(crate) enum TextRule {
 pub(crate) enum Rule {
     /// An integer in this range.
     Number { least: u32, greatest: u32 },
-    /// A string that spells a prefix: one within 100.64.0.0/10 with a length up to 30, or in IPv6
-    /// one within fd7a:115c:a1e0::/48 with a length up to 126.
+    /// A string that spells a prefix of the tailnet's addresses, which has room for some.
     Prefix { v6: bool },
     /// A string that keeps a rule.
     Text(TextRule),
 }
-
-/// The greatest number that a key takes, `workers` apart.
-const MOST: u32 = 1_000_000_000;
 
 fn numbers(least: u32, greatest: u32) -> Option<Rule>
     ensures value { result ≡ Some (Rule.Number least greatest) }
@@ -40,33 +38,33 @@ pub(crate) fn rule_of(key: &str) -> Option<Rule>
     ensures value { result ≡ rule_of key.now }
 {
     if key == "base_domain" {
-        Some(Rule::Text(TextRule::Domain))
+        Some(Rule::Text(TextRule::BaseDomain))
     } else if key == "connections" {
-        numbers(0, MOST)
+        numbers(0, COUNT_LIMIT)
     } else if key == "database" {
         Some(Rule::Text(TextRule::Any))
     } else if key == "ephemeral_seconds" {
-        numbers(1, MOST)
+        numbers(1, SECONDS_LIMIT)
     } else if key == "key_seconds" {
-        numbers(0, MOST)
+        numbers(0, SECONDS_LIMIT)
     } else if key == "listen" {
         Some(Rule::Text(TextRule::Any))
     } else if key == "pending_seconds" {
-        numbers(1, MOST)
+        numbers(1, SECONDS_LIMIT)
     } else if key == "poll_turns" {
-        numbers(1, MOST)
+        numbers(1, COUNT_LIMIT)
     } else if key == "prefix_v4" {
         Some(Rule::Prefix { v6: false })
     } else if key == "prefix_v6" {
         Some(Rule::Prefix { v6: true })
     } else if key == "requests" {
-        numbers(1, MOST)
+        numbers(1, COUNT_LIMIT)
     } else if key == "server_url" {
         Some(Rule::Text(TextRule::Visible))
     } else if key == "token" {
         Some(Rule::Text(TextRule::Visible))
     } else if key == "workers" {
-        numbers(1, 64)
+        numbers(1, WORKER_LIMIT)
     } else {
         None
     }

@@ -2,7 +2,9 @@
 ghost use Rattle.std.specs.Prelude.{◌≡◌, [], ◌&&◌, nat_le};
 ghost use Rattle.std.specs.List.{list_all};
 ghost use Rattle.tail_base.specs.Labels.{has_good_ends, has_label_length, is_alnum, is_label, is_label_byte};
-ghost use Rattle.net_rows.specs.Settings.{are_labels, is_domain, is_visible};
+ghost use Rattle.settings.specs.Settings.{are_labels, is_base_domain, is_domain, is_visible};
+
+use settings::{BASE_DOMAIN_LIMIT, DOMAIN_LIMIT, VISIBLE_LIMIT};
 
 fn is_label_byte(b: u8) -> bool
     ensures value { result ≡ is_label_byte b }
@@ -50,11 +52,18 @@ fn are_labels(text: &[u8]) -> bool
     is_label(&text[start..])
 }
 
-/// Whether the text is labels joined by dots, up to 180 bytes.
+/// Whether the text is labels joined by dots, no longer than a name in the DNS may be.
 pub(crate) fn is_domain(text: &[u8]) -> bool
     ensures value { result ≡ is_domain text.now }
 {
-    text.len() <= 180 && are_labels(text)
+    text.len() <= DOMAIN_LIMIT && are_labels(text)
+}
+
+/// Whether the text is a domain with room for a machine's label before it.
+pub(crate) fn is_base_domain(text: &[u8]) -> bool
+    ensures value { result ≡ is_base_domain text.now }
+{
+    text.len() <= BASE_DOMAIN_LIMIT && is_domain(text)
 }
 
 /// Whether each byte is visible ASCII.
@@ -64,9 +73,9 @@ pub(crate) fn has_visible_bytes(text: &[u8]) -> bool
     text.iter().all(|b| 33 <= *b && *b <= 126)
 }
 
-/// Whether the text is 1 to 255 visible ASCII bytes.
+/// Whether the text is some visible ASCII bytes, up to the limit.
 pub(crate) fn is_visible(text: &[u8]) -> bool
     ensures value { result ≡ is_visible text.now }
 {
-    1 <= text.len() && text.len() <= 255 && has_visible_bytes(text)
+    1 <= text.len() && text.len() <= VISIBLE_LIMIT && has_visible_bytes(text)
 }

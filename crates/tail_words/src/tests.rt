@@ -1,7 +1,8 @@
 use crate::{Command, SettingsFault, read_command, read_settings, read_words};
-use net_rows::{DnsSettings, SettingsFields};
+use settings::SettingsFields;
 use std::alloc::Global;
 use std::test::Fail;
+use tailcfg::DnsSettings;
 
 /// The rule and key of the fault of a settings file.
 fn is_refused(rt: &HostRuntime, text: &[u8], rule: u8, key: &str) -> bool {
@@ -73,11 +74,11 @@ fn are_defaults(fields: &SettingsFields) -> bool {
         && fields.token.as_str() == "t"
         && fields.listen.as_str() == "127.0.0.1:8080"
         && fields.database.as_str() == ":memory:"
-        && fields.dns.magic
+        && fields.dns.proxied
         && fields.workers == 4
         && fields.prefix_v4.len() == 10
-        && fields.dns.search.len() == 1
-        && fields.dns.search.as_slice()[0].as_str() == "ts.example"
+        && fields.dns.domains.len() == 1
+        && fields.dns.domains.as_slice()[0].as_str() == "ts.example"
 }
 
 #[test]
@@ -112,12 +113,12 @@ fn are_all_keys(fields: &SettingsFields) -> bool {
 
 /// The same of its table `dns`.
 fn is_all_dns(dns: &DnsSettings) -> bool {
-    !dns.magic
+    !dns.proxied
         && dns.resolvers.len() == 2
         && dns.routes.len() == 2
-        && dns.routes.as_slice()[0].domain.as_str() == "a.b"
-        && dns.search.len() == 1
-        && dns.search.as_slice()[0].as_str() == "x.y"
+        && dns.routes.as_slice()[0].suffix.as_str() == "a.b"
+        && dns.domains.len() == 1
+        && dns.domains.as_slice()[0].as_str() == "x.y"
 }
 
 #[test]

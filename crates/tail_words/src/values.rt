@@ -2,13 +2,13 @@
 //! where its type is another, 4 where it is against its key's rule.
 ghost use Rattle.std.specs.Prelude.{◌≡◌, option_and_then, option_map};
 ghost use Rattle.std.specs.Result.{result_ok, result_err};
-ghost use Rattle.net_rows.specs.Limits.{is_inside, tailnet_v4, tailnet_v6};
 ghost use Rattle.toml.specs.View.{view};
 ghost use Rattle.tail_words.specs.SettingsValues.{number, number_within, passes, prefix, prefix_fits, text};
 
 use crate::rule::TextRule;
-use crate::rules::{is_domain, is_visible};
-use net_addr::{Addr, Prefix};
+use crate::rules::{is_base_domain, is_visible};
+use net_addr::{Prefix, tailnet_v4, tailnet_v6};
+use settings::{PREFIX_V4_LEN_LIMIT, PREFIX_V6_LEN_LIMIT};
 use toml::Value;
 
 fn number_within(number: i64, least: u32, greatest: u32) -> Option<u32>
@@ -35,7 +35,7 @@ fn passes(rule: TextRule, text: &str) -> bool
 {
     match rule {
         TextRule::Any => true,
-        TextRule::Domain => is_domain(text.as_bytes()),
+        TextRule::BaseDomain => is_base_domain(text.as_bytes()),
         TextRule::Visible => is_visible(text.as_bytes()),
     }
 }
@@ -61,32 +61,14 @@ pub(crate) fn text(value: &Value, rule: TextRule) -> Option<&str>
     }
 }
 
-/// Whether an address lies in 100.64.0.0/10.
-fn is_tailnet_v4(addr: &Addr) -> bool
-    ensures value { result ≡ is_inside tailnet_v4 addr.now }
-{
-    !addr.is_v6() && 0x6440_0000 <= addr.bits() && addr.bits() < 0x6480_0000
-}
-
-/// Whether an address lies in fd7a:115c:a1e0::/48.
-fn is_tailnet_v6(addr: &Addr) -> bool
-    ensures value { result ≡ is_inside tailnet_v6 addr.now }
-{
-    addr.is_v6()
-        && 0xfd7a_115c_a1e0_0000_0000_0000_0000_0000 <= addr.bits()
-        && addr.bits() < 0xfd7a_115c_a1e1_0000_0000_0000_0000_0000
-}
-
 /// Whether the prefix is one of the tailnet's addresses, and leaves room for some.
 fn prefix_fits(v6: bool, prefix: &Prefix) -> bool
     ensures value { result ≡ prefix_fits v6 prefix.now }
 {
-    let base = prefix.base();
-    let len = prefix.len();
     if v6 {
-        48 <= len && is_tailnet_v6(&base) && len <= 126
+        prefix.within(&tailnet_v6()) && prefix.len() <= PREFIX_V6_LEN_LIMIT
     } else {
-        10 <= len && is_tailnet_v4(&base) && len <= 30
+        prefix.within(&tailnet_v4()) && prefix.len() <= PREFIX_V4_LEN_LIMIT
     }
 }
 

@@ -3,16 +3,17 @@ use Rattle.std.specs.Prelude.{ℕ, List, [], ◌==◌, if◌then◌else◌, fals
 use Rattle.serde_json.specs.Data.{Data}
 use Rattle.serde_json.specs.Find.{as_str, as_bool}
 use Rattle.net_addr.specs.EndpointTexts.{endpoint_of_text}
+use Rattle.net_addr.specs.Routes.{sorted_routes}
+use Rattle.tailcfg.specs.declared.limits.TheConstants.{ENDPOINT_LIMIT, HOST_LIMIT, REGION_LIMIT, ROUTE_LIMIT}
+use Rattle.tailcfg.specs.declared.host_update.HostUpdate.{HostUpdate}
+use Rattle.tailcfg.specs.declared.map_ask.MapAsk.{MapAsk}
+use Rattle.tailcfg.specs.declared.update.Update.{Update}
 use Rattle.wire_json.specs.Body.{◌>>=◌, field_of, object_at, body_value}
 use Rattle.wire_json.specs.Readers.{required, optional, object_of, node_key, some_disco_key, some_short_text, short_list, whole_up_to}
 use Rattle.wire_json.specs.Register.{prefix_spelled}
-use Rattle.wire_json.specs.Routes.{sorted_routes}
 use Rattle.wire_json.specs.declared.field.Field.TheVariants as field
 use Rattle.wire_json.specs.declared.fault.WireFault.{WireFault}
 use Rattle.wire_json.specs.declared.fault.WireFault.TheVariants as fault
-use Rattle.wire_json.specs.declared.map_ask.MapAsk.{MapAsk}
-use Rattle.wire_json.specs.declared.update.HostUpdate.{HostUpdate}
-use Rattle.wire_json.specs.declared.update.Update.{Update}
 
 -- no answer is compressed: only an empty text asks for none
 abbrev pub unless_named : Option (List ℕ) → Result (Unit {0}) WireFault
@@ -27,15 +28,15 @@ uncompressed (Some d) = unless_named (as_str d)
 -- the DERP region of a machine's network, where that is told: 0 where it has none
 abbrev pub derp_of : Option Data → Result (Option ℕ) WireFault
 derp_of None = Ok None
-derp_of (Some net) = optional field.PreferredDerp 0 (whole_up_to 65535) (Some net) >>= (λ derp. Ok (Some derp))
+derp_of (Some net) = optional field.PreferredDerp 0 (whole_up_to REGION_LIMIT) (Some net) >>= (λ derp. Ok (Some derp))
 
 -- what is told of the host
 unfoldable pub host_at : Data → Result HostUpdate WireFault
 host_at d = do
-  name ← optional field.Hostname None (some_short_text 255) (Some d)
+  name ← optional field.Hostname None (some_short_text HOST_LIMIT) (Some d)
   net ← object_of field.NetInfo (Some d)
   derp ← derp_of net
-  routes ← optional field.RoutableIps [] (short_list 32 prefix_spelled) (Some d)
+  routes ← optional field.RoutableIps [] (short_list ROUTE_LIMIT prefix_spelled) (Some d)
   Ok (record { name = name; derp = derp; routes = sorted_routes routes })
 
 -- the host, where it is told of
@@ -46,7 +47,7 @@ some_host (Some d) = host_at d >>= (λ host. Ok (Some host))
 -- what a machine tells of itself
 unfoldable pub update_at : Data → Result Update WireFault
 update_at d = do
-  endpoints ← optional field.Endpoints [] (short_list 32 endpoint_of_text) (Some d)
+  endpoints ← optional field.Endpoints [] (short_list ENDPOINT_LIMIT endpoint_of_text) (Some d)
   disco ← optional field.DiscoKey None some_disco_key (Some d)
   info ← object_of field.Hostinfo (Some d)
   host ← some_host info

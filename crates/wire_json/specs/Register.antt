@@ -5,13 +5,14 @@ use Rattle.serde_json.specs.Data.{Data}
 use Rattle.serde_json.specs.Find.{as_str, as_bool}
 use Rattle.net_addr.specs.Bits.{Block}
 use Rattle.net_addr.specs.PrefixTexts.{prefix_of_text}
+use Rattle.net_addr.specs.Routes.{sorted_routes}
 use Rattle.tail_base.specs.Tags.{tag_of}
+use Rattle.tailcfg.specs.declared.limits.TheConstants.{ASKED_TAG_LIMIT, HOST_LIMIT, ROUTE_LIMIT}
+use Rattle.tailcfg.specs.declared.register.Register.{Register}
 use Rattle.wire_json.specs.Body.{◌>>=◌, object_at, body_value}
 use Rattle.wire_json.specs.Readers.{required, optional, object_of, node_key, some_node_key, some_time, some_short_text, short_list}
-use Rattle.wire_json.specs.Routes.{sorted_routes}
 use Rattle.wire_json.specs.declared.field.Field.TheVariants as field
 use Rattle.wire_json.specs.declared.fault.WireFault.{WireFault}
-use Rattle.wire_json.specs.declared.register.Register.{Register}
 
 -- the prefix that a text spells
 abbrev pub prefix_spelled : List ℕ → Option Block
@@ -27,9 +28,9 @@ register_at d = do
   expiry ← optional field.Expiry None some_time (Some d)
   ephemeral ← optional field.Ephemeral false as_bool (Some d)
   info ← object_of field.Hostinfo (Some d)
-  host ← optional field.Hostname None (some_short_text 255) info
-  routes ← optional field.RoutableIps [] (short_list 32 prefix_spelled) info
-  tags ← optional field.RequestTags [] (short_list 16 tag_of) info
+  host ← optional field.Hostname None (some_short_text HOST_LIMIT) info
+  routes ← optional field.RoutableIps [] (short_list ROUTE_LIMIT prefix_spelled) info
+  tags ← optional field.RequestTags [] (short_list ASKED_TAG_LIMIT tag_of) info
   Ok (record { node = node; old = old; auth = auth; expiry = expiry; ephemeral = ephemeral; host = unwrap_or host []; routes = sorted_routes routes; tags = tags })
 
 -- the registration that a body is, or its first fault

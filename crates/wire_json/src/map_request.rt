@@ -3,21 +3,18 @@ ghost use Rattle.std.specs.Prelude.{option_map, IfOk, IfSome};
 ghost use Rattle.serde_json.specs.View.{view};
 ghost use Rattle.wire_json.specs.Body.{Gives};
 ghost use Rattle.wire_json.specs.MapRequest.{derp_of, host_at, map_ask_at, map_ask_of_body, some_host, uncompressed, update_at};
-ghost use Rattle.wire_json.specs.Short.{IsShortHost, IsShortUpdate};
+ghost use Rattle.tailcfg.specs.Short.{IsShortHost, IsShortUpdate};
 
 use crate::body::{field_of, object_of, object_of_body};
 use crate::fault::WireFault;
 use crate::field::Field;
-use crate::limits::{ENDPOINT_LIMIT, HOST_LIMIT, REGION_LIMIT, ROUTE_LIMIT};
-use crate::map_ask::MapAsk;
 use crate::readers::{flag_of, node_key_of, number_of, short_text_of, some_disco_key_of, text_of};
-use crate::routes::sorted_routes;
 use crate::spelled::list_of;
-use crate::update::{HostUpdate, Update};
-use net_addr::Prefix;
+use net_addr::{Prefix, sorted_routes};
 use serde_json::Value;
 use std::alloc::Global;
 use tail_base::Items;
+use tailcfg::{ENDPOINT_LIMIT, HOST_LIMIT, HostUpdate, MapAsk, REGION_LIMIT, ROUTE_LIMIT, Update};
 
 /// Refuses a compression, unless it has the empty name.
 fn uncompressed(value: Option<&Value>) -> Result<(), WireFault>

@@ -1,43 +1,22 @@
-//! Registrations.
+//! Registrations, read.
 ghost use Rattle.std.specs.Prelude.{IfOk};
 ghost use Rattle.serde_json.specs.View.{view};
 ghost use Rattle.wire_json.specs.Body.{Gives};
 ghost use Rattle.wire_json.specs.Register.{register_at, register_of_body};
-ghost use Rattle.wire_json.specs.Short.{IsShortForm};
+ghost use Rattle.tailcfg.specs.Short.{IsShortForm};
 
 use crate::body::{object_of, object_of_body};
 use crate::fault::WireFault;
 use crate::field::Field;
-use crate::limits::{ASKED_TAG_LIMIT, HOST_LIMIT, ROUTE_LIMIT};
 use crate::readers::{
     flag_of, node_key_of, short_text_of, some_node_key_of, some_time_of, text_of,
 };
-use crate::routes::sorted_routes;
 use crate::spelled::list_of;
-use moments::Moment;
-use net_addr::Prefix;
+use net_addr::{Prefix, sorted_routes};
 use serde_json::Value;
 use std::alloc::Global;
-use tail_base::{Items, NodeKey, Tag, Text};
-
-/// What a machine sends to register (`tailcfg.RegisterRequest`), as far as it is read.
-#[derive(Drop)]
-pub struct Register {
-    pub node: NodeKey,
-    /// The node key that this one takes the place of.
-    pub old: Option<NodeKey>,
-    /// The text of a pre-auth key; empty where there is none.
-    pub auth: Text,
-    /// The expiry that it asks for; one that has passed logs the machine out.
-    pub expiry: Option<Moment>,
-    pub ephemeral: bool,
-    /// Its host name; empty where it has none.
-    pub host: Text,
-    /// The routes that it advertises, by family, base and length, each once.
-    pub routes: Items<Prefix>,
-    /// The tags that it asks for, as they were sent.
-    pub tags: Items<Tag>,
-}
+use tail_base::{Items, Text};
+use tailcfg::{ASKED_TAG_LIMIT, HOST_LIMIT, ROUTE_LIMIT, Register};
 
 #[tactic(auto, unfolding(crate::specs::Register::register_at))]
 fn register_of(alloc: Global, body: &Value) -> Result<Register, WireFault>

@@ -10,17 +10,17 @@ use Rattle.serde_json.specs.Written.{has_float, items_have_float, members_have_f
 use Rattle.net_addr.specs.Bits.{Address, Block}
 use Rattle.net_addr.specs.declared.endpoint.Endpoint.{Endpoint}
 use Rattle.tail_base.specs.declared.key.DiscoKey.{DiscoKey}
-use Rattle.wire_json.specs.declared.dest_range.DestRange.{DestRange}
-use Rattle.wire_json.specs.declared.dns.Dns.{Dns}
-use Rattle.wire_json.specs.declared.dns_extra.DnsExtra.{DnsExtra}
-use Rattle.wire_json.specs.declared.dns_route.DnsRoute.{DnsRoute}
-use Rattle.wire_json.specs.declared.filter_rule.FilterRule.{FilterRule}
-use Rattle.wire_json.specs.declared.node_row.NodeRow.{NodeRow}
-use Rattle.wire_json.specs.declared.patch.Patch.{Patch}
-use Rattle.wire_json.specs.declared.profile.Profile.{Profile}
-use Rattle.wire_json.specs.declared.response.Response.{Response}
-use Rattle.wire_json.specs.declared.sources.Sources.{Sources}
-use Rattle.wire_json.specs.declared.sources.Sources.TheVariants.{Any, Only}
+use Rattle.tailcfg.specs.declared.filter.DestRange.{DestRange}
+use Rattle.tailcfg.specs.declared.dns.Dns.{Dns}
+use Rattle.tailcfg.specs.declared.dns.DnsExtra.{DnsExtra}
+use Rattle.tailcfg.specs.declared.dns.DnsRoute.{DnsRoute}
+use Rattle.tailcfg.specs.declared.filter.FilterRule.{FilterRule}
+use Rattle.tailcfg.specs.declared.node_row.NodeRow.{NodeRow}
+use Rattle.tailcfg.specs.declared.patch.Patch.{Patch}
+use Rattle.tailcfg.specs.declared.profile.Profile.{Profile}
+use Rattle.tailcfg.specs.declared.response.Response.{Response}
+use Rattle.tailcfg.specs.declared.filter.Sources.{Sources}
+use Rattle.tailcfg.specs.declared.filter.Sources.TheVariants.{Any, Only}
 use Rattle.wire_text.specs.Parts.{array_data, some_array, some_member, number_data, node_key_data, machine_key_data, disco_key_data, prefix_data, endpoint_data, moment_data, time_data}
 use Rattle.wire_text.specs.Nodes.{node_data, patch_data, profile_data}
 use Rattle.wire_text.specs.Filters.{dest_data, ports_data, rule_data, sources_data, span_data}
@@ -125,10 +125,10 @@ routes_plain rs = folded_plain rs no_members refl
 dns_plain : (d : Dns) → has_float (dns_data d) ≡ false
 unfolding dns_data
 dns_plain d =
-    neither _ _ (items_plain string d.domains (λ _. refl)) (
+    neither _ _ (items_plain string d.settings.domains (λ _. refl)) (
     neither _ _ (items_plain extra_data d.extras extra_plain) (
-    neither _ _ (items_plain resolver_data d.resolvers resolver_plain) (
-    neither _ _ (routes_plain d.routes) refl)))
+    neither _ _ (items_plain resolver_data d.settings.resolvers resolver_plain) (
+    neither _ _ (routes_plain d.settings.routes) refl)))
 
 node_plain : (r : NodeRow) → has_float (node_data r) ≡ false
 unfolding node_data node_key_data machine_key_data disco_key_data moment_data

@@ -3,9 +3,9 @@ use Rattle.std.specs.Prelude.{ℕ, List, fold, if◌then◌else◌, codes}
 use Rattle.serde_json.specs.Data.{Data, string, boolean, object, Members, no_members, member, put}
 use Rattle.net_addr.specs.Bits.{Address}
 use Rattle.net_addr.specs.AddrTexts.{addr_text}
-use Rattle.wire_json.specs.declared.dns.Dns.{Dns}
-use Rattle.wire_json.specs.declared.dns_extra.DnsExtra.{DnsExtra}
-use Rattle.wire_json.specs.declared.dns_route.DnsRoute.{DnsRoute}
+use Rattle.tailcfg.specs.declared.dns.Dns.{Dns}
+use Rattle.tailcfg.specs.declared.dns.DnsExtra.{DnsExtra}
+use Rattle.tailcfg.specs.declared.dns.DnsRoute.{DnsRoute}
 use Rattle.wire_text.specs.Parts.{array_data}
 
 -- `AAAA` for an IPv6 address, else `A`
@@ -34,8 +34,8 @@ routes_data rs = object (fold with_route no_members rs)
 -- all fields are always written
 unfoldable pub dns_data : Dns → Data
 dns_data d = object (
-    member (codes "Domains") (array_data string d.domains) (
+    member (codes "Domains") (array_data string d.settings.domains) (
     member (codes "ExtraRecords") (array_data extra_data d.extras) (
-    member (codes "Proxied") (boolean d.proxied) (
-    member (codes "Resolvers") (array_data resolver_data d.resolvers) (
-    member (codes "Routes") (routes_data d.routes) no_members)))))
+    member (codes "Proxied") (boolean d.settings.proxied) (
+    member (codes "Resolvers") (array_data resolver_data d.settings.resolvers) (
+    member (codes "Routes") (routes_data d.settings.routes) no_members)))))

@@ -5,10 +5,10 @@ use Rattle.net_addr.specs.Bits.{Block, family_bits}
 use Rattle.net_addr.specs.AddrTexts.{addr_text}
 use Rattle.net_addr.specs.PrefixTexts.{prefix_text}
 use Rattle.port_sets.specs.declared.range.PortRange.{PortRange}
-use Rattle.wire_json.specs.declared.dest_range.DestRange.{DestRange}
-use Rattle.wire_json.specs.declared.filter_rule.FilterRule.{FilterRule}
-use Rattle.wire_json.specs.declared.sources.Sources.{Sources}
-use Rattle.wire_json.specs.declared.sources.Sources.TheVariants.{Any, Only}
+use Rattle.tailcfg.specs.declared.filter.DestRange.{DestRange}
+use Rattle.tailcfg.specs.declared.filter.FilterRule.{FilterRule}
+use Rattle.tailcfg.specs.declared.filter.Sources.{Sources}
+use Rattle.tailcfg.specs.declared.filter.Sources.TheVariants.{Any, Only}
 use Rattle.wire_text.specs.Parts.{number_data, array_data}
 
 -- a prefix of one address is written without its length

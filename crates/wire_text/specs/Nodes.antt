@@ -2,9 +2,9 @@
 use Rattle.std.specs.Prelude.{ℕ, ◌++◌, List, true, codes, Some, option_map}
 use Rattle.std.specs.Fmt.{decimal}
 use Rattle.serde_json.specs.Data.{Data, string, boolean, object, Members, no_members, member}
-use Rattle.wire_json.specs.declared.node_row.NodeRow.{NodeRow}
-use Rattle.wire_json.specs.declared.patch.Patch.{Patch}
-use Rattle.wire_json.specs.declared.profile.Profile.{Profile}
+use Rattle.tailcfg.specs.declared.node_row.NodeRow.{NodeRow}
+use Rattle.tailcfg.specs.declared.patch.Patch.{Patch}
+use Rattle.tailcfg.specs.declared.profile.Profile.{Profile}
 use Rattle.wire_text.specs.Parts.{number_data, array_data, some_member, node_key_data, machine_key_data, disco_key_data, prefix_data, endpoint_data, moment_data, time_data}
 
 -- what is told of the host (`tailcfg.Hostinfo`)

@@ -2,7 +2,7 @@
 use Rattle.std.specs.Prelude.{ℕ, List, [], ◌++◌, Bool, true, false, codes}
 use Rattle.serde_json.specs.Data.{Data, string, boolean, object, no_members, member}
 use Rattle.serde_json.specs.Written.{compact_text}
-use Rattle.wire_json.specs.declared.profile.Profile.{Profile}
+use Rattle.tailcfg.specs.declared.profile.Profile.{Profile}
 use Rattle.wire_text.specs.Parts.{number_data}
 
 -- the user for whom the machine is registered (`tailcfg.Login`)

@@ -3,7 +3,7 @@
 use Rattle.std.specs.Prelude.{ℕ, List, codes, option_map}
 use Rattle.serde_json.specs.Data.{Data, string, object, Members, no_members}
 use Rattle.serde_json.specs.Written.{compact_text}
-use Rattle.wire_json.specs.declared.response.Response.{Response}
+use Rattle.tailcfg.specs.declared.response.Response.{Response}
 use Rattle.wire_text.specs.Parts.{number_data, array_data, some_array, some_member}
 use Rattle.wire_text.specs.Dns.{dns_data}
 use Rattle.wire_text.specs.Filters.{rule_data}

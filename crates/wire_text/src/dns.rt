@@ -8,7 +8,7 @@ use net_addr::Addr;
 use serde_json::{Map, Value, json};
 use std::alloc::Global;
 use tail_base::NoMemory;
-use wire_json::{Dns, DnsExtra, DnsRoute};
+use tailcfg::{Dns, DnsExtra, DnsRoute};
 
 /// `AAAA` for an IPv6 address, else `A`.
 fn record_type(addr: &Addr) -> &'static str
@@ -60,11 +60,11 @@ impl JsonForm for Dns {
     #[tactic(auto, unfolding(crate::specs::Dns::dns_data))]
     fn to_json(&self, alloc: Global) -> Result<Value, NoMemory> {
         Ok(json!(in alloc; {
-            "Domains": self.domains.to_json(alloc)?,
+            "Domains": self.settings.domains.to_json(alloc)?,
             "ExtraRecords": self.extras.to_json(alloc)?,
-            "Proxied": self.proxied,
-            "Resolvers": self.resolvers.to_json(alloc)?,
-            "Routes": routes_value(alloc, self.routes.as_slice())?,
+            "Proxied": self.settings.proxied,
+            "Resolvers": self.settings.resolvers.to_json(alloc)?,
+            "Routes": routes_value(alloc, self.settings.routes.as_slice())?,
         })?)
     }
 }

@@ -10,7 +10,7 @@ use port_sets::PortRange;
 use serde_json::{Value, json};
 use std::alloc::Global;
 use tail_base::{NoMemory, Text};
-use wire_json::{DestRange, FilterRule, Sources};
+use tailcfg::{DestRange, FilterRule, Sources};
 
 /// A prefix, without its length where it is one address.
 fn span_text(alloc: Global, prefix: &Prefix) -> Result<Text, NoMemory>

@@ -11,7 +11,7 @@ use crate::parts::text_value;
 use serde_json::{Map, Value, json};
 use std::alloc::{AllocError, Global};
 use tail_base::NoMemory;
-use wire_json::NodeRow;
+use tailcfg::NodeRow;
 
 fn host_value(alloc: Global, name: &str) -> Result<Value, AllocError>
     ensures value { IfOk result (λ v. view v ≡ host_data name.now) }

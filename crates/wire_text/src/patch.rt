@@ -6,7 +6,7 @@ use crate::members::{put_form, put_option};
 use serde_json::{Map, Value};
 use std::alloc::Global;
 use tail_base::NoMemory;
-use wire_json::Patch;
+use tailcfg::Patch;
 
 impl JsonForm for Patch {
     ghost json = { patch_data };

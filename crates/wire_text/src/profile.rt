@@ -5,7 +5,7 @@ use crate::json_form::JsonForm;
 use serde_json::{Value, json};
 use std::alloc::Global;
 use tail_base::NoMemory;
-use wire_json::Profile;
+use tailcfg::Profile;
 
 impl JsonForm for Profile {
     ghost json = { profile_data };

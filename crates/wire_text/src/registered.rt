@@ -6,7 +6,7 @@ ghost use Rattle.wire_text.specs.Registered.{answer_data, login_at_text as text_
 use serde_json::{Value, json};
 use std::alloc::{AllocError, Global};
 use tail_base::{Duplicate, NoMemory, Text};
-use wire_json::Profile;
+use tailcfg::Profile;
 
 #[tactic(auto, unfolding(crate::specs::Registered::answer_data))]
 fn answer_value(

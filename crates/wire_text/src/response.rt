@@ -7,7 +7,7 @@ use crate::members::{put_list, put_option};
 use serde_json::{Map, Value};
 use std::alloc::Global;
 use tail_base::{NoMemory, Text};
-use wire_json::Response;
+use tailcfg::Response;
 
 #[tactic(auto, unfolding(crate::specs::Responses::peer_members))]
 fn peer_members(alloc: Global, response: &Response) -> Result<Map<String, Value>, NoMemory>

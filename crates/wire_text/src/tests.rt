@@ -3,7 +3,7 @@ use crate::{login_at_text, registered_text, response_text};
 use std::alloc::Global;
 use std::test::Fail;
 use tail_base::{Items, Text};
-use wire_json::{Profile, Response};
+use tailcfg::{Profile, Response};
 
 fn text(alloc: Global, text: &str) -> Result<Text, Fail> {
     Ok(Text::from_str(alloc, text)?)

@@ -1,6 +1,6 @@
 use Rattle.std.proofs.Common.{◌≡◌, drop}
 use Rattle.std.specs.List.{list_all}
-use Rattle.net_rows.specs.Settings.{is_domain}
+use Rattle.settings.specs.Settings.{is_domain}
 use Rattle.tail_words.proofs.lists.each_is_domain.Given as goal
 
 -- what is left decides

@@ -1,6 +1,6 @@
 use Rattle.std.proofs.Common.{◌≡◌, ◌≤◌, [], drop}
 use Rattle.std.specs.List.{between}
-use Rattle.net_rows.specs.Settings.{are_labels}
+use Rattle.settings.specs.Settings.{are_labels}
 use Rattle.tail_words.proofs.rules.are_labels.Given as goal
 
 -- what is left decides, after the label that has begun
