@@ -20,5 +20,3 @@ pub use readers::{flag_of, some_time_of};
 pub use register::read_register;
 pub use spelled::{Spelled, list_of};
 
-#[cfg(test)]
-mod tests;

@@ -1,0 +1,5 @@
+//! Tests of the readers of request bodies.
+#![tactic(auto)]
+
+#[cfg(test)]
+mod bodies;
