@@ -32,10 +32,10 @@ impl Model for Moment {
     ghost inverse = { λ n. record { seconds = n } };
 }
 
-/// 0001-01-01T00:00:00Z.
+/// The first moment: 0001-01-01T00:00:00Z.
 pub const FIRST_SECOND: i64 = -62_135_596_800;
 
-/// 9999-12-31T23:59:59Z.
+/// The last moment: 9999-12-31T23:59:59Z.
 pub const LAST_SECOND: i64 = 253_402_300_799;
 
 impl Moment {
