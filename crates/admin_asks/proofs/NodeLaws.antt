@@ -1,9 +1,12 @@
 -- Decisions on machines keep the rules of the tables.
 use Rattle.std.proofs.Common.{◌≡◌, ◌≤◌, ◌==◌, ℕ, ℤ, true, false, not, ◌&&◌, List, [], ◌∷◌, Option, Some, None, unwrap_or, Result, Ok, inl, inr, refl, subst, length, arith}
 use Rattle.std.specs.Prelude.{Contains}
-use Rattle.std.specs.Cmp.Lexicographic.{pointwise}
+use Rattle.std.specs.Cmp.Lexicographic.{pointwise, slice_cmp}
+use Rattle.std.specs.Ordering.{nat_cmp}
 use Rattle.std.specs.Str.{bytes_eq}
 use Rattle.tail_base.specs.Labels.{label_of}
+use Rattle.tail_base.specs.Sorted.{sorted_once}
+use Rattle.tail_base.proofs.SortedLemmas.{length-sorted_once}
 use Rattle.net_rows.specs.Damage.{damage}
 use Rattle.net_rows.specs.Limits.{tag_limit}
 use Rattle.net_rows.specs.Rows.{after, machine_with}
@@ -22,7 +25,6 @@ use Rattle.desk_state.specs.Rulings.{IsSoundDecision}
 use Rattle.desk_state.specs.Changes.{machine_gone}
 use Rattle.desk_state.specs.State.{State}
 use Rattle.desk_state.specs.Steps.{or_refuse, refuse_if, Gives}
-use Rattle.desk_state.specs.Tags.{sorted_once}
 use Rattle.desk_state.specs.Users.{tags_defined}
 use Rattle.desk_state.specs.declared.decision.Decision.{Decision}
 use Rattle.desk_state.specs.declared.decision.Decision.TheVariants.{Changes}
@@ -30,7 +32,6 @@ use Rattle.desk_state.specs.declared.decision.Stop.{Stop}
 use Rattle.desk_state.specs.declared.reply.Answer.{Answer}
 use Rattle.desk_state.specs.declared.reply.Refusal.TheVariants.{UnknownMachine, BadName, NameTaken}
 use Rattle.desk_state.proofs.StepLemmas.{AreRuled, bind_ok, bind_ruled, ok_ruled, or_refuse_ok, or_ruled, refuse_if_ok, refuse_ruled, sound_decision}
-use Rattle.desk_state.proofs.TagLemmas.{length-sorted_once}
 use Rattle.admin_asks.specs.Nodes.{changed_node, ends_at, expired_node, expire_node, is_taken, renamed, rename, tagged, set_tags, drop_node}
 use Rattle.admin_asks.proofs.NamedLaws.{tags_ruled}
 
@@ -158,14 +159,14 @@ set_tags_changes : (s : State) (id : ℕ) (tags : List (List ℕ)) (c : Change) 
 set_tags_changes s id tags c o a sound short h =
     let m = bind_ok (or_refuse (machine_with s.rows.machines id) UnknownMachine) _ (Changes c o a) h in
     let defined = bind_ok (tags_defined tags) _ (Changes c o a) m.2 in
-    let is : tagged s m.0 (sorted_once tags) ≡ Changes c o a = cc in
-    tagged_changes s m.0 (sorted_once tags) c o a sound (node_there s id m.0 m.1) (omega (arith, short, length-sorted_once tags)) is
+    let is : tagged s m.0 (sorted_once (slice_cmp nat_cmp) tags) ≡ Changes c o a = cc in
+    tagged_changes s m.0 (sorted_once (slice_cmp nat_cmp) tags) c o a sound (node_there s id m.0 m.1) (omega (arith, short, length-sorted_once (slice_cmp nat_cmp) tags)) is
 
 set_tags_ruled : (s : State) (id : ℕ) (tags : List (List ℕ)) → AreRuled (set_tags s id tags)
 set_tags_ruled s id tags =
     bind_ruled (or_refuse (machine_with s.rows.machines id) UnknownMachine) _ (node_ruled s id) (λ (m : Machine).
     bind_ruled (tags_defined tags) _ (tags_ruled tags) (λ _.
-    ok_ruled (tagged s m (sorted_once tags))))
+    ok_ruled (tagged s m (sorted_once (slice_cmp nat_cmp) tags))))
 
 pub sound_set_tags : (s : State) (id : ℕ) (tags : List (List ℕ)) (r : Result Decision Stop) → damage s.rows ≡ None → length tags ≤ tag_limit
     → Gives (λ d. d) r (set_tags s id tags) → IsSoundDecision s.rows r

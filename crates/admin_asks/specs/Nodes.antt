@@ -1,10 +1,11 @@
 -- Operators list machines, let them expire, rename, tag and remove them.
 use Rattle.std.specs.Prelude.{ℕ, ℤ, Bool, false, List, [], ◌∷◌, Option, Some, None, unwrap_or, Result, Ok, ◌==◌, not, ◌&&◌, if◌then◌else◌}
-use Rattle.std.specs.Cmp.Lexicographic.{pointwise}
+use Rattle.std.specs.Cmp.Lexicographic.{pointwise, slice_cmp}
 use Rattle.std.specs.List.{list_any}
-use Rattle.std.specs.Ordering.{int_eq}
+use Rattle.std.specs.Ordering.{int_eq, nat_cmp}
 use Rattle.std.specs.Str.{bytes_eq}
 use Rattle.tail_base.specs.Labels.{label_of}
+use Rattle.tail_base.specs.Sorted.{sorted_once}
 use Rattle.net_rows.specs.Rows.{machine_with}
 use Rattle.net_rows.specs.declared.change.Row.TheVariants as row
 use Rattle.net_rows.specs.declared.machine.Machine.{Machine}
@@ -12,7 +13,6 @@ use Rattle.desk_state.specs.Changes.{machine_gone}
 use Rattle.desk_state.specs.Lines.{node_line}
 use Rattle.desk_state.specs.State.{State}
 use Rattle.desk_state.specs.Steps.{◌>>=◌, or_refuse, refuse_if}
-use Rattle.desk_state.specs.Tags.{sorted_once}
 use Rattle.desk_state.specs.Users.{tags_defined}
 use Rattle.desk_state.specs.declared.decision.Decision.{Decision}
 use Rattle.desk_state.specs.declared.decision.Decision.TheVariants.{Only, Changes}
@@ -72,7 +72,7 @@ abbrev pub set_tags : State → ℕ → List (List ℕ) → Result Decision Refu
 set_tags s id tags = do
   machine ← or_refuse (machine_with s.rows.machines id) UnknownMachine
   defined ← tags_defined tags
-  Ok (tagged s machine (sorted_once tags))
+  Ok (tagged s machine (sorted_once (slice_cmp nat_cmp) tags))
 
 abbrev pub drop_node : State → ℕ → Result Decision Refusal
 drop_node s id = do

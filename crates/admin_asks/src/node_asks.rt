@@ -8,13 +8,12 @@ ghost use Rattle.desk_state.specs.Steps.{Gives};
 ghost use Rattle.admin_asks.specs.Nodes as spec;
 
 use desk_state::{
-    Answer, Decision, NodeLine, Refusal, Snapshot, Stop, machine_gone, node_line, sorted_once,
-    tags_defined,
+    Answer, Decision, NodeLine, Refusal, Snapshot, Stop, machine_gone, node_line, tags_defined,
 };
 use moments::Moment;
 use net_rows::{Change, Machine, Row};
 use std::alloc::Global;
-use tail_base::{Duplicate, Items, Label, NoMemory, Tag, Text};
+use tail_base::{Duplicate, Items, Label, NoMemory, Tag, Text, sorted_once};
 
 fn node_lines(
     alloc: Global,
