@@ -2,7 +2,8 @@
 use Rattle.std.proofs.Common.{◌≡◌, ◌≤◌, ◌+◌, ◌==◌, ℕ, true, not, List, Option, Some, None, Result, Ok, inl, inr, refl, subst, nat_lt, length, arith}
 use Rattle.std.specs.Prelude.{Contains}
 use Rattle.net_rows.specs.Damage.{damage}
-use Rattle.net_rows.specs.Limits.{asked_tag_limit, counter_limit, key_limit}
+use Rattle.tailcfg.specs.declared.limits.TheConstants.{ASKED_TAG_LIMIT}
+use Rattle.net_rows.specs.declared.limits.TheConstants.{COUNTER_LIMIT, KEY_LIMIT}
 use Rattle.net_rows.specs.Room.{has_room}
 use Rattle.net_rows.specs.Rows.{after, key_with}
 use Rattle.net_rows.specs.Sound.{AreSound}
@@ -11,7 +12,7 @@ use Rattle.net_rows.specs.declared.change.Kind.TheVariants as kind
 use Rattle.net_rows.specs.declared.key.AuthKey.{AuthKey}
 use Rattle.net_rows.specs.declared.rows.Rows.{Rows}
 use Rattle.net_rows.specs.declared.user.User.{User}
-use Rattle.net_rows.proofs.Bools.{truth, both, lt_of}
+use Rattle.std.proofs.lemmas.Bool.{cases_Bool, and_parts, ltb-true}
 use Rattle.net_rows.proofs.Members.{find_member}
 use Rattle.net_rows.proofs.SoundPut.{sound_key}
 use Rattle.net_rows.proofs.Sounds.{sound_of, no_damage}
@@ -40,23 +41,23 @@ add_key_ruled s form words =
     ok_ruled (added_key s.rows (new_key s.rows form user.id drawn))))))
 
 -- a new key of a user of the tables may be put
-key_added : (t : Rows) (form : KeyForm) (user : User) (words : List ℕ) → AreSound t → length form.tags ≤ asked_tag_limit → Contains t.users user → has_room t kind.Key ≡ true
+key_added : (t : Rows) (form : KeyForm) (user : User) (words : List ℕ) → AreSound t → length form.tags ≤ ASKED_TAG_LIMIT → Contains t.users user → has_room t kind.Key ≡ true
     → AreSound (after t (key_change t (new_key t form user.id words)))
 key_added t form user words sound short inside room =
-    let have = both (nat_lt (length t.keys) key_limit) (nat_lt t.next.key counter_limit) room in
+    let have = and_parts (nat_lt (length t.keys) KEY_LIMIT) (nat_lt t.next.key COUNTER_LIMIT) room in
     let key : AuthKey = new_key t form user.id words in
     sound_key t key (t.next.key + 1) sound (record {
       id = sound.counters.key.0;
-      room = inl (lt_of _ _ have.0);
+      room = inl (ltb-true _ _ have.0);
       text = fresh_key_text t key words sound refl refl;
       keeps = record {
         user = (user, inside, refl);
         text = key_text_names t.next.key words;
         tags = short;
       };
-    }) (omega arith) (omega arith) (let below = lt_of _ _ have.1 in omega arith)
+    }) (omega arith) (omega arith) (let below = ltb-true _ _ have.1 in omega arith)
 
-add_key_changes : (s : State) (form : KeyForm) (words : Option (List ℕ)) (c : Change) (o : List ℕ) (a : Answer) → AreSound s.rows → length form.tags ≤ asked_tag_limit
+add_key_changes : (s : State) (form : KeyForm) (words : Option (List ℕ)) (c : Change) (o : List ℕ) (a : Answer) → AreSound s.rows → length form.tags ≤ ASKED_TAG_LIMIT
     → add_key s form words ≡ Ok (Changes c o a) → AreSound (after s.rows c)
 add_key_changes s form words c o a sound short h =
     let user = bind_ok (user_named s.rows form.login) _ (Changes c o a) h in
@@ -67,7 +68,7 @@ add_key_changes s form words c o a sound short h =
     subst (λ (x : Change). AreSound (after s.rows x)) same
     (key_added s.rows form user.0 drawn.0 sound short (user_there s.rows form.login user.0 user.1) (unless_ok _ (Full scarce.Key) room.0 room.1))
 
-pub sound_add_key : (s : State) (form : KeyForm) (words : Option (List ℕ)) (r : Result Decision Stop) → damage s.rows ≡ None → length form.tags ≤ asked_tag_limit
+pub sound_add_key : (s : State) (form : KeyForm) (words : Option (List ℕ)) (r : Result Decision Stop) → damage s.rows ≡ None → length form.tags ≤ ASKED_TAG_LIMIT
     → Gives (λ d. d) r (add_key s form words) → IsSoundDecision s.rows r
 sound_add_key s form words r none short g =
     sound_decision s (add_key s form words) r (add_key_ruled s form words)
@@ -92,7 +93,7 @@ key_ended s key sound inside =
 
 expired_changes : (s : State) (key : AuthKey) (c : Change) (o : List ℕ) (a : Answer) → AreSound s.rows → Contains s.rows.keys key → expired_key s key ≡ Changes c o a → AreSound (after s.rows c)
 expired_changes s key c o a sound inside e =
-    elim (truth (is_ahead s.now key.expiry)) [
+    elim (cases_Bool (is_ahead s.now key.expiry)) [
       | inl ahead ↦
           let is = rw ahead at e in
           let same : ended_key s key ≡ c = cc in

@@ -8,7 +8,7 @@ use Rattle.tail_base.specs.Labels.{label_of}
 use Rattle.tail_base.specs.Sorted.{sorted_once}
 use Rattle.tail_base.proofs.SortedLemmas.{length-sorted_once}
 use Rattle.net_rows.specs.Damage.{damage}
-use Rattle.net_rows.specs.Limits.{tag_limit}
+use Rattle.net_rows.specs.declared.limits.TheConstants.{TAG_LIMIT}
 use Rattle.net_rows.specs.Rows.{after, machine_with}
 use Rattle.net_rows.specs.Shelf.{IsOwn}
 use Rattle.net_rows.specs.Sound.{AreSound, FitsMachine}
@@ -16,7 +16,8 @@ use Rattle.net_rows.specs.declared.change.Change.{Change}
 use Rattle.net_rows.specs.declared.change.Row.TheVariants as row
 use Rattle.net_rows.specs.declared.machine.Machine.{Machine}
 use Rattle.net_rows.specs.declared.rows.Rows.{Rows}
-use Rattle.net_rows.proofs.Bools.{truth, bytes_is}
+use Rattle.std.proofs.lemmas.Bool.{cases_Bool}
+use Rattle.tail_base.proofs.Bools.{bytes_eq-from}
 use Rattle.net_rows.proofs.Members.{find_member, list_any_member}
 use Rattle.net_rows.proofs.SoundPut.{sound_machine}
 use Rattle.net_rows.proofs.SoundRemove.{sound_without_machine}
@@ -40,7 +41,7 @@ abbrev row_with : Machine → List ℕ → List (List ℕ) → Option ℤ → Ma
 row_with m name tags expiry = record m { name = name; tags = tags; expiry = expiry }
 
 fits_with : (t : Rows) (m : Machine) (name : List ℕ) (tags : List (List ℕ)) (expiry : Option ℤ) → AreSound t → Contains t.machines m
-    → IsOwn (λ r. r.id) (λ r. r.name) t.machines (row_with m name tags expiry) → length tags ≤ tag_limit → FitsMachine t (row_with m name tags expiry)
+    → IsOwn (λ r. r.id) (λ r. r.name) t.machines (row_with m name tags expiry) → length tags ≤ TAG_LIMIT → FitsMachine t (row_with m name tags expiry)
 fits_with t m name tags expiry sound inside own short =
     let keeps = sound.machines.keeps m inside in
     record {
@@ -65,7 +66,7 @@ fits_with t m name tags expiry sound inside own short =
 
 -- a change to such a row keeps the rules
 with_sound : (s : State) (m : Machine) (name : List ℕ) (tags : List (List ℕ)) (expiry : Option ℤ) (c : Change) (o : List ℕ) (a : Answer) → AreSound s.rows
-    → Contains s.rows.machines m → IsOwn (λ r. r.id) (λ r. r.name) s.rows.machines (row_with m name tags expiry) → length tags ≤ tag_limit
+    → Contains s.rows.machines m → IsOwn (λ r. r.id) (λ r. r.name) s.rows.machines (row_with m name tags expiry) → length tags ≤ TAG_LIMIT
     → changed_node s (row_with m name tags expiry) ≡ Changes c o a → AreSound (after s.rows c)
 with_sound s m name tags expiry c o a sound inside own short e =
     let ids = sound.machines.ids m inside in
@@ -89,7 +90,7 @@ node_ruled s id = or_ruled (machine_with s.rows.machines id) UnknownMachine tt
 expired_changes : (s : State) (m : Machine) (end : ℤ) (c : Change) (o : List ℕ) (a : Answer) → AreSound s.rows → Contains s.rows.machines m
     → expired_node s m end ≡ Changes c o a → AreSound (after s.rows c)
 expired_changes s m end c o a sound inside e =
-    elim (truth (ends_at m.expiry end)) [
+    elim (cases_Bool (ends_at m.expiry end)) [
       | inl same ↦ let clash = rw same at e in absurd (cc)
       | inr other ↦ with_sound s m m.name m.tags (Some end) c o a sound inside (own_name s.rows m sound inside) (sound.machines.keeps m inside).tags (rw other at e)
     ]
@@ -111,9 +112,9 @@ name_free : (t : Rows) (m : Machine) (name : List ℕ) (tags : List (List ℕ)) 
     → IsOwn (λ r. r.id) (λ r. r.name) t.machines (row_with m name tags expiry)
 name_free t m name tags expiry free a within e =
     let test : (bytes_eq a.name name && not (a.id == m.id)) ≡ false = list_any_member (λ (r : Machine). bytes_eq r.name name && not (r.id == m.id)) t.machines free a within in
-    let same : bytes_eq a.name name ≡ true = bytes_is a.name name e in
+    let same : bytes_eq a.name name ≡ true = bytes_eq-from a.name name e in
     let other : not (a.id == m.id) ≡ false = rw same at test in
-    elim (truth (a.id == m.id)) [
+    elim (cases_Bool (a.id == m.id)) [
       | inl own ↦ grind arith
       | inr apart ↦ let bad : true ≡ false = rw apart at other in absurd (cc)
     ]
@@ -121,7 +122,7 @@ name_free t m name tags expiry free a within e =
 renamed_changes : (s : State) (m : Machine) (name : List ℕ) (c : Change) (o : List ℕ) (a : Answer) → AreSound s.rows → Contains s.rows.machines m
     → is_taken s.rows.machines m.id name ≡ false → renamed s m name ≡ Changes c o a → AreSound (after s.rows c)
 renamed_changes s m name c o a sound inside free e =
-    elim (truth (bytes_eq m.name name)) [
+    elim (cases_Bool (bytes_eq m.name name)) [
       | inl same ↦ let clash = rw same at e in absurd (cc)
       | inr other ↦ with_sound s m name m.tags m.expiry c o a sound inside (name_free s.rows m name m.tags m.expiry free) (sound.machines.keeps m inside).tags (rw other at e)
     ]
@@ -147,14 +148,14 @@ sound_rename s id name r none g =
     (λ c o a h. no_damage _ (rename_changes s id name c o a (sound_of s.rows none) h)) g
 
 tagged_changes : (s : State) (m : Machine) (tags : List (List ℕ)) (c : Change) (o : List ℕ) (a : Answer) → AreSound s.rows → Contains s.rows.machines m
-    → length tags ≤ tag_limit → tagged s m tags ≡ Changes c o a → AreSound (after s.rows c)
+    → length tags ≤ TAG_LIMIT → tagged s m tags ≡ Changes c o a → AreSound (after s.rows c)
 tagged_changes s m tags c o a sound inside short e =
-    elim (truth (pointwise bytes_eq m.tags tags)) [
+    elim (cases_Bool (pointwise bytes_eq m.tags tags)) [
       | inl same ↦ let clash = rw same at e in absurd (cc)
       | inr other ↦ with_sound s m m.name tags m.expiry c o a sound inside (own_name s.rows m sound inside) short (rw other at e)
     ]
 
-set_tags_changes : (s : State) (id : ℕ) (tags : List (List ℕ)) (c : Change) (o : List ℕ) (a : Answer) → AreSound s.rows → length tags ≤ tag_limit
+set_tags_changes : (s : State) (id : ℕ) (tags : List (List ℕ)) (c : Change) (o : List ℕ) (a : Answer) → AreSound s.rows → length tags ≤ TAG_LIMIT
     → set_tags s id tags ≡ Ok (Changes c o a) → AreSound (after s.rows c)
 set_tags_changes s id tags c o a sound short h =
     let m = bind_ok (or_refuse (machine_with s.rows.machines id) UnknownMachine) _ (Changes c o a) h in
@@ -168,7 +169,7 @@ set_tags_ruled s id tags =
     bind_ruled (tags_defined tags) _ (tags_ruled tags) (λ _.
     ok_ruled (tagged s m (sorted_once (slice_cmp nat_cmp) tags))))
 
-pub sound_set_tags : (s : State) (id : ℕ) (tags : List (List ℕ)) (r : Result Decision Stop) → damage s.rows ≡ None → length tags ≤ tag_limit
+pub sound_set_tags : (s : State) (id : ℕ) (tags : List (List ℕ)) (r : Result Decision Stop) → damage s.rows ≡ None → length tags ≤ TAG_LIMIT
     → Gives (λ d. d) r (set_tags s id tags) → IsSoundDecision s.rows r
 sound_set_tags s id tags r none short g =
     sound_decision s (set_tags s id tags) r (set_tags_ruled s id tags)

@@ -2,7 +2,7 @@
 use Rattle.std.proofs.Common.{◌≡◌, ◌≤◌, ◌+◌, ◌==◌, ℕ, true, List, [], ◌∷◌, ◌++◌, None, Result, Ok, inl, inr, sym, refl, subst, length, arith}
 use Rattle.std.specs.List.{list_all}
 use Rattle.net_rows.specs.Damage.{damage}
-use Rattle.net_rows.specs.Limits.{machine_limit, pending_limit}
+use Rattle.net_rows.specs.declared.limits.TheConstants.{MACHINE_LIMIT, PENDING_LIMIT}
 use Rattle.net_rows.specs.Rows.{after, take_all_out}
 use Rattle.net_rows.specs.Sound.{AreSound}
 use Rattle.net_rows.specs.declared.change.Change.{Change}
@@ -10,7 +10,7 @@ use Rattle.net_rows.specs.declared.change.RowKey.{RowKey}
 use Rattle.net_rows.specs.declared.machine.Machine.{Machine}
 use Rattle.net_rows.specs.declared.pending.Pending.{Pending}
 use Rattle.net_rows.specs.declared.rows.Rows.{Rows}
-use Rattle.net_rows.proofs.Bools.{truth}
+use Rattle.std.proofs.lemmas.Bool.{cases_Bool}
 use Rattle.net_rows.proofs.SoundGone.{is_unnamed, sound_take_all_out, take_all_out-append}
 use Rattle.net_rows.proofs.Sounds.{sound_of, no_damage}
 use Rattle.desk_state.specs.Rulings.{IsSoundDecision}
@@ -27,7 +27,7 @@ use Rattle.admin_asks.proofs.NamedLaws.{after_gone}
 machines_unnamed : (s : State) (ms : List Machine) → list_all is_unnamed (machines_gone s ms) ≡ true
 machines_unnamed s [] = refl
 machines_unnamed s (m ∷ ms) =
-    elim (truth (is_lost s m)) [
+    elim (cases_Bool (is_lost s m)) [
       | inl lost ↦ rw lost (machines_unnamed s ms)
       | inr stays ↦ rw stays (machines_unnamed s ms)
     ]
@@ -35,7 +35,7 @@ machines_unnamed s (m ∷ ms) =
 pending_unnamed : (s : State) (ps : List Pending) → list_all is_unnamed (pending_gone s ps) ≡ true
 pending_unnamed s [] = refl
 pending_unnamed s (p ∷ ps) =
-    elim (truth (is_overdue s p)) [
+    elim (cases_Bool (is_overdue s p)) [
       | inl passed ↦ rw passed (pending_unnamed s ps)
       | inr waits ↦ rw waits (pending_unnamed s ps)
     ]
@@ -44,19 +44,19 @@ length-machines : (s : State) (ms : List Machine) → length (machines_gone s ms
 length-machines s [] = omega arith
 length-machines s (m ∷ ms) =
     let rest = length-machines s ms in
-    elim (truth (is_lost s m)) [ inl lost ↦ rw lost (omega arith) | inr stays ↦ rw stays (omega arith) ]
+    elim (cases_Bool (is_lost s m)) [ inl lost ↦ rw lost (omega arith) | inr stays ↦ rw stays (omega arith) ]
 
 length-pending : (s : State) (ps : List Pending) → length (pending_gone s ps) ≤ length ps
 length-pending s [] = omega arith
 length-pending s (p ∷ ps) =
     let rest = length-pending s ps in
-    elim (truth (is_overdue s p)) [ inl passed ↦ rw passed (omega arith) | inr waits ↦ rw waits (omega arith) ]
+    elim (cases_Bool (is_overdue s p)) [ inl passed ↦ rw passed (omega arith) | inr waits ↦ rw waits (omega arith) ]
 
 -- no more machines go than there may be
-pub few_machines : (s : State) → damage s.rows ≡ None → length (machines_gone s s.rows.machines) ≤ machine_limit
+pub few_machines : (s : State) → damage s.rows ≡ None → length (machines_gone s s.rows.machines) ≤ MACHINE_LIMIT
 few_machines s none = omega (arith, length-machines s s.rows.machines, (sound_of s.rows none).machines.count)
 
-pub few_pending : (s : State) → damage s.rows ≡ None → length (pending_gone s s.rows.pending) ≤ pending_limit
+pub few_pending : (s : State) → damage s.rows ≡ None → length (pending_gone s s.rows.pending) ≤ PENDING_LIMIT
 few_pending s none = omega (arith, length-pending s s.rows.pending, (sound_of s.rows none).pending.count)
 
 -- machines and then pending entries go
@@ -69,7 +69,7 @@ both_gone t machines pending m p sound =
 swept_changes : (t : Rows) (machines pending : List RowKey) (c : Change) (o : List ℕ) (a : Answer) → AreSound (after t (sweep_change t machines pending))
     → swept t machines pending ≡ Changes c o a → AreSound (after t c)
 swept_changes t machines pending c o a sound e =
-    elim (truth (length machines + length pending == 0)) [
+    elim (cases_Bool (length machines + length pending == 0)) [
       | inl none ↦ let clash = rw none at e in absurd (cc)
       | inr some ↦
           let is = rw some at e in

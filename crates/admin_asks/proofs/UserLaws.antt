@@ -5,7 +5,7 @@ use Rattle.std.specs.List.{list_all}
 use Rattle.std.specs.Str.{bytes_eq}
 use Rattle.tail_base.specs.Logins.{login_of}
 use Rattle.net_rows.specs.Damage.{damage}
-use Rattle.net_rows.specs.Limits.{counter_limit, user_limit}
+use Rattle.net_rows.specs.declared.limits.TheConstants.{COUNTER_LIMIT, USER_LIMIT}
 use Rattle.net_rows.specs.Room.{has_room}
 use Rattle.net_rows.specs.Rows.{after, take_out, take_all_out}
 use Rattle.net_rows.specs.Sound.{AreSound}
@@ -16,7 +16,8 @@ use Rattle.net_rows.specs.declared.key.AuthKey.{AuthKey}
 use Rattle.net_rows.specs.declared.machine.Machine.{Machine}
 use Rattle.net_rows.specs.declared.rows.Rows.{Rows}
 use Rattle.net_rows.specs.declared.user.User.{User}
-use Rattle.net_rows.proofs.Bools.{truth, both, bytes_is, lt_of}
+use Rattle.std.proofs.lemmas.Bool.{cases_Bool, and_parts, ltb-true}
+use Rattle.tail_base.proofs.Bools.{bytes_eq-from}
 use Rattle.net_rows.proofs.Members.{no_member, cut_member, first_member, rest_member, list_any_member}
 use Rattle.net_rows.proofs.SoundGone.{is_unnamed, sound_take_all_out, take_all_out-append, key_left, machine_left}
 use Rattle.net_rows.proofs.SoundPut.{sound_user}
@@ -46,15 +47,15 @@ add_user_ruled s name =
 -- a user of a login that no user has may be put
 user_added : (t : Rows) (login : List ℕ) → AreSound t → has_login t.users login ≡ false → has_room t kind.User ≡ true → AreSound (after t (user_change t (new_user t login)))
 user_added t login sound free room =
-    let have = both (nat_lt (length t.users) user_limit) (nat_lt t.next.user counter_limit) room in
+    let have = and_parts (nat_lt (length t.users) USER_LIMIT) (nat_lt t.next.user COUNTER_LIMIT) room in
     sound_user t (new_user t login) (t.next.user + 1) sound (record {
       id = sound.counters.user.0;
-      room = inl (lt_of _ _ have.0);
+      room = inl (ltb-true _ _ have.0);
       login = λ (a : User) inside e.
           let fails : bytes_eq a.login login ≡ false = list_any_member (λ (u : User). bytes_eq u.login login) t.users free a inside in
-          let passes : bytes_eq a.login login ≡ true = bytes_is a.login login e in
+          let passes : bytes_eq a.login login ≡ true = bytes_eq-from a.login login e in
           absurd (cc);
-    }) (omega arith) (omega arith) (let below = lt_of _ _ have.1 in omega arith)
+    }) (omega arith) (omega arith) (let below = ltb-true _ _ have.1 in omega arith)
 
 add_user_changes : (s : State) (name : List ℕ) (c : Change) (o : List ℕ) (a : Answer) → AreSound s.rows → add_user s name ≡ Ok (Changes c o a) → AreSound (after s.rows c)
 add_user_changes s name c o a sound h =
@@ -79,7 +80,7 @@ drop_user_ruled s login =
 keys_unnamed : (keys : List AuthKey) (user : ℕ) → list_all is_unnamed (keys_gone keys user) ≡ true
 keys_unnamed [] user = refl
 keys_unnamed (k ∷ ks) user =
-    elim (truth (k.user == user)) [
+    elim (cases_Bool (k.user == user)) [
       | inl own ↦ rw own (keys_unnamed ks user)
       | inr other ↦ rw other (keys_unnamed ks user)
     ]
@@ -88,7 +89,7 @@ keys_unnamed (k ∷ ks) user =
 keys_there : (keys : List AuthKey) (user : ℕ) (k : AuthKey) → Contains keys k → k.user ≡ user → Contains (keys_gone keys user) (gone.Key k.id)
 keys_there [] user k inside own = absurd (no_member k inside)
 keys_there (x ∷ ks) user k inside own =
-    elim (truth (x.user == user)) [
+    elim (cases_Bool (x.user == user)) [
       | inl mine ↦ rw mine (elim (cut_member x ks k inside) [
         | inl e ↦ rw e (first_member (gone.Key x.id) (keys_gone ks user))
         | inr r ↦ rest_member (gone.Key x.id) (keys_gone ks user) (gone.Key k.id) (keys_there ks user k r own)

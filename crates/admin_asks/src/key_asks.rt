@@ -1,6 +1,6 @@
 //! Operators make, list and end pre-auth keys.
 ghost use Rattle.std.specs.Prelude.{◌≡◌, ◌≤◌, IfOk, true, length};
-ghost use Rattle.net_rows.specs.Limits.{asked_tag_limit};
+ghost use Rattle.tailcfg.specs.declared.limits.TheConstants.{ASKED_TAG_LIMIT};
 ghost use Rattle.net_rows.specs.Room.{has_room};
 ghost use Rattle.net_rows.specs.declared.change.Kind.TheVariants as kind;
 ghost use Rattle.desk_state.specs.Rulings.{IsSoundDecision};
@@ -94,7 +94,7 @@ pub fn add_key(
     form: &KeyForm,
     words: Option<[u64; 4]>,
 ) -> Result<Decision, Stop>
-    requires short { length form.now.tags ≤ asked_tag_limit }
+    requires short { length form.now.tags ≤ ASKED_TAG_LIMIT }
     ensures value { Gives (λ d. d) result (spec.add_key at.now form.now words) }
     ensures sound { IsSoundDecision at.now.rows result }
 {

@@ -2,7 +2,7 @@
 ghost use Rattle.std.specs.Prelude.{◌≡◌, ◌≤◌, IfOk, length};
 ghost use Rattle.std.specs.Cmp.Lexicographic.{pointwise};
 ghost use Rattle.std.specs.Str.{bytes_eq};
-ghost use Rattle.net_rows.specs.Limits.{tag_limit};
+ghost use Rattle.net_rows.specs.declared.limits.TheConstants.{TAG_LIMIT};
 ghost use Rattle.desk_state.specs.Rulings.{IsSoundDecision};
 ghost use Rattle.desk_state.specs.Steps.{Gives};
 ghost use Rattle.admin_asks.specs.Nodes as spec;
@@ -207,7 +207,7 @@ fn tagging(alloc: Global, at: &Snapshot<'_>, id: u32, tags: &[Tag]) -> Result<De
 
 /// The machine of an id has these tags from now on, in byte order and each once.
 pub fn set_tags(alloc: Global, at: &Snapshot<'_>, id: u32, tags: &[Tag]) -> Result<Decision, Stop>
-    requires short { length tags.now ≤ tag_limit }
+    requires short { length tags.now ≤ TAG_LIMIT }
     ensures value { Gives (λ d. d) result (spec.set_tags at.now id tags.now) }
     ensures sound { IsSoundDecision at.now.rows result }
 {

@@ -1,6 +1,6 @@
 //! Rows that have outlived their time go.
 ghost use Rattle.std.specs.Prelude.{◌≡◌, ◌≤◌, ◌++◌, IfOk, length};
-ghost use Rattle.net_rows.specs.Limits.{machine_limit, pending_limit};
+ghost use Rattle.net_rows.specs.declared.limits.TheConstants.{MACHINE_LIMIT, PENDING_LIMIT};
 ghost use Rattle.desk_state.specs.Rulings.{IsSoundDecision};
 ghost use Rattle.desk_state.specs.Steps.{Gives};
 ghost use Rattle.admin_asks.specs.Sweep as spec;
@@ -81,8 +81,8 @@ fn swept(
     machines: Items<RowKey>,
     pending: Items<RowKey>,
 ) -> Result<Decision, NoMemory>
-    requires machines { length machines ≤ machine_limit }
-    requires pending { length pending ≤ pending_limit }
+    requires machines { length machines ≤ MACHINE_LIMIT }
+    requires pending { length pending ≤ PENDING_LIMIT }
     ensures value { IfOk result (λ d. d ≡ spec.swept tables.now.rows machines pending) }
 {
     let machine_count = machines.len() as u32;
