@@ -22,11 +22,11 @@ is_domain text = nat_le (length text) DOMAIN_LIMIT && are_labels [] text
 abbrev pub is_base_domain : List ℕ → Bool
 is_base_domain text = nat_le (length text) BASE_DOMAIN_LIMIT && is_domain text
 
--- some visible ASCII bytes, up to a limit
+-- visible ASCII bytes, at least one, up to their limit
 abbrev pub is_visible : List ℕ → Bool
 is_visible text = nat_le 1 (length text) && nat_le (length text) VISIBLE_LIMIT && list_all (λ b. nat_le 33 b && nat_le b 126) text
 
--- a domain with few resolvers
+-- a domain with resolvers, up to their limit
 abbrev pub is_domain_route : DnsRoute → Bool
 is_domain_route route = is_domain route.suffix && nat_le (length route.resolvers) RESOLVER_LIMIT
 

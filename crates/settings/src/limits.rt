@@ -9,7 +9,7 @@ pub const BASE_DOMAIN_LIMIT: usize = 180;
 /// Bytes of the server's URL, and of the token.
 pub const VISIBLE_LIMIT: usize = 255;
 
-/// Resolvers in all, and of one route.
+/// Resolvers of all names, and resolvers of one route.
 pub const RESOLVER_LIMIT: usize = 16;
 
 /// Routes of DNS.

@@ -76,19 +76,19 @@ abbrev pub each_address : List (List ℕ) → Option (List Address)
 each_address [] = Some []
 each_address (t ∷ more) = before (addr_of_text t) (each_address more)
 
--- few addresses
+-- addresses, up to their limit
 abbrev pub addresses : List (List ℕ) → Option (List Address)
 addresses ts = option_and_then (passing (λ made. nat_le (length made) RESOLVER_LIMIT)) (each_address ts)
 
--- an array of few strings that spell addresses
+-- an array of strings that spell addresses, up to their limit
 abbrev pub resolvers : Data → Result (List Address) ℕ
 resolvers d = reading addresses (texts d)
 
--- few domains
+-- domains, up to their limit
 abbrev pub are_domains : List (List ℕ) → Bool
 are_domains ts = nat_le (length ts) SEARCH_LIMIT && list_all is_domain ts
 
--- an array of few domains
+-- an array of domains, up to their limit
 abbrev pub search_domains : Data → Result (List (List ℕ)) ℕ
 search_domains d = reading (passing are_domains) (texts d)
 
@@ -105,7 +105,7 @@ member_texts (member suffix d more) = before (route_texts suffix d) (member_text
 abbrev pub table_texts : Data → Option (List RouteTexts)
 table_texts d = option_and_then member_texts (as_table d)
 
--- a domain with few addresses
+-- a domain with its addresses, up to their limit
 abbrev pub route : RouteTexts → Option DnsRoute
 route r = if is_domain r.suffix then option_map (λ made. record { suffix = r.suffix; resolvers = made }) (addresses r.resolvers) else None
 
@@ -114,10 +114,10 @@ abbrev pub each_route : List RouteTexts → Option (List DnsRoute)
 each_route [] = Some []
 each_route (r ∷ more) = before (route r) (each_route more)
 
--- few domains, each with its addresses
+-- domains with their addresses, up to the limit of routes
 abbrev pub routes_within : List RouteTexts → Option (List DnsRoute)
 routes_within rs = option_and_then (passing (λ made. nat_le (length made) DNS_ROUTE_LIMIT)) (each_route rs)
 
--- a table of few domains, each with an array of few strings that spell addresses
+-- a table of domains, each with an array of strings that spell addresses, up to their limits
 abbrev pub routes : Data → Result (List DnsRoute) ℕ
 routes d = reading routes_within (table_texts d)

@@ -61,7 +61,7 @@ fn each_address(alloc: Global, texts: &[Text]) -> Result<Option<Items<Addr>>, No
     Ok(Some(made))
 }
 
-/// The addresses that texts spell, if they all do and are few.
+/// The addresses that texts spell, if they all do and keep their limit.
 fn addresses(alloc: Global, texts: &[Text]) -> Result<Option<Items<Addr>>, NoMemory>
     ensures value { IfOk result (λ made. made ≡ addresses texts.now) }
 {
@@ -71,7 +71,7 @@ fn addresses(alloc: Global, texts: &[Text]) -> Result<Option<Items<Addr>>, NoMem
     }
 }
 
-/// The addresses that an array of few strings spells.
+/// The addresses that an array of strings spells.
 pub(crate) fn resolvers(alloc: Global, value: &Value) -> Result<Result<Items<Addr>, u8>, NoMemory>
     ensures value { IfOk result (λ read. read ≡ resolvers (view value.now)) }
 {
@@ -101,7 +101,7 @@ fn are_domains(texts: &[Text]) -> bool
     texts.len() <= SEARCH_LIMIT && each_is_domain(texts)
 }
 
-/// The domains that an array of few strings gives.
+/// The domains that an array of strings gives.
 pub(crate) fn search_domains(
     alloc: Global,
     value: &Value,
@@ -160,7 +160,7 @@ fn each_route(alloc: Global, texts: &[RouteTexts]) -> Result<Option<Items<DnsRou
     Ok(Some(made))
 }
 
-/// The routes that a table gives, if they are few: at each domain the addresses of its resolvers.
+/// The routes that a table gives: at each domain the addresses of its resolvers.
 pub(crate) fn routes(alloc: Global, value: &Value) -> Result<Result<Items<DnsRoute>, u8>, NoMemory>
     ensures value { IfOk result (λ read. read ≡ routes (view value.now)) }
 {

@@ -11,7 +11,7 @@ pub(crate) enum TextRule {
     Any,
     /// A domain with room for a machine's label before it.
     BaseDomain,
-    /// Some visible ASCII bytes, up to a limit.
+    /// Visible ASCII bytes, at least one, up to their limit.
     Visible,
 }
 

@@ -73,7 +73,7 @@ pub(crate) fn has_visible_bytes(text: &[u8]) -> bool
     text.iter().all(|b| 33 <= *b && *b <= 126)
 }
 
-/// Whether the text is some visible ASCII bytes, up to the limit.
+/// Whether the text is visible ASCII bytes, at least one, up to their limit.
 pub(crate) fn is_visible(text: &[u8]) -> bool
     ensures value { result ≡ is_visible text.now }
 {
