@@ -3,7 +3,8 @@ use Rattle.std.specs.Prelude.{ℕ, ℤ, List, [], false, Option, Some, None, Res
 use Rattle.serde_json.specs.Data.{Data}
 use Rattle.serde_json.specs.Find.{as_str, as_bool}
 use Rattle.tail_base.specs.Tags.{tag_of}
-use Rattle.net_rows.specs.Limits.{asked_tag_limit, tag_limit}
+use Rattle.tailcfg.specs.declared.limits.TheConstants.{ASKED_TAG_LIMIT}
+use Rattle.net_rows.specs.declared.limits.TheConstants.{TAG_LIMIT}
 use Rattle.wire_json.specs.Body.{◌>>=◌, object_at, body_value}
 use Rattle.wire_json.specs.Readers.{required, optional, some_time, short_list}
 use Rattle.wire_json.specs.declared.admin_field.AdminField.{AdminField}
@@ -32,7 +33,7 @@ key_form_at d = do
   reusable ← optional (field.Admin admin.Reusable) false as_bool (Some d)
   ephemeral ← optional (field.Admin admin.Ephemeral) false as_bool (Some d)
   expiry ← some_expiry d
-  tags ← optional (field.Admin admin.Tags) [] (short_list asked_tag_limit tag_of) (Some d)
+  tags ← optional (field.Admin admin.Tags) [] (short_list ASKED_TAG_LIMIT tag_of) (Some d)
   Ok (record { login = login; reusable = reusable; ephemeral = ephemeral; expiry = expiry; tags = tags })
 
 -- what is asked of a new key
@@ -49,7 +50,7 @@ rename_form_of_body body = object_at (body_value body) >>= needed_text admin.Nam
 
 -- the tags, that have to be there
 abbrev pub needed_tags : Data → Result (List (List ℕ)) WireFault
-needed_tags d = required (field.Admin admin.Tags) (short_list tag_limit tag_of) (Some d)
+needed_tags d = required (field.Admin admin.Tags) (short_list TAG_LIMIT tag_of) (Some d)
 
 -- the new tags of a machine
 abbrev pub tags_form_of_body : List ℕ → Result (List (List ℕ)) WireFault

@@ -2,7 +2,8 @@
 ghost use Rattle.std.specs.Prelude.{◌≤◌, length, Some, IfOk};
 ghost use Rattle.serde_json.specs.Find.{as_str};
 ghost use Rattle.serde_json.specs.View.{view};
-ghost use Rattle.net_rows.specs.Limits.{asked_tag_limit, tag_limit};
+ghost use Rattle.tailcfg.specs.declared.limits.TheConstants.{ASKED_TAG_LIMIT};
+ghost use Rattle.net_rows.specs.declared.limits.TheConstants.{TAG_LIMIT};
 ghost use Rattle.wire_json.specs.Body.{Gives};
 ghost use Rattle.admin_wire.specs.Forms.{admit_form_at, admit_form_of_body, empty_form_of_body, expiry_form_of_body, key_form_at, key_form_of_body, needed_tags, needed_text, rename_form_of_body, tags_form_of_body, user_form_of_body};
 
@@ -42,7 +43,7 @@ fn needed_text(alloc: Global, body: &Value, field: AdminField) -> Result<Text, W
 /// Tags that have to be there.
 fn needed_tags(alloc: Global, body: &Value) -> Result<Items<Tag>, WireFault>
     ensures value { Gives (λ tags. tags) result (needed_tags (view body.now)) }
-    ensures short { IfOk result (λ tags. length tags ≤ tag_limit) }
+    ensures short { IfOk result (λ tags. length tags ≤ TAG_LIMIT) }
 {
     let field = Field::Admin(AdminField::Tags);
     if field_of(Some(body), field).is_none() {
@@ -54,7 +55,7 @@ fn needed_tags(alloc: Global, body: &Value) -> Result<Items<Tag>, WireFault>
 #[tactic(auto, unfolding(crate::specs::Forms::key_form_at))]
 fn key_form_of(alloc: Global, body: &Value) -> Result<KeyForm, WireFault>
     ensures value { Gives (λ f. f) result (key_form_at (view body.now)) }
-    ensures short { IfOk result (λ f. length f.tags ≤ asked_tag_limit) }
+    ensures short { IfOk result (λ f. length f.tags ≤ ASKED_TAG_LIMIT) }
 {
     let login = needed_text(alloc, body, AdminField::User)?;
     let reusable = flag_of(Some(body), Field::Admin(AdminField::Reusable))?;
@@ -99,7 +100,7 @@ pub fn read_user_form(alloc: Global, body: &[u8]) -> Result<Text, WireFault>
 /// `ephemeral`, which are false unless given, `expiry`, and up to 16 `tags`.
 pub fn read_key_form(alloc: Global, body: &[u8]) -> Result<KeyForm, WireFault>
     ensures value { Gives (λ f. f) result (key_form_of_body body.now) }
-    ensures short { IfOk result (λ f. length f.tags ≤ asked_tag_limit) }
+    ensures short { IfOk result (λ f. length f.tags ≤ ASKED_TAG_LIMIT) }
 {
     let value = object_of_body(alloc, body)?;
     key_form_of(alloc, &value)
@@ -124,7 +125,7 @@ pub fn read_rename_form(alloc: Global, body: &[u8]) -> Result<Text, WireFault>
 /// The new tags of a machine: up to 32 `tags`, which have to be there.
 pub fn read_tags_form(alloc: Global, body: &[u8]) -> Result<Items<Tag>, WireFault>
     ensures value { Gives (λ tags. tags) result (tags_form_of_body body.now) }
-    ensures short { IfOk result (λ tags. length tags ≤ tag_limit) }
+    ensures short { IfOk result (λ tags. length tags ≤ TAG_LIMIT) }
 {
     let value = object_of_body(alloc, body)?;
     needed_tags(alloc, &value)

@@ -8,11 +8,12 @@ use Rattle.net_rows.specs.Shelf.{row_at}
 use Rattle.net_rows.specs.Sound.{AreSound}
 use Rattle.net_rows.specs.declared.machine.Machine.{Machine}
 use Rattle.net_rows.specs.declared.rows.Rows.{Rows}
-use Rattle.net_rows.proofs.Bools.{and_both, bytes_is}
+use Rattle.std.proofs.lemmas.Bool.{and_from}
+use Rattle.tail_base.proofs.Bools.{bytes_eq-from}
 use Rattle.net_rows.proofs.Members.{find_none}
 use Rattle.net_rows.proofs.RowAt.{row_at_is}
 use Rattle.net_rows.proofs.Sounds.{sound_of}
-use Rattle.wire_json.specs.declared.register.Register.{Register}
+use Rattle.tailcfg.specs.declared.register.Register.{Register}
 use Rattle.desk_state.specs.State.{State, is_live}
 use Rattle.machine_asks.specs.Laws.{IsRepeat, rows_after}
 use Rattle.machine_asks.specs.Logout.{is_logout}
@@ -31,7 +32,7 @@ second_of_two false x y h = refl
 own_row : (t : Rows) (m : Machine) (held : Option Machine) → AreSound t → Contains t.machines m → machine_of t.machines m.machine.0 ≡ held → held ≡ Some m
 own_row t m None sound inside e =
     let fails : bytes_eq m.machine.0 m.machine.0 ≡ false = find_none (λ (r : Machine). bytes_eq r.machine.0 m.machine.0) t.machines e m inside in
-    let passes : bytes_eq m.machine.0 m.machine.0 ≡ true = bytes_is m.machine.0 m.machine.0 refl in
+    let passes : bytes_eq m.machine.0 m.machine.0 ≡ true = bytes_eq-from m.machine.0 m.machine.0 refl in
     absurd (cc)
 own_row t m (Some r) sound inside e =
     let here = machine_found t.machines m.machine r e in
@@ -44,7 +45,7 @@ own_row t m (Some r) sound inside e =
 steps_repeat : (s : State) (m : Machine) (form : Register) (words : Option (List ℕ)) → IsRepeat s m form → register_as s m.machine form words (Some m) ≡ Ok (repeated s m)
 steps_repeat s m form words h =
     second_of_two (is_logout s form.expiry) _ _ (ap not h.stays)
-    ∙ first_of_two (repeats s form.node m) _ _ (and_both (is_live s m) (bytes_eq m.node.0 form.node.0) h.live (bytes_is m.node.0 form.node.0 (ap (λ (n : NodeKey). n.0) h.node)))
+    ∙ first_of_two (repeats s form.node m) _ _ (and_from (is_live s m) (bytes_eq m.node.0 form.node.0) h.live (bytes_eq-from m.node.0 form.node.0 (ap (λ (n : NodeKey). n.0) h.node)))
 
 pub repeat_is : (s : State) (m : Machine) (form : Register) (words : Option (List ℕ)) → IsRepeat s m form → register s m.machine form words ≡ Ok (repeated s m)
 repeat_is s m form words h =

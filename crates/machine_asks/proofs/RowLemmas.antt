@@ -5,7 +5,8 @@ use Rattle.std.specs.Str.{bytes_eq}
 use Rattle.tail_base.specs.declared.key.MachineKey.{MachineKey}
 use Rattle.tail_base.specs.declared.key.NodeKey.{NodeKey}
 use Rattle.net_addr.specs.Bits.{Address}
-use Rattle.net_rows.specs.Limits.{counter_limit, host_limit, machine_limit, route_limit, tag_limit}
+use Rattle.tailcfg.specs.declared.limits.TheConstants.{HOST_LIMIT, ROUTE_LIMIT}
+use Rattle.net_rows.specs.declared.limits.TheConstants.{COUNTER_LIMIT, MACHINE_LIMIT, TAG_LIMIT}
 use Rattle.net_rows.specs.Room.{has_room}
 use Rattle.net_rows.specs.Rows.{after, machine_of}
 use Rattle.net_rows.specs.Shelf.{HasRow, IsOwn, put_row, without}
@@ -16,7 +17,8 @@ use Rattle.net_rows.specs.declared.machine.Machine.{Machine}
 use Rattle.net_rows.specs.declared.pending.Pending.{Pending}
 use Rattle.net_rows.specs.declared.rows.Rows.{Rows}
 use Rattle.net_rows.specs.declared.user.User.{User}
-use Rattle.net_rows.proofs.Bools.{truth, both, bytes_of, bytes_is, lt_of}
+use Rattle.std.proofs.lemmas.Bool.{cases_Bool, and_parts, ltb-true}
+use Rattle.tail_base.proofs.Bools.{bytes_eq-true, bytes_eq-from}
 use Rattle.net_rows.proofs.Members.{find_member, find_none, list_any_member}
 use Rattle.net_rows.proofs.SoundPut.{sound_key, sound_machine}
 use Rattle.net_rows.proofs.SoundRemove.{sound_without_pending}
@@ -37,9 +39,9 @@ use Rattle.machine_asks.specs.Holds.{SettingsHold}
 -- what a row takes anew keeps the rules of rows
 pub record EntrantKeeps (users : List User) (e : Entrant) : Type 0 where
   pub user : HasRow (λ r. r.id) users e.user
-  pub host : length e.host ≤ host_limit
-  pub routes : length e.routes ≤ route_limit
-  pub tags : length e.tags ≤ tag_limit
+  pub host : length e.host ≤ HOST_LIMIT
+  pub routes : length e.routes ≤ ROUTE_LIMIT
+  pub tags : length e.tags ≤ TAG_LIMIT
 
 -- a row that stands where another one stood
 pub record StandsAs (m r : Machine) : Type 0 where
@@ -95,23 +97,23 @@ place_ruled s host None =
 by_none : (ms : List Machine) (mk : MachineKey) → machine_of ms mk.0 ≡ None → (a : Machine) → Contains ms a → a.machine.0 ≢ mk.0
 by_none ms mk h a inside e =
     let fails : bytes_eq a.machine.0 mk.0 ≡ false = find_none (λ m. bytes_eq m.machine.0 mk.0) ms h a inside in
-    let passes : bytes_eq a.machine.0 mk.0 ≡ true = bytes_is _ _ e in
+    let passes : bytes_eq a.machine.0 mk.0 ≡ true = bytes_eq-from _ _ e in
     cc
 
 -- the machine of a key is one of the tables, and has the key
 pub machine_found : (ms : List Machine) (mk : MachineKey) (m : Machine) → machine_of ms mk.0 ≡ Some m → Contains ms m × (m.machine.0 ≡ mk.0)
 machine_found ms mk m h =
     let here = find_member (λ (r : Machine). bytes_eq r.machine.0 mk.0) ms m h in
-    (here.0, bytes_of _ _ here.1)
+    (here.0, bytes_eq-true _ _ here.1)
 
 -- only the machine's own row has the node key
 pub not_taken : (ms : List Machine) (mk : MachineKey) (node : NodeKey) → is_taken ms mk node ≡ false → (a : Machine) → Contains ms a → a.node.0 ≡ node.0 → a.machine.0 ≡ mk.0
 not_taken ms mk node h a inside e =
     let test : (bytes_eq a.node.0 node.0 && not (bytes_eq a.machine.0 mk.0)) ≡ false = list_any_member _ ms h a inside in
-    let same : bytes_eq a.node.0 node.0 ≡ true = bytes_is _ _ e in
+    let same : bytes_eq a.node.0 node.0 ≡ true = bytes_eq-from _ _ e in
     let other : not (bytes_eq a.machine.0 mk.0) ≡ false = rw same at test in
-    elim (truth (bytes_eq a.machine.0 mk.0)) [
-      | inl passes ↦ bytes_of _ _ passes
+    elim (cases_Bool (bytes_eq a.machine.0 mk.0)) [
+      | inl passes ↦ bytes_eq-true _ _ passes
       | inr fails ↦ let bad : true ≡ false = rw fails at other in absurd (cc)
     ]
 
@@ -121,10 +123,10 @@ fits_new : (s : State) (mk : MachineKey) (e : Entrant) (host : List ℕ) (p : Pl
 fits_new s mk e host p hold sound place none free owed =
     let a4 = address_fresh s.settings.prefix_v4 s.rows.machines p.v4 place.v4 in
     let a6 = address_fresh s.settings.prefix_v6 s.rows.machines p.v6 place.v6 in
-    let room = both (nat_lt (length s.rows.machines) machine_limit) (nat_lt s.rows.next.machine counter_limit) place.room in
+    let room = and_parts (nat_lt (length s.rows.machines) MACHINE_LIMIT) (nat_lt s.rows.next.machine COUNTER_LIMIT) place.room in
     record {
       id = omega (arith, place.id, sound.counters.machine);
-      room = inl (lt_of _ _ room.0);
+      room = inl (ltb-true _ _ room.0);
       machine_key = λ a within q. absurd (by_none _ mk none a within q);
       node_key = λ a within q. absurd (by_none _ mk none a within (not_taken _ mk e.node free a within q));
       name = λ a within q. absurd (name_fresh s.rows.machines host sound.machines.count a within (q ∙ sym place.name));
@@ -132,8 +134,8 @@ fits_new s mk e host p hold sound place none free owed =
       v6 = λ a within q. absurd (a6.v6_fresh a within q);
       keeps = record {
         user = owed.user;
-        v4 = v4_inside s.settings s.rows.machines p.v4 hold.rules hold.v4 place.v4;
-        v6 = v6_inside s.settings s.rows.machines p.v6 hold.rules hold.v6 place.v6;
+        v4 = v4_inside s.settings s.rows.machines p.v4 hold.rules place.v4;
+        v6 = v6_inside s.settings s.rows.machines p.v6 hold.rules place.v6;
         host = owed.host;
         endpoints = omega arith;
         routes = owed.routes;
@@ -207,7 +209,7 @@ fits_used t k sound inside =
       keeps = record { user = key.user; text = key.text; tags = key.tags };
     }
 
-puts_sound : (t : Rows) (m : Machine) (next : ℕ) (key : Option AuthKey) → AreSound t → FitsMachine t m → m.id < next → t.next.machine ≤ next → next ≤ counter_limit
+puts_sound : (t : Rows) (m : Machine) (next : ℕ) (key : Option AuthKey) → AreSound t → FitsMachine t m → m.id < next → t.next.machine ≤ next → next ≤ COUNTER_LIMIT
     → IfSome key (λ k. Contains t.keys k) → AreSound (after t (row_change t m next key None))
 puts_sound t m next None sound fits below up top held = sound_machine t m next sound fits below up top
 puts_sound t m next (Some k) sound fits below up top held =
@@ -217,7 +219,7 @@ puts_sound t m next (Some k) sound fits below up top held =
     sound_key u (record k { used = true }) t.next.key one (fits_used u k one held) ids.1 (omega arith) sound.counters.key.1
 
 pub row_sound : (t : Rows) (m : Machine) (next : ℕ) (key : Option AuthKey) (pending : Option Pending) → AreSound t → FitsMachine t m
-    → m.id < next → t.next.machine ≤ next → next ≤ counter_limit → IfSome key (λ k. Contains t.keys k) → AreSound (after t (row_change t m next key pending))
+    → m.id < next → t.next.machine ≤ next → next ≤ COUNTER_LIMIT → IfSome key (λ k. Contains t.keys k) → AreSound (after t (row_change t m next key pending))
 row_sound t m next key None sound fits below up top held = puts_sound t m next key sound fits below up top held
 row_sound t m next None (Some p) sound fits below up top held =
     puts_sound (record t { pending = without (λ r. r.id) t.pending p.id }) m next None (sound_without_pending t p.id sound) (fits_without t p.id m fits) below up top tt
@@ -238,8 +240,8 @@ pub enter_sound : (s : State) (mk : MachineKey) (e : Entrant) (host : List ℕ) 
     → AreSound (after s.rows (row_change s.rows (machine_row mk e p) p.next key pending))
 enter_sound s mk e host None p key pending hold sound none free owed placed inside =
     let place = new_place_is s host p placed in
-    let room = both (nat_lt (length s.rows.machines) machine_limit) (nat_lt s.rows.next.machine counter_limit) place.room in
-    let below : s.rows.next.machine < counter_limit = lt_of _ _ room.1 in
+    let room = and_parts (nat_lt (length s.rows.machines) MACHINE_LIMIT) (nat_lt s.rows.next.machine COUNTER_LIMIT) place.room in
+    let below : s.rows.next.machine < COUNTER_LIMIT = ltb-true _ _ room.1 in
     row_sound s.rows (machine_row mk e p) p.next key pending sound
     (fits_new s mk e host p hold sound place none free owed)
     (omega (arith, place.id, place.next)) (omega (arith, place.next)) (omega (arith, place.next)) inside

@@ -3,7 +3,7 @@ use Rattle.std.proofs.Common.{◌≡◌, ◌+◌, ◌||◌, ℕ, Bool, true, fal
 use Rattle.std.specs.Prelude.{Contains}
 use Rattle.std.specs.List.{starts_with}
 use Rattle.net_rows.specs.Damage.{names_key}
-use Rattle.net_rows.specs.Limits.{counter_limit}
+use Rattle.net_rows.specs.declared.limits.TheConstants.{COUNTER_LIMIT}
 use Rattle.net_rows.specs.Room.{has_room}
 use Rattle.net_rows.specs.Rows.{after}
 use Rattle.net_rows.specs.Shelf.{put_row}
@@ -11,7 +11,7 @@ use Rattle.net_rows.specs.Sound.{AreSound}
 use Rattle.net_rows.specs.declared.change.Kind.TheVariants as kind
 use Rattle.net_rows.specs.declared.rows.Rows.{Rows}
 use Rattle.net_rows.specs.declared.user.User.{User}
-use Rattle.net_rows.proofs.Bools.{both, lt_of}
+use Rattle.std.proofs.lemmas.Bool.{and_parts, ltb-true}
 use Rattle.net_rows.proofs.Members.{no_member}
 use Rattle.net_rows.proofs.PutLemmas.{put_there}
 use Rattle.net_rows.proofs.SoundPut.{sound_user, sound_key}
@@ -41,24 +41,24 @@ seeded : (t : Rows) (text : List ℕ) → AreSound t → is_past_seed t text ≡
 seeded t text sound first user_room key_room =
     let none = no_users t text first in
     let no_user = λ (r : User) (inside : Contains t.users r). let gone : Contains [] r = rw none.0 at inside in no_member r gone in
-    let ur = both (nat_lt (length t.users) _) (nat_lt t.next.user counter_limit) user_room in
-    let kr = both (nat_lt (length t.keys) _) (nat_lt t.next.key counter_limit) key_room in
+    let ur = and_parts (nat_lt (length t.users) _) (nat_lt t.next.user COUNTER_LIMIT) user_room in
+    let kr = and_parts (nat_lt (length t.keys) _) (nat_lt t.next.key COUNTER_LIMIT) key_room in
     let one = sound_user t (seed_user t) (t.next.user + 1) sound (record {
       id = sound.counters.user.0;
-      room = inl (lt_of _ _ ur.0);
+      room = inl (ltb-true _ _ ur.0);
       login = λ r inside e. absurd (no_user r inside);
-    }) (omega arith) (omega arith) (let b = lt_of _ _ ur.1 in omega arith) in
+    }) (omega arith) (omega arith) (let b = ltb-true _ _ ur.1 in omega arith) in
     let u : Rows = record t { users = put_row (λ r. r.id) t.users (seed_user t); next = record t.next { user = t.next.user + 1 } } in
     sound_key u (seed_key t text) (t.next.key + 1) one (record {
       id = sound.counters.key.0;
-      room = inl (lt_of _ _ kr.0);
+      room = inl (ltb-true _ _ kr.0);
       text = λ r inside e. absurd (let held = (sound.keys.keeps r inside).user in no_user held.0 held.1);
       keeps = record {
         user = (seed_user t, put_there (λ (r : User). r.id) t.users (seed_user t), refl);
         text = names_any t.next.key text none.1;
         tags = omega arith;
       };
-    }) (omega arith) (omega arith) (let b = lt_of _ _ kr.1 in omega arith)
+    }) (omega arith) (omega arith) (let b = ltb-true _ _ kr.1 in omega arith)
 
 pub seed_proper : (s : State) (text : List ℕ) → AreSound s.rows → IsProper s (seed s text)
 seed_proper s text sound =

@@ -3,18 +3,19 @@ use Rattle.std.proofs.Common.{◌≡◌, ◌≢◌, ◌<◌, ◌+◌, ℕ, true,
 use Rattle.std.specs.Prelude.{Contains}
 use Rattle.std.specs.Str.{bytes_eq}
 use Rattle.tail_base.specs.declared.key.MachineKey.{MachineKey}
-use Rattle.net_rows.specs.Limits.{counter_limit, pending_limit}
+use Rattle.net_rows.specs.declared.limits.TheConstants.{COUNTER_LIMIT, PENDING_LIMIT}
 use Rattle.net_rows.specs.Rows.{after, pending_of}
 use Rattle.net_rows.specs.Sound.{AreSound, FitsPending}
 use Rattle.net_rows.specs.declared.pending.Pending.{Pending}
 use Rattle.net_rows.specs.declared.rows.Rows.{Rows}
-use Rattle.net_rows.proofs.Bools.{both, bytes_of, bytes_is, lt_of}
+use Rattle.std.proofs.lemmas.Bool.{and_parts, ltb-true}
+use Rattle.tail_base.proofs.Bools.{bytes_eq-true, bytes_eq-from}
 use Rattle.net_rows.proofs.Members.{find_member, find_none}
 use Rattle.net_rows.proofs.RemoveLemmas.{without_member}
 use Rattle.net_rows.proofs.SoundPut.{sound_pending}
 use Rattle.net_rows.proofs.SoundRemove.{sound_without_pending}
-use Rattle.wire_json.specs.Short.{IsShortForm}
-use Rattle.wire_json.specs.declared.register.Register.{Register}
+use Rattle.tailcfg.specs.Short.{IsShortForm}
+use Rattle.tailcfg.specs.declared.register.Register.{Register}
 use Rattle.desk_state.specs.State.{State}
 use Rattle.desk_state.specs.declared.reply.Refusal.TheVariants.{EntropyFault, Full}
 use Rattle.desk_state.specs.declared.reply.Scarce.TheVariants as scarce
@@ -35,20 +36,20 @@ none_left : (t : Rows) (mk : MachineKey) (old : Option Pending) → AreSound t �
     → (a : Pending) → Contains (pending_left t.pending old) a → a.machine.0 ≢ mk.0
 none_left t mk None sound found a inside e =
     let fails : bytes_eq a.machine.0 mk.0 ≡ false = find_none (λ (r : Pending). bytes_eq r.machine.0 mk.0) t.pending found a inside in
-    let passes : bytes_eq a.machine.0 mk.0 ≡ true = bytes_is _ _ e in
+    let passes : bytes_eq a.machine.0 mk.0 ≡ true = bytes_eq-from _ _ e in
     cc
 none_left t mk (Some p) sound found a inside e =
     let here = find_member (λ (r : Pending). bytes_eq r.machine.0 mk.0) t.pending p found in
     let there = without_member (λ (r : Pending). r.id) t.pending p.id a inside in
-    there.1 (sound.pending.machine_keys a p there.0 here.0 (e ∙ sym (bytes_of _ _ here.1)))
+    there.1 (sound.pending.machine_keys a p there.0 here.0 (e ∙ sym (bytes_eq-true _ _ here.1)))
 
 fits_entry : (s : State) (mk : MachineKey) (form : Register) (words : List ℕ) (old : Option Pending) → AreSound s.rows → IsShortForm form
     → pending_of s.rows.pending mk.0 ≡ old → has_place s.rows old ≡ true → FitsPending (left s.rows old) (new_entry s mk form words)
 fits_entry s mk form words old sound short found place =
-    let room = both (nat_lt (length (pending_left s.rows.pending old)) pending_limit) (nat_lt s.rows.next.pending counter_limit) place in
+    let room = and_parts (nat_lt (length (pending_left s.rows.pending old)) PENDING_LIMIT) (nat_lt s.rows.next.pending COUNTER_LIMIT) place in
     record {
       id = sound.counters.pending.0;
-      room = inl (lt_of _ _ room.0);
+      room = inl (ltb-true _ _ room.0);
       text = fresh_pending_text (left s.rows old) (new_entry s mk form words) (take 2 words) (left_sound s.rows old sound) refl refl;
       machine_key = λ a inside e. absurd (none_left s.rows mk old sound found a inside e);
       keeps = record {
@@ -60,7 +61,7 @@ fits_entry s mk form words old sound short found place =
     }
 
 -- the change is a put into what is left
-entry_sound : (t : Rows) (p : Pending) (old : Option Pending) → AreSound t → FitsPending (left t old) p → p.id ≡ t.next.pending → t.next.pending < counter_limit
+entry_sound : (t : Rows) (p : Pending) (old : Option Pending) → AreSound t → FitsPending (left t old) p → p.id ≡ t.next.pending → t.next.pending < COUNTER_LIMIT
     → AreSound (after t (entry_change t p old))
 entry_sound t p None sound fits is below = sound_pending t p (t.next.pending + 1) sound fits (omega (arith, is)) (omega arith) (omega arith)
 entry_sound t p (Some o) sound fits is below =
@@ -71,9 +72,9 @@ anew_proper : (s : State) (mk : MachineKey) (form : Register) (words : Option (L
 anew_proper s mk form words old sound short found =
     proper_refuse s (not (has_place s.rows old)) (Full scarce.Pending) _ tt (λ free.
     let place = passed (has_place s.rows old) free in
-    let room = both (nat_lt (length (pending_left s.rows.pending old)) pending_limit) (nat_lt s.rows.next.pending counter_limit) place in
+    let room = and_parts (nat_lt (length (pending_left s.rows.pending old)) PENDING_LIMIT) (nat_lt s.rows.next.pending COUNTER_LIMIT) place in
     proper_or s words EntropyFault _ tt (λ (drawn : List ℕ) _.
-    proper_changes s _ _ _ (entry_sound s.rows (new_entry s mk form drawn) old sound (fits_entry s mk form drawn old sound short found place) refl (lt_of _ _ room.1))))
+    proper_changes s _ _ _ (entry_sound s.rows (new_entry s mk form drawn) old sound (fits_entry s mk form drawn old sound short found place) refl (ltb-true _ _ room.1))))
 
 as_proper : (s : State) (mk : MachineKey) (form : Register) (words : Option (List ℕ)) (old : Option Pending) → AreSound s.rows → IsShortForm form
     → pending_of s.rows.pending mk.0 ≡ old → IsProper s (wait_as s mk form words old)

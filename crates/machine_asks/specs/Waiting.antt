@@ -3,14 +3,14 @@ use Rattle.std.specs.Prelude.{◌+◌, ℕ, Bool, List, [], ◌∷◌, Option, S
 use Rattle.std.specs.Str.{bytes_eq}
 use Rattle.tail_base.specs.declared.key.MachineKey.{MachineKey}
 use Rattle.tail_base.specs.declared.key.NodeKey.{NodeKey}
-use Rattle.net_rows.specs.Limits.{counter_limit, pending_limit}
+use Rattle.net_rows.specs.declared.limits.TheConstants.{COUNTER_LIMIT, PENDING_LIMIT}
 use Rattle.net_rows.specs.Rows.{pending_of}
 use Rattle.net_rows.specs.Shelf.{without}
 use Rattle.net_rows.specs.declared.change.Change.{Change}
 use Rattle.net_rows.specs.declared.change.Row.TheVariants as row
 use Rattle.net_rows.specs.declared.pending.Pending.{Pending}
 use Rattle.net_rows.specs.declared.rows.Rows.{Rows}
-use Rattle.wire_json.specs.declared.register.Register.{Register}
+use Rattle.tailcfg.specs.declared.register.Register.{Register}
 use Rattle.desk_state.specs.State.{State, is_overdue}
 use Rattle.desk_state.specs.Steps.{◌>>=◌, or_refuse, refuse_if}
 use Rattle.desk_state.specs.Texts.{row_text}
@@ -33,7 +33,7 @@ pending_left pending (Some p) = without (λ r. r.id) pending p.id
 
 -- there is room for an entry, once the old one is gone
 abbrev pub has_place : Rows → Option Pending → Bool
-has_place t old = nat_lt (length (pending_left t.pending old)) pending_limit && nat_lt t.next.pending counter_limit
+has_place t old = nat_lt (length (pending_left t.pending old)) PENDING_LIMIT && nat_lt t.next.pending COUNTER_LIMIT
 
 -- what the machine asks for, under a text of its own
 abbrev pub new_entry : State → MachineKey → Register → List ℕ → Pending

@@ -9,12 +9,11 @@ use crate::holds::keep_rules;
 use crate::place::{is_taken, place_for};
 use crate::rows::{machine_row, row_change};
 use desk_state::{
-    Answer, Decision, Refusal, Snapshot, Stop, is_overdue, offline_line, sorted_once, tags_defined,
-    user_named,
+    Answer, Decision, Refusal, Snapshot, Stop, is_overdue, offline_line, tags_defined, user_named,
 };
 use net_rows::{Machine, Pending};
 use std::alloc::Global;
-use tail_base::{Duplicate, Items, NoMemory, Text};
+use tail_base::{Duplicate, Items, NoMemory, Text, sorted_once};
 
 fn timely_entry<'a>(at: &Snapshot<'a>, text: &Text) -> Result<&'a Pending, Stop>
     ensures value { Gives (λ p. p.now) result (spec.timely_entry at.now text.now) }
@@ -75,7 +74,7 @@ fn admitted(alloc: Global, at: &Snapshot<'_>, entry: &Pending, user: u32) -> Res
         return Err(Stop::Refused(Refusal::NodeKeyTaken));
     }
     tags_defined(entry.tags.as_slice())?;
-    let row = at.tables.by_key(&entry.machine);
+    let row = at.tables.machine_of(&entry.machine);
     let place = place_for(alloc, at, &entry.host, row)?;
     let next = place.next;
     let entrant = awaited(alloc, at, entry, user)?;

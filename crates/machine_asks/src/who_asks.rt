@@ -15,7 +15,7 @@ pub(crate) fn asking<'a>(
 ) -> Result<&'a Machine, Stop>
     ensures value { Gives (λ m. m.now) result (spec.asking at.now machine.now node.now) }
 {
-    let Some(row) = at.tables.by_key(machine) else {
+    let Some(row) = at.tables.machine_of(machine) else {
         return Err(Stop::Refused(Refusal::UnknownMachine));
     };
     if row.node != *node {

@@ -4,14 +4,14 @@ use Rattle.std.specs.List.{AllByRecursion}
 use Rattle.std.specs.Option.{option_or}
 use Rattle.std.proofs.lemmas.Bool.Decides.{nat_tests}
 use Rattle.std.proofs.lemmas.List.{append-nil}
-use Rattle.net_rows.proofs.Bools.{truth}
+use Rattle.std.proofs.lemmas.Bool.{cases_Bool}
 use Rattle.io_edge.specs.Edge.{and_then_left}
 use Rattle.http_front.specs.Requests.{Leads, Splits, at_end, cut, bad}
 use Rattle.http_front.specs.declared.request.Request.{Request}
 use Rattle.http_front.proofs.Streams.{Leads-append, Leads_first, Splits_unique}
 use Rattle.http_front.proofs.Refusals.{Splits-append_bad}
 use Rattle.desk_front.specs.Wanted.{site_of, wanted_of}
-use Rattle.net_rows.specs.declared.settings.SettingsFields.{SettingsFields}
+use Rattle.settings.specs.declared.fields.SettingsFields.{SettingsFields}
 use Rattle.tail_words.specs.SettingsText.{settings_of}
 use Rattle.desk_front.specs.declared.want.Wanted.{Wanted}
 use Rattle.desk_front.specs.declared.want.Wanted.TheVariants as wants
@@ -38,7 +38,7 @@ not_early false e = cc
 -- only a 400 ends a connection early
 pub answered_late : (site : Site) (close : Bool) (w : Wanted) (x : Exchange) → IsAccepted w → IsAnswered site close w x.turns x.bytes x.ended → x.ended ≡ Some closed.Early → ⊥
 answered_late site close (wants.Ask ask) x ok a e = not_early close (sym a.5 ∙ e)
-answered_late site close (wants.Answer status body) x ok a e = elim (truth (status == 400)) [
+answered_late site close (wants.Answer status body) x ok a e = elim (cases_Bool (status == 400)) [
   | inl t ↦ ok (grind (arith, nat_tests, t))
   | inr f ↦ not_early close (sym (rw f at a.2) ∙ e)
 ]

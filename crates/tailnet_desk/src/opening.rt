@@ -19,7 +19,8 @@ pub(crate) fn all_offline_of(
 ) -> Result<Shelf<MachinePresence>, NoMemory>
     ensures presence { IfOk result (λ made. made.0 ≡ map (λ m. offline_at now m.id) tables.now.rows.machines) }
 {
-    Ok(Shelf::from_items(offline_since(alloc, tables.machines(), now)?))
+    let offline = offline_since(alloc, tables.machines(), now)?;
+    Ok(Shelf::from_items(offline))
 }
 
 fn offline_since(
