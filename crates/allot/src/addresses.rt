@@ -53,7 +53,7 @@ fn is_free(prefix: &Prefix, machines: &[Machine], addr: Addr) -> bool
 
 /// The least address of the prefix that is free: it isn't the first or the last, isn't reserved, and
 /// no machine has it. `None` if no address is free.
-pub fn least_free(prefix: &Prefix, machines: &[Machine]) -> Option<Addr>
+fn least_free(prefix: &Prefix, machines: &[Machine]) -> Option<Addr>
     ensures value { result ≡ free_address prefix.now machines.now }
 {
     let v6 = prefix.base().is_v6();

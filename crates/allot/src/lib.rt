@@ -4,11 +4,7 @@
 mod addresses;
 mod laws;
 mod names;
-#[cfg(test)]
-mod tests;
 
-pub use addresses::{
-    CHROMEOS_FIRST, CHROMEOS_LAST, SERVICE_V4, SERVICE_V6, least_address, least_free,
-};
+pub use addresses::{CHROMEOS_FIRST, CHROMEOS_LAST, SERVICE_V4, SERVICE_V6, least_address};
 pub use laws::{the_least_free_address_is_given, the_least_free_name_is_given};
 pub use names::free_name;

@@ -33,11 +33,7 @@ fn numbered(alloc: Global, machines: &[Machine], base: &Label) -> Result<Label, 
 
 /// The label, or if a machine has it, the label with the least number from 1 on with which no
 /// machine has it.
-pub(crate) fn free_label(
-    alloc: Global,
-    machines: &[Machine],
-    base: Label,
-) -> Result<Label, NoMemory>
+fn free_label(alloc: Global, machines: &[Machine], base: Label) -> Result<Label, NoMemory>
     requires few { length machines.now ≤ MACHINE_LIMIT }
     ensures value { IfOk result (λ name. name ≡ free_label machines.now base) }
 {

@@ -2,7 +2,7 @@
 use crate::{names, ports, sets, texts};
 use std::alloc::Global;
 use std::test::Fail;
-use tail_base::{NoMemory, Text};
+use tail_base::{Duplicate, NoMemory, Text};
 
 /// Texts from RFC 4291, RFC 5952, RFC 3339, and Tailscale's documentation.
 const CASES: &str = r"addr 2001:db8:0:0:1:0:0:1 => 2001:db8::1:0:0:1
@@ -180,7 +180,7 @@ fn holds(alloc: Global, line: &str) -> Result<bool, NoMemory> {
     let Some((kind, text)) = case.split_once(" ") else {
         return Ok(false);
     };
-    let found = found(alloc, kind, text)?;
+    let found = found(alloc, kind, text)?.copy(alloc)?;
     Ok(found.as_str() == want)
 }
 

@@ -1,11 +1,11 @@
-//! Tests of the low crates: of each kind of text a table, and sets, lists and copies with ample
-//! memory. They stand here since a crate with tests is proved twice.
+//! Tests of the low crates, as a table of texts, with ample memory. They stand here since a crate
+//! with tests is proved twice.
 #![tactic(auto)]
 
 #[cfg(test)]
-mod cases;
+mod bytes;
 #[cfg(test)]
-mod lists;
+mod cases;
 #[cfg(test)]
 mod names;
 #[cfg(test)]

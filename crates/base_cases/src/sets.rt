@@ -14,7 +14,7 @@ fn prefixes_of(alloc: Global, text: &str) -> Result<Items<Prefix>, NoMemory> {
             list.push(prefix)?;
         }
     }
-    Ok(list)
+    list.copy(alloc)
 }
 
 fn push_prefix(alloc: Global, text: &mut Text, prefix: &Prefix) -> Result<(), NoMemory> {
@@ -61,13 +61,30 @@ pub fn set(alloc: Global, text: &str) -> Result<Text, NoMemory> {
     set_text(alloc, &set)
 }
 
-fn of_both(alloc: Global, kind: &str, left: &RangeSet, right: &RangeSet) -> Result<Text, NoMemory> {
+fn combined(
+    alloc: Global,
+    kind: &str,
+    left: &RangeSet,
+    right: &RangeSet,
+) -> Result<RangeSet, NoMemory> {
     match kind {
-        "union" => set_text(alloc, &left.union(alloc, right)?),
-        "meet" => set_text(alloc, &left.meet(alloc, right)?),
-        "minus" => set_text(alloc, &left.minus(alloc, right)?),
-        _ => Text::from_str(alloc, if left.touches(right) { "yes" } else { "no" }),
+        "union" => left.union(alloc, right),
+        "meet" => left.meet(alloc, right),
+        _ => left.minus(alloc, right),
     }
+}
+
+fn combined_text(
+    alloc: Global,
+    kind: &str,
+    left: &RangeSet,
+    right: &RangeSet,
+) -> Result<Text, NoMemory> {
+    if kind == "touches" {
+        return Text::from_str(alloc, if left.touches(right) { "yes" } else { "no" });
+    }
+    let set = combined(alloc, kind, left, right)?;
+    set_text(alloc, &set)
 }
 
 /// What two sets come to, with a bar between them.
@@ -77,5 +94,5 @@ pub fn both(alloc: Global, kind: &str, text: &str) -> Result<Text, NoMemory> {
     };
     let left = set_of(alloc, left)?;
     let right = set_of(alloc, right)?;
-    of_both(alloc, kind, &left, &right)
+    combined_text(alloc, kind, &left, &right)
 }

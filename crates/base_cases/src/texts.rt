@@ -2,7 +2,7 @@
 use moments::Moment;
 use net_addr::{Addr, Endpoint, Prefix, PrefixFault};
 use std::alloc::Global;
-use tail_base::{DiscoKey, Duplicate, MachineKey, NoMemory, NodeKey, Text};
+use tail_base::{DiscoKey, MachineKey, NoMemory, NodeKey, Text};
 
 pub fn none(alloc: Global) -> Result<Text, NoMemory> {
     Text::from_str(alloc, "none")
@@ -10,7 +10,7 @@ pub fn none(alloc: Global) -> Result<Text, NoMemory> {
 
 pub fn addr(alloc: Global, text: &[u8]) -> Result<Text, NoMemory> {
     match Addr::read(text) {
-        Some(addr) => addr.copy(alloc)?.write(alloc),
+        Some(addr) => addr.write(alloc),
         None => none(alloc),
     }
 }
@@ -25,21 +25,21 @@ fn fault_name(fault: PrefixFault) -> &'static str {
 
 pub fn prefix(alloc: Global, text: &[u8]) -> Result<Text, NoMemory> {
     match Prefix::read(text) {
-        Ok(prefix) => prefix.copy(alloc)?.write(alloc),
+        Ok(prefix) => prefix.write(alloc),
         Err(fault) => Text::from_str(alloc, fault_name(fault)),
     }
 }
 
 pub fn endpoint(alloc: Global, text: &[u8]) -> Result<Text, NoMemory> {
     match Endpoint::read(text) {
-        Some(endpoint) => endpoint.copy(alloc)?.write(alloc),
+        Some(endpoint) => endpoint.write(alloc),
         None => none(alloc),
     }
 }
 
 pub fn moment(alloc: Global, text: &[u8]) -> Result<Text, NoMemory> {
     match Moment::read(text) {
-        Some(moment) => moment.copy(alloc)?.write(alloc),
+        Some(moment) => moment.write(alloc),
         None => none(alloc),
     }
 }

@@ -5,8 +5,6 @@ mod civil;
 mod laws;
 mod moment;
 mod stamp;
-#[cfg(test)]
-mod tests;
 
 pub use laws::moment_texts_differ;
 pub use moment::{FIRST_SECOND, LAST_SECOND, Moment};

@@ -12,8 +12,6 @@ mod prefix;
 mod prefix_fault;
 mod quad;
 mod tailnet;
-#[cfg(test)]
-mod tests;
 
 pub use addr::Addr;
 pub use endpoint::Endpoint;

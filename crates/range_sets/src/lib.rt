@@ -8,8 +8,6 @@ mod meeting;
 mod prefix_spans;
 mod range_set;
 mod span;
-#[cfg(test)]
-mod tests;
 mod walk;
 
 pub use laws::canonical_law;

@@ -15,8 +15,6 @@ mod naming;
 mod numerals;
 mod sorted;
 mod tag;
-#[cfg(test)]
-mod tests;
 mod text;
 
 pub use bytes::Bytes;
