@@ -1,15 +1,12 @@
 -- The tokens of a text may stand in it, and spell it.
 use Rattle.std.proofs.Common.{◌≡◌, ℕ, ◌==◌, ◌&&◌, Bool, true, false, cond, List, [], ◌∷◌, ◌++◌, refl, ap, sym, ◌∙◌, subst, append_assoc, append-nil}
-use Rattle.std.proofs.lemmas.Bool.{eqb-true}
+use Rattle.std.proofs.lemmas.Bool.{and_parts, eqb-true}
 use Rattle.hujson_read.specs.Tokens.{Piece, Plain, Escaped, Token, Other, Quoted, LineComment, BlockComment, Begun, Nothing, InString, InLine, InBlock, quote, backslash, slash, star, line_feed, piece_bytes, pieces_bytes, cut_bytes, text_of, ends_block, IsOther, IsPiece, ArePieces, IsInLine, IsInBlock, AreTokens, tokens_from, tokens}
 
 -- a choice of two values has what both have
 pub chosen : {X : Type 0} (P : X → Type 0) (b : Bool) (x y : X) → (b ≡ true → P x) → (b ≡ false → P y) → P (cond b x y)
 chosen P true x y f g = f refl
 chosen P false x y f g = g refl
-
-both : (a b m n : ℕ) → (a == m && b == n) ≡ true → (a ≡ m) × (b ≡ n)
-both a b m n e = elim (a == m) as (λ k. (a == m) ≡ k → (k && b == n) ≡ true → (a ≡ m) × (b ≡ n)) [ true ↦ λ p q. (eqb-true a m p, eqb-true b n q) | false ↦ λ p q. absurd (cc q) ] refl e
 
 pieces_bytes-push : (ps : List Piece) (p : Piece) → pieces_bytes (ps ++ p ∷ []) ≡ pieces_bytes ps ++ piece_bytes p
 pieces_bytes-push [] p = append-nil (piece_bytes p)
@@ -106,9 +103,9 @@ reads Nothing (b ∷ c ∷ rest) h =
     chosen (Reads Nothing (b ∷ c ∷ rest)) (b == quote) _ _
     (λ e. string_begins (c ∷ rest) _ b (sym (eqb-true b quote e)) (reads (InString [] false) (c ∷ rest) tt))
     (λ no_string. chosen (Reads Nothing (b ∷ c ∷ rest)) (b == slash && c == slash) _ _
-    (λ e. let f = both b c slash slash e in comment_begins rest _ b c slash slash (InLine []) refl (sym f.0) (sym f.1) (reads (InLine []) rest tt))
+    (λ e. let f = and_parts (b == slash) (c == slash) e in comment_begins rest _ b c slash slash (InLine []) refl (sym (eqb-true b slash f.0)) (sym (eqb-true c slash f.1)) (reads (InLine []) rest tt))
     (λ no_line. chosen (Reads Nothing (b ∷ c ∷ rest)) (b == slash && c == star) _ _
-    (λ e. let f = both b c slash star e in comment_begins rest _ b c slash star (InBlock []) refl (sym f.0) (sym f.1) (reads (InBlock []) rest tt))
+    (λ e. let f = and_parts (b == slash) (c == star) e in comment_begins rest _ b c slash star (InBlock []) refl (sym (eqb-true b slash f.0)) (sym (eqb-true c star f.1)) (reads (InBlock []) rest tt))
     (λ no_block. other_stands b (c ∷ rest) _ (record { no_string = no_string; no_line = no_line; no_block = no_block }) (reads Nothing (c ∷ rest) tt))))
 reads (InString ps cut) [] h = record { whole = refl; stand = ((h, refl), tt) }
 reads (InString ps true) (b ∷ rest) h =
@@ -133,7 +130,7 @@ reads (InBlock body) [] h = record { whole = refl; stand = ((h, refl), tt) }
 reads (InBlock body) (b ∷ []) h = record { whole = simp (append_assoc, append-nil); stand = ((block_push body b [] h (block_other b), refl), tt) }
 reads (InBlock body) (b ∷ c ∷ rest) h =
     chosen (Reads (InBlock body) (b ∷ c ∷ rest)) (b == star && c == slash) _ _
-    (λ e. let f = both b c star slash e in block_ends body rest _ b c (sym f.0) (sym f.1) h (reads Nothing rest tt))
+    (λ e. let f = and_parts (b == star) (c == slash) e in block_ends body rest _ b c (sym (eqb-true b star f.0)) (sym (eqb-true c slash f.1)) h (reads Nothing rest tt))
     (λ e.
     let r = reads (InBlock (body ++ b ∷ [])) (c ∷ rest) (block_push body b (c ∷ rest) h e) in
     record { whole = r.whole ∙ simp append_assoc; stand = r.stand })

@@ -112,6 +112,3 @@ fn waiting(waits: Option<usize>, mark: Mark, at: usize) -> Option<usize>
         waits
     }
 }
-
-#[cfg(test)]
-mod tests;

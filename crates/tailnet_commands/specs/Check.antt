@@ -2,8 +2,10 @@
 use Rattle.std.specs.Prelude.{◌≡◌, ℕ, Bool, Option, List, [], ◌++◌, length, codes, Result, Ok, Err, IfSome, IsSomeAnd, ◌==◌, if◌then◌else◌}
 use Rattle.io_edge.specs.Edge.{Rose}
 use Rattle.policy_doc.specs.Document.{policy_of_text}
-use Rattle.policy_rows.specs.Faults.{◌>>=◌, Fault, check, fault_text}
+use Rattle.tail_base.specs.Steps.{◌>>=◌, refuse_unless}
+use Rattle.policy_rows.specs.Faults.{fault_at, fault_text}
 use Rattle.policy_rows.specs.declared.code.PolicyCode.TheVariants as code
+use Rattle.policy_rows.specs.declared.fault.PolicyFault.{PolicyFault}
 use Rattle.policy_rows.specs.declared.policy.Policy.{Policy}
 use Rattle.tailnet_commands.specs.Pieces.{Wrote}
 use Rattle.tailnet_commands.specs.Pipe.{IsTooLarge}
@@ -11,26 +13,26 @@ use Rattle.tailnet_commands.specs.declared.status.Status.{Status}
 use Rattle.tailnet_commands.specs.declared.status.Status.TheVariants as status
 
 -- tests aren't run yet: a policy with tests has a fault there
-abbrev pub untested : Policy → Result (Unit {0}) Fault
-untested policy = check (length policy.tests == 0) code.Unsupported (codes "tests")
+abbrev pub untested : Policy → Result (Unit {0}) PolicyFault
+untested policy = refuse_unless (length policy.tests == 0) (fault_at code.Unsupported (codes "tests"))
 
 -- the verdict on a text: it is a policy, or this is its first fault
-unfoldable pub verdict_of : List ℕ → Result (Unit {0}) Fault
+unfoldable pub verdict_of : List ℕ → Result (Unit {0}) PolicyFault
 verdict_of text = policy_of_text text >>= untested
 
 -- the line of a verdict
-abbrev pub verdict_line : Result (Unit {0}) Fault → List ℕ
+abbrev pub verdict_line : Result (Unit {0}) PolicyFault → List ℕ
 verdict_line (Ok sound) = codes "ok\n"
-verdict_line (Err fault) = fault_text fault.code fault.place ++ codes "\n"
+verdict_line (Err fault) = fault_text fault ++ codes "\n"
 
 -- the status of a verdict
-abbrev pub verdict_status : Result (Unit {0}) Fault → Status
+abbrev pub verdict_status : Result (Unit {0}) PolicyFault → Status
 verdict_status (Ok sound) = status.Ok
 verdict_status (Err fault) = status.Refused
 
 -- The file has a verdict, where it is told, and its line was written, or, where a write failed, a front of it.
 pub record Judged (ended : Status) (file : Option (Option (List ℕ))) (old new : Option (List ℕ)) (before now : ℕ) : Type 0 where
-  pub verdict : Result (Unit {0}) Fault
+  pub verdict : Result (Unit {0}) PolicyFault
   pub verdict_is : IfSome file (λ held. IsSomeAnd held (λ text. verdict_of text ≡ verdict))
   pub failed : Bool
   pub wrote : Wrote old new before now (verdict_line verdict) failed

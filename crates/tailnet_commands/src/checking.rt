@@ -1,6 +1,7 @@
 //! The command `policy-check`.
 ghost use Rattle.std.specs.Prelude.{◌≡◌, ◌++◌, IfOk, false, codes};
-ghost use Rattle.policy_rows.specs.Faults.{Gives, fault_text};
+ghost use Rattle.tail_base.specs.Steps.{Gives};
+ghost use Rattle.policy_rows.specs.Faults.{fault_text};
 ghost use Rattle.tailnet_commands.specs.Check.{Checked, Said, check_line, untested, verdict_line, verdict_of, verdict_status};
 ghost use Rattle.tailnet_commands.specs.Lines.{Noted};
 
@@ -11,14 +12,14 @@ use io_edge::{FileFault, Files, Sink};
 use policy_doc::read_policy;
 use policy_rows::{Policy, PolicyCode, PolicyFault, fault_text, refused};
 use std::alloc::Global;
-use tail_base::{NoMemory, Text};
+use tail_base::{Failure, NoMemory, Text};
 
 /// The most bytes that a policy file may have: 1 MiB.
 const FILE_LIMIT: usize = 1_048_576;
 
 /// Refuses a policy with tests, which aren't run yet.
-fn untested(alloc: Global, policy: &Policy) -> Result<(), PolicyFault>
-    ensures value { Gives result (untested policy.now) }
+fn untested(alloc: Global, policy: &Policy) -> Result<(), Failure<PolicyFault>>
+    ensures value { Gives (λ x. x) result (untested policy.now) }
 {
     if policy.tests.len() > 0 {
         return refused(alloc, PolicyCode::Unsupported, "tests");
@@ -28,8 +29,8 @@ fn untested(alloc: Global, policy: &Policy) -> Result<(), PolicyFault>
 
 /// Whether the text is a policy, or else its first fault.
 #[tactic(auto, unfolding(crate::specs::Check::verdict_of))]
-fn verdict_of(alloc: Global, text: &[u8]) -> Result<(), PolicyFault>
-    ensures value { Gives result (verdict_of text.now) }
+fn verdict_of(alloc: Global, text: &[u8]) -> Result<(), Failure<PolicyFault>>
+    ensures value { Gives (λ x. x) result (verdict_of text.now) }
 {
     let policy = read_policy(alloc, text)?;
     untested(alloc, &policy)
@@ -43,11 +44,11 @@ struct Verdict {
 }
 
 /// What is said of a policy's fault.
-fn fault_verdict(alloc: Global, code: PolicyCode, place: &Text) -> Result<Verdict, NoMemory>
-    ensures line { IfOk result (λ v. v.line ≡ fault_text code place.now ++ codes "\n") }
+fn fault_verdict(alloc: Global, fault: &PolicyFault) -> Result<Verdict, NoMemory>
+    ensures line { IfOk result (λ v. v.line ≡ fault_text fault.now ++ codes "\n") }
     ensures status { IfOk result (λ v. v.status ≡ Status.Refused) }
 {
-    let mut line = fault_text(alloc, code, place)?;
+    let mut line = fault_text(alloc, fault)?;
     line.push("\n")?;
     Ok(Verdict {
         line,
@@ -65,8 +66,8 @@ fn judge(alloc: Global, text: &[u8]) -> Result<Verdict, NoMemory>
             line: Text::from_str(alloc, "ok\n")?,
             status: Status::Ok,
         }),
-        Err(PolicyFault::Refused { code, place }) => fault_verdict(alloc, code, &place),
-        Err(PolicyFault::NoMemory) => Err(NoMemory),
+        Err(Failure::Fault(fault)) => fault_verdict(alloc, &fault),
+        Err(Failure::NoMemory) => Err(NoMemory),
     }
 }
 

@@ -1,0 +1,14 @@
+//! Tests of what reads policies: tables of texts, and what they come to. They stand here since a crate
+//! with tests is proved twice.
+#![tactic(auto)]
+
+#[cfg(test)]
+mod cases;
+#[cfg(test)]
+mod hujson;
+#[cfg(test)]
+mod internet;
+#[cfg(test)]
+mod limits;
+#[cfg(test)]
+mod office;

@@ -1,0 +1,145 @@
+//! The limits of a policy's parts, each at its edge.
+use crate::cases::comes_to;
+use std::alloc::Global;
+use std::test::Fail;
+
+/// A front, so many members with values 1, and an end.
+fn members(alloc: Global, front: &str, key: &str, times: usize, end: &str) -> Result<String, Fail> {
+    let mut text = String::from_str(alloc, front)?;
+    for number in 0..times {
+        let comma = if number == 0 { "" } else { "," };
+        let member = format!(in alloc; "{comma}\"{key}{number}\":1")?;
+        text.push_str(member.as_str())?;
+    }
+    text.push_str(end)?;
+    Ok(text)
+}
+
+/// A front, so many elements 1, and an end.
+fn elements(alloc: Global, front: &str, times: usize, end: &str) -> Result<String, Fail> {
+    let mut text = String::from_str(alloc, front)?;
+    for number in 0..times {
+        text.push_str(if number == 0 { "1" } else { ",1" })?;
+    }
+    text.push_str(end)?;
+    Ok(text)
+}
+
+/// Sections that are objects: the key, how its members' keys begin, the limit, and the first fault of
+/// such a member.
+const OBJECTS: &[(&str, &str, usize, &str)] = &[
+    ("groups", "group:", 256, "P5 groups.group:0"),
+    ("hosts", "h", 512, "P5 hosts.h0"),
+    ("tagOwners", "tag:a", 256, "P5 tagOwners.tag:a0"),
+];
+
+/// Sections that are lists, what stands before and behind the list, the limit, and the first fault of
+/// its elements.
+const LISTS: &[(&str, &str, &str, usize, &str)] = &[
+    ("acls", "{\"acls\":[", "]}", 512, "P5 acls[0]"),
+    ("tests", "{\"tests\":[", "]}", 256, "P5 tests[0]"),
+    (
+        "groups.group:a",
+        "{\"groups\":{\"group:a\":[",
+        "]}}",
+        256,
+        "P5 groups.group:a[0]",
+    ),
+    (
+        "acls[0].src",
+        "{\"acls\":[{\"action\":\"accept\",\"src\":[",
+        "],\"dst\":[]}]}",
+        256,
+        "P5 acls[0].src[0]",
+    ),
+    (
+        "autoApprovers.exitNode",
+        "{\"autoApprovers\":{\"exitNode\":[",
+        "]}}",
+        256,
+        "P5 autoApprovers.exitNode[0]",
+    ),
+    (
+        "tests[0].deny",
+        "{\"tests\":[{\"src\":\"a@\",\"deny\":[",
+        "]}]}",
+        256,
+        "P5 tests[0].deny[0]",
+    ),
+];
+
+/// What so many members in a section come to.
+fn object_comes_to(
+    alloc: Global,
+    key: &str,
+    begins: &str,
+    count: usize,
+    want: &str,
+) -> Result<bool, Fail> {
+    let front = format!(in alloc; "{{\"{key}\":{{")?;
+    let text = members(alloc, front.as_str(), begins, count, "}}")?;
+    Ok(comes_to(alloc, text.as_bytes(), want))
+}
+
+/// What so many elements in a list come to.
+fn list_comes_to(
+    alloc: Global,
+    front: &str,
+    end: &str,
+    count: usize,
+    want: &str,
+) -> Result<bool, Fail> {
+    let text = elements(alloc, front, count, end)?;
+    Ok(comes_to(alloc, text.as_bytes(), want))
+}
+
+fn too_many(alloc: Global, place: &str) -> Result<String, Fail> {
+    Ok(format!(in alloc; "P19 {place}")?)
+}
+
+#[test]
+fn limits_of_objects_before_members(rt: HostRuntime) -> Result<(), Fail> {
+    for (key, begins, limit, fault) in OBJECTS {
+        let over = too_many(rt.alloc(), key)?;
+        let more = limit.saturating_add(1);
+        assert!(rt;
+            object_comes_to(rt.alloc(), key, begins, *limit, fault)?,
+            "{key}"
+        );
+        assert!(rt;
+            object_comes_to(rt.alloc(), key, begins, more, over.as_str())?,
+            "{key}"
+        );
+    }
+    Ok(())
+}
+
+#[test]
+fn limits_of_lists_before_elements(rt: HostRuntime) -> Result<(), Fail> {
+    for (place, front, end, limit, fault) in LISTS {
+        let over = too_many(rt.alloc(), place)?;
+        let more = limit.saturating_add(1);
+        assert!(rt;
+            list_comes_to(rt.alloc(), front, end, *limit, fault)?,
+            "{place}"
+        );
+        assert!(rt;
+            list_comes_to(rt.alloc(), front, end, more, over.as_str())?,
+            "{place}"
+        );
+    }
+    Ok(())
+}
+
+/// What a text of so many spaces comes to.
+fn blanks_come_to(alloc: Global, count: usize, want: &str) -> Result<bool, Fail> {
+    let blanks = vec![in alloc; b' '; count]?;
+    Ok(comes_to(alloc, &blanks, want))
+}
+
+#[test]
+fn long_texts(rt: HostRuntime) -> Result<(), Fail> {
+    assert!(rt; blanks_come_to(rt.alloc(), 262144, "P1 json")?);
+    assert!(rt; blanks_come_to(rt.alloc(), 262145, "P19 text")?);
+    Ok(())
+}
