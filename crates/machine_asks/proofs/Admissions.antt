@@ -1,8 +1,11 @@
 -- Each admission is refused by rules alone, and keeps the rules of the tables.
 use Rattle.std.proofs.Common.{◌≡◌, ℕ, List, Some, None, Ok, ap, ◌∙◌, refl, nat_lt, arith, length}
+use Rattle.std.specs.Cmp.Lexicographic.{slice_cmp}
+use Rattle.std.specs.Ordering.{nat_cmp}
 use Rattle.std.specs.Prelude.{Contains}
 use Rattle.std.specs.Str.{bytes_eq}
 use Rattle.tail_base.specs.Logins.{login_of}
+use Rattle.tail_base.proofs.SortedLemmas.{length-sorted_once}
 use Rattle.net_rows.specs.Rows.{machine_of, pending_with}
 use Rattle.net_rows.specs.Sound.{AreSound}
 use Rattle.net_rows.specs.declared.pending.Pending.{Pending}
@@ -14,7 +17,6 @@ use Rattle.desk_state.specs.Steps.{or_refuse, refuse_if}
 use Rattle.desk_state.specs.Users.{tags_defined, user_named, user_of}
 use Rattle.desk_state.specs.declared.reply.Refusal.TheVariants.{NodeKeyTaken, PendingUnknown, TagUndefined, UnknownUser}
 use Rattle.desk_state.proofs.StepLemmas.{AreRuled, bind_ok, bind_ruled, ok_ruled, or_refuse_ok, or_ruled, refuse_ruled}
-use Rattle.desk_state.proofs.TagLemmas.{length-sorted_once}
 use Rattle.machine_asks.specs.Admit.{admit, admitted, awaited, timely_entry}
 use Rattle.machine_asks.specs.Holds.{SettingsHold}
 use Rattle.machine_asks.specs.Rows.{is_taken, place_for}
@@ -50,7 +52,7 @@ awaited_keeps s p u sound inside user =
       user = (u, user, refl);
       host = entry.host;
       routes = entry.routes;
-      tags = omega (arith, entry.tags, length-sorted_once p.tags);
+      tags = omega (arith, entry.tags, length-sorted_once (slice_cmp nat_cmp) p.tags);
     }
 
 admitted_proper : (s : State) (p : Pending) (u : User) → SettingsHold s → AreSound s.rows → Contains s.rows.pending p → Contains s.rows.users u → IsProper s (admitted s p u.id)

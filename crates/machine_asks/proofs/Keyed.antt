@@ -1,22 +1,24 @@
 -- A registration by a pre-auth key keeps the rules of the tables.
 use Rattle.std.proofs.Common.{◌≡◌, ◌++◌, ℕ, false, not, ◌&&◌, List, length, Option, Some, Ok, nat_lt, ap, ◌∙◌, arith}
+use Rattle.std.specs.Cmp.Lexicographic.{slice_cmp}
+use Rattle.std.specs.Ordering.{nat_cmp}
 use Rattle.std.proofs.Common.{length-append}
 use Rattle.std.specs.Prelude.{Contains}
 use Rattle.std.specs.Str.{bytes_eq}
 use Rattle.tail_base.specs.declared.key.MachineKey.{MachineKey}
+use Rattle.tail_base.proofs.SortedLemmas.{length-sorted_once}
 use Rattle.net_rows.specs.Rows.{key_of, machine_of, pending_of}
 use Rattle.net_rows.specs.Sound.{AreSound}
 use Rattle.net_rows.specs.declared.key.AuthKey.{AuthKey}
 use Rattle.net_rows.specs.declared.machine.Machine.{Machine}
 use Rattle.net_rows.proofs.Members.{find_member}
-use Rattle.wire_json.specs.Short.{IsShortForm}
-use Rattle.wire_json.specs.declared.register.Register.{Register}
+use Rattle.tailcfg.specs.Short.{IsShortForm}
+use Rattle.tailcfg.specs.declared.register.Register.{Register}
 use Rattle.desk_state.specs.State.{State, is_ahead}
 use Rattle.desk_state.specs.Steps.{refuse_if, or_refuse}
 use Rattle.desk_state.specs.Users.{tags_defined}
 use Rattle.desk_state.specs.declared.reply.Refusal.TheVariants.{KeyUnknown, KeyExpired, KeyUsed, TagUndefined}
 use Rattle.desk_state.proofs.StepLemmas.{AreRuled, bind_ok, bind_ruled, ok_ruled, or_refuse_ok, or_ruled, refuse_ruled}
-use Rattle.desk_state.proofs.TagLemmas.{length-sorted_once}
 use Rattle.machine_asks.specs.ByKey.{by_key, keyed, usable_key}
 use Rattle.machine_asks.specs.Rows.{is_taken, place_for}
 use Rattle.machine_asks.specs.declared.place.Place.{Place}
@@ -47,7 +49,7 @@ keyed_keeps s form k sound short inside =
       user = key.user;
       host = omega (arith, short.host);
       routes = omega (arith, short.routes);
-      tags = omega (arith, key.tags, short.tags, length-sorted_once (k.tags ++ form.tags), length-append k.tags form.tags);
+      tags = omega (arith, key.tags, short.tags, length-sorted_once (slice_cmp nat_cmp) (k.tags ++ form.tags), length-append k.tags form.tags);
     }
 
 pub by_key_proper : (s : State) (mk : MachineKey) (form : Register) (held : Option Machine) → SettingsHold s → AreSound s.rows → IsShortForm form

@@ -1,8 +1,7 @@
 -- Decisions that are refused by rules alone, and that keep the rules of the tables.
 use Rattle.std.proofs.Common.{◌≡◌, ℕ, Bool, true, false, not, List, Option, Some, None, Result, Ok, Err, if◌then◌else◌, refl, subst}
-use Rattle.net_addr.specs.Bits.{IsBlock}
-use Rattle.net_rows.specs.Settings.{AreSettings}
-use Rattle.net_rows.specs.declared.settings.SettingsFields.{SettingsFields}
+use Rattle.settings.specs.Settings.{AreSettings}
+use Rattle.settings.specs.declared.fields.SettingsFields.{SettingsFields}
 use Rattle.net_rows.specs.Rows.{after}
 use Rattle.net_rows.specs.Sound.{AreSound}
 use Rattle.net_rows.specs.declared.change.Change.{Change}
@@ -19,8 +18,8 @@ use Rattle.machine_asks.specs.Holds.{SettingsHold}
 use Rattle.desk_state.proofs.StepLemmas.{AreRuled, ok_ruled, err_ruled, sound_decision}
 
 -- the fields of settings keep their rules
-pub holds_of : (s : State) (f : SettingsFields) → f ≡ s.settings → AreSettings f → IsBlock f.prefix_v4 → IsBlock f.prefix_v6 → SettingsHold s
-holds_of s f e rules v4 v6 = record { rules = rw (← e) rules; v4 = rw (← e) v4; v6 = rw (← e) v6 }
+pub holds_of : (s : State) (f : SettingsFields) → f ≡ s.settings → AreSettings f → SettingsHold s
+holds_of s f e rules = record { rules = rw (← e) rules }
 
 -- It is refused by rules alone, and what changes keeps the rules of the tables.
 pub record IsProper (s : State) (d : Result Decision Refusal) : Type 0 where

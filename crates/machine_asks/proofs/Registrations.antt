@@ -8,8 +8,8 @@ use Rattle.net_rows.specs.Rows.{after, machine_of}
 use Rattle.net_rows.specs.Sound.{AreSound}
 use Rattle.net_rows.specs.declared.machine.Machine.{Machine}
 use Rattle.net_rows.proofs.SoundRemove.{sound_without_machine}
-use Rattle.wire_json.specs.Short.{IsShortForm}
-use Rattle.wire_json.specs.declared.register.Register.{Register}
+use Rattle.tailcfg.specs.Short.{IsShortForm}
+use Rattle.tailcfg.specs.declared.register.Register.{Register}
 use Rattle.desk_state.specs.Changes.{machine_gone}
 use Rattle.desk_state.specs.State.{State, is_ahead}
 use Rattle.desk_state.specs.declared.reply.Refusal.TheVariants.{NodeKeyTaken, UnknownMachine}

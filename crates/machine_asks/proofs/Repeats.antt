@@ -12,7 +12,7 @@ use Rattle.net_rows.proofs.Bools.{and_both, bytes_is}
 use Rattle.net_rows.proofs.Members.{find_none}
 use Rattle.net_rows.proofs.RowAt.{row_at_is}
 use Rattle.net_rows.proofs.Sounds.{sound_of}
-use Rattle.wire_json.specs.declared.register.Register.{Register}
+use Rattle.tailcfg.specs.declared.register.Register.{Register}
 use Rattle.desk_state.specs.State.{State, is_live}
 use Rattle.machine_asks.specs.Laws.{IsRepeat, rows_after}
 use Rattle.machine_asks.specs.Logout.{is_logout}

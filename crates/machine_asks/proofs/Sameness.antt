@@ -10,7 +10,7 @@ use Rattle.net_rows.specs.Damage.{address_eq}
 use Rattle.net_rows.specs.declared.machine.Machine.{Machine}
 use Rattle.net_rows.proofs.Bools.{both, all3, and_both, and3, bytes_of, bytes_is}
 use Rattle.net_rows.proofs.Stands.{address_of, address_is}
-use Rattle.wire_json.specs.declared.update.Update.{Update}
+use Rattle.tailcfg.specs.declared.update.Update.{Update}
 use Rattle.machine_asks.specs.Update.{endpoint_eq, prefix_eq, same_host, same_path, same_told, told_row}
 
 -- a test that passes for equal things alone does so for lists of them

@@ -8,9 +8,10 @@ use Rattle.net_addr.specs.Bits.{Block}
 use Rattle.net_rows.specs.Rows.{after, machine_of}
 use Rattle.net_rows.specs.Sound.{AreSound}
 use Rattle.net_rows.specs.declared.machine.Machine.{Machine}
-use Rattle.wire_json.specs.Short.{IsShortHost, IsShortUpdate}
-use Rattle.wire_json.specs.declared.update.HostUpdate.{HostUpdate}
-use Rattle.wire_json.specs.declared.update.Update.{Update}
+use Rattle.tailcfg.specs.Short.{IsShortHost, IsShortUpdate}
+use Rattle.tailcfg.specs.declared.host_update.HostUpdate.{HostUpdate}
+use Rattle.tailcfg.specs.declared.limits.TheConstants.{HOST_LIMIT, ROUTE_LIMIT}
+use Rattle.tailcfg.specs.declared.update.Update.{Update}
 use Rattle.desk_state.specs.State.{State, is_live}
 use Rattle.desk_state.specs.Steps.{or_refuse, refuse_if}
 use Rattle.desk_state.specs.declared.reply.Answer.TheVariants.{Updated}
@@ -38,15 +39,15 @@ asking_is s mk node m h =
     let is : row.0 ≡ m = cc in
     rw is at (machine_found s.rows.machines mk row.0 (or_refuse_ok _ UnknownMachine row.0 row.1)).0
 
-given_short : (given : Option (List ℕ)) (was : List ℕ) → IfSome given (λ text. length text ≤ 255) → length was ≤ 255 → length (given_or given was) ≤ 255
+given_short : (given : Option (List ℕ)) (was : List ℕ) → IfSome given (λ text. length text ≤ HOST_LIMIT) → length was ≤ HOST_LIMIT → length (given_or given was) ≤ HOST_LIMIT
 given_short None was h k = k
 given_short (Some new) was h k = h
 
-host_short : (was : List ℕ) (host : Option HostUpdate) → IfSome host IsShortHost → length was ≤ 255 → length (told_host was host) ≤ 255
+host_short : (was : List ℕ) (host : Option HostUpdate) → IfSome host IsShortHost → length was ≤ HOST_LIMIT → length (told_host was host) ≤ HOST_LIMIT
 host_short was None h k = k
 host_short was (Some host) h k = given_short host.name was h.name k
 
-routes_short : (was : List Block) (host : Option HostUpdate) → IfSome host IsShortHost → length was ≤ 32 → length (told_routes was host) ≤ 32
+routes_short : (was : List Block) (host : Option HostUpdate) → IfSome host IsShortHost → length was ≤ ROUTE_LIMIT → length (told_routes was host) ≤ ROUTE_LIMIT
 routes_short was None h k = k
 routes_short was (Some host) h k = h.routes
 

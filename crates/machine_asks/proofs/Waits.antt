@@ -13,8 +13,8 @@ use Rattle.net_rows.proofs.Members.{find_member, find_none}
 use Rattle.net_rows.proofs.RemoveLemmas.{without_member}
 use Rattle.net_rows.proofs.SoundPut.{sound_pending}
 use Rattle.net_rows.proofs.SoundRemove.{sound_without_pending}
-use Rattle.wire_json.specs.Short.{IsShortForm}
-use Rattle.wire_json.specs.declared.register.Register.{Register}
+use Rattle.tailcfg.specs.Short.{IsShortForm}
+use Rattle.tailcfg.specs.declared.register.Register.{Register}
 use Rattle.desk_state.specs.State.{State}
 use Rattle.desk_state.specs.declared.reply.Refusal.TheVariants.{EntropyFault, Full}
 use Rattle.desk_state.specs.declared.reply.Scarce.TheVariants as scarce

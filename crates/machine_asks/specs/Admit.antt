@@ -1,12 +1,14 @@
 -- An operator admits a machine that waits.
 use Rattle.std.specs.Prelude.{ℕ, List, [], ◌∷◌, Some, None, Result, Ok}
+use Rattle.std.specs.Cmp.Lexicographic.{slice_cmp}
+use Rattle.std.specs.Ordering.{nat_cmp}
+use Rattle.tail_base.specs.Sorted.{sorted_once}
 use Rattle.net_rows.specs.Rows.{machine_of, pending_with}
 use Rattle.net_rows.specs.declared.machine.Machine.{Machine}
 use Rattle.net_rows.specs.declared.pending.Pending.{Pending}
 use Rattle.desk_state.specs.Lines.{offline_line}
 use Rattle.desk_state.specs.State.{State, is_overdue}
 use Rattle.desk_state.specs.Steps.{◌>>=◌, or_refuse, refuse_if}
-use Rattle.desk_state.specs.Tags.{sorted_once}
 use Rattle.desk_state.specs.Users.{tags_defined, user_named}
 use Rattle.desk_state.specs.declared.decision.Decision.{Decision}
 use Rattle.desk_state.specs.declared.decision.Decision.TheVariants.{Changes}
@@ -30,9 +32,9 @@ awaited s p user = record {
   user = user;
   host = p.host;
   routes = p.routes;
-  tags = sorted_once p.tags;
+  tags = sorted_once (slice_cmp nat_cmp) p.tags;
   ephemeral = p.ephemeral;
-  expiry = expiry_of s p.expiry (sorted_once p.tags);
+  expiry = expiry_of s p.expiry (sorted_once (slice_cmp nat_cmp) p.tags);
 }
 
 -- the machine has this row from now on, this is the next id, and the entry goes

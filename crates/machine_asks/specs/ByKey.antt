@@ -1,13 +1,15 @@
 -- A machine registers with a pre-auth key.
 use Rattle.std.specs.Prelude.{ℕ, List, [], ◌∷◌, ◌++◌, Option, Some, Result, Ok, not, ◌&&◌, ◌||◌}
+use Rattle.std.specs.Cmp.Lexicographic.{slice_cmp}
+use Rattle.std.specs.Ordering.{nat_cmp}
 use Rattle.tail_base.specs.declared.key.MachineKey.{MachineKey}
+use Rattle.tail_base.specs.Sorted.{sorted_once}
 use Rattle.net_rows.specs.Rows.{key_of, pending_of}
 use Rattle.net_rows.specs.declared.key.AuthKey.{AuthKey}
 use Rattle.net_rows.specs.declared.machine.Machine.{Machine}
-use Rattle.wire_json.specs.declared.register.Register.{Register}
+use Rattle.tailcfg.specs.declared.register.Register.{Register}
 use Rattle.desk_state.specs.State.{State, is_ahead}
 use Rattle.desk_state.specs.Steps.{◌>>=◌, refuse_if, or_refuse}
-use Rattle.desk_state.specs.Tags.{sorted_once}
 use Rattle.desk_state.specs.Users.{tags_defined}
 use Rattle.desk_state.specs.declared.decision.Decision.{Decision}
 use Rattle.desk_state.specs.declared.decision.Decision.TheVariants.{Changes}
@@ -27,7 +29,7 @@ usable_key s text = do
 
 -- the key's tags and the requested ones, in order and each once
 abbrev pub keyed_tags : AuthKey → Register → List (List ℕ)
-keyed_tags key form = sorted_once (key.tags ++ form.tags)
+keyed_tags key form = sorted_once (slice_cmp nat_cmp) (key.tags ++ form.tags)
 
 -- who enters by this key
 abbrev pub keyed : State → Register → AuthKey → Entrant

@@ -4,7 +4,7 @@ use Rattle.net_rows.specs.Damage.{damage}
 use Rattle.net_rows.specs.Rows.{after}
 use Rattle.net_rows.specs.declared.machine.Machine.{Machine}
 use Rattle.net_rows.specs.declared.rows.Rows.{Rows}
-use Rattle.wire_json.specs.declared.register.Register.{Register}
+use Rattle.tailcfg.specs.declared.register.Register.{Register}
 use Rattle.desk_state.specs.State.{State, is_ahead, is_live}
 use Rattle.desk_state.specs.declared.decision.Decision.{Decision}
 use Rattle.desk_state.specs.declared.decision.Decision.TheVariants.{Only, Changes}

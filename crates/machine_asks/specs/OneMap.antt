@@ -5,7 +5,7 @@ use Rattle.tail_base.specs.declared.key.NodeKey.{NodeKey}
 use Rattle.net_rows.specs.Rows.{after}
 use Rattle.net_rows.specs.declared.change.Change.{Change}
 use Rattle.net_rows.specs.declared.machine.Machine.{Machine}
-use Rattle.wire_json.specs.declared.update.Update.{Update}
+use Rattle.tailcfg.specs.declared.update.Update.{Update}
 use Rattle.map_delta.specs.Fresh.{fresh}
 use Rattle.map_delta.specs.Responses.{first_response}
 use Rattle.desk_state.specs.State.{State, is_live}

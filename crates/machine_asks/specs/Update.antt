@@ -8,8 +8,8 @@ use Rattle.net_addr.specs.Bits.{Block}
 use Rattle.net_addr.specs.declared.endpoint.Endpoint.{Endpoint}
 use Rattle.net_rows.specs.Damage.{address_eq}
 use Rattle.net_rows.specs.declared.machine.Machine.{Machine}
-use Rattle.wire_json.specs.declared.update.HostUpdate.{HostUpdate}
-use Rattle.wire_json.specs.declared.update.Update.{Update}
+use Rattle.tailcfg.specs.declared.host_update.HostUpdate.{HostUpdate}
+use Rattle.tailcfg.specs.declared.update.Update.{Update}
 use Rattle.desk_state.specs.State.{State}
 use Rattle.desk_state.specs.Steps.{◌>>=◌}
 use Rattle.desk_state.specs.declared.decision.Decision.{Decision}

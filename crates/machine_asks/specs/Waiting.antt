@@ -10,7 +10,7 @@ use Rattle.net_rows.specs.declared.change.Change.{Change}
 use Rattle.net_rows.specs.declared.change.Row.TheVariants as row
 use Rattle.net_rows.specs.declared.pending.Pending.{Pending}
 use Rattle.net_rows.specs.declared.rows.Rows.{Rows}
-use Rattle.wire_json.specs.declared.register.Register.{Register}
+use Rattle.tailcfg.specs.declared.register.Register.{Register}
 use Rattle.desk_state.specs.State.{State, is_overdue}
 use Rattle.desk_state.specs.Steps.{◌>>=◌, or_refuse, refuse_if}
 use Rattle.desk_state.specs.Texts.{row_text}

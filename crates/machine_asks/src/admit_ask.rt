@@ -9,12 +9,11 @@ use crate::holds::keep_rules;
 use crate::place::{is_taken, place_for};
 use crate::rows::{machine_row, row_change};
 use desk_state::{
-    Answer, Decision, Refusal, Snapshot, Stop, is_overdue, offline_line, sorted_once, tags_defined,
-    user_named,
+    Answer, Decision, Refusal, Snapshot, Stop, is_overdue, offline_line, tags_defined, user_named,
 };
 use net_rows::{Machine, Pending};
 use std::alloc::Global;
-use tail_base::{Duplicate, Items, NoMemory, Text};
+use tail_base::{Duplicate, Items, NoMemory, Text, sorted_once};
 
 fn timely_entry<'a>(at: &Snapshot<'a>, text: &Text) -> Result<&'a Pending, Stop>
     ensures value { Gives (λ p. p.now) result (spec.timely_entry at.now text.now) }

@@ -7,11 +7,11 @@ ghost use Rattle.machine_asks.specs.ByKey as spec;
 use crate::entrant::{Entrant, expiry_of, joined};
 use crate::place::{Place, place_for};
 use crate::rows::{machine_row, registered, row_change};
-use desk_state::{Decision, Refusal, Snapshot, Stop, is_ahead, sorted_once, tags_defined};
+use desk_state::{Decision, Refusal, Snapshot, Stop, is_ahead, tags_defined};
 use net_rows::{AuthKey, Machine};
 use std::alloc::Global;
-use tail_base::{Duplicate, Items, MachineKey, NoMemory, Tag, Text};
-use wire_json::Register;
+use tail_base::{Duplicate, Items, MachineKey, NoMemory, Tag, Text, sorted_once};
+use tailcfg::Register;
 
 fn usable_key<'a>(at: &Snapshot<'a>, text: &Text) -> Result<&'a AuthKey, Stop>
     ensures value { Gives (λ k. k.now) result (spec.usable_key at.now text.now) }

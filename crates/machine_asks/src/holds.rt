@@ -10,8 +10,6 @@ pub(crate) fn keep_rules(at: &Snapshot<'_>)
     ensures settings { SettingsHold at.now }
     ensures tables { damage at.now.rows ≡ None }
 {
-    let fields = at.settings.fields();
-    let _v4 = fields.prefix_v4.base();
-    let _v6 = fields.prefix_v6.base();
+    let _fields = at.settings.fields();
     let _rows = at.tables.users();
 }

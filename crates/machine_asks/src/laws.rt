@@ -2,8 +2,8 @@
 //! law.
 ghost use Rattle.std.specs.Prelude.{◌≡◌, ℕ, List, Option, Ok, false, true};
 ghost use Rattle.net_rows.specs.declared.machine.Machine.{Machine};
-ghost use Rattle.wire_json.specs.declared.register.Register.{Register};
-ghost use Rattle.wire_json.specs.declared.update.Update.{Update};
+ghost use Rattle.tailcfg.specs.declared.register.Register.{Register};
+ghost use Rattle.tailcfg.specs.declared.update.Update.{Update};
 ghost use Rattle.map_delta.specs.Profiles.{profile_of};
 ghost use Rattle.desk_state.specs.State.{State};
 ghost use Rattle.desk_state.specs.declared.decision.Decision.TheVariants.{Only};

@@ -6,7 +6,7 @@ ghost use Rattle.desk_state.specs.State.{is_live};
 ghost use Rattle.desk_state.specs.Steps.{Gives};
 ghost use Rattle.net_rows.specs.Damage.{damage};
 ghost use Rattle.net_rows.specs.Rows.{after};
-ghost use Rattle.wire_json.specs.Short.{IsShortUpdate};
+ghost use Rattle.tailcfg.specs.Short.{IsShortUpdate};
 ghost use Rattle.machine_asks.specs.OneMap as spec;
 ghost use Rattle.machine_asks.specs.Rows.{row_replaced};
 
@@ -19,7 +19,7 @@ use map_delta::{first_response, plain_map};
 use net_rows::{Change, Machine, Tables};
 use std::alloc::Global;
 use tail_base::{Duplicate, Items, MachineKey, NoMemory, NodeKey};
-use wire_json::Update;
+use tailcfg::Update;
 
 /// Adds the machine's id, if it is live.
 fn add_live(at: &Snapshot<'_>, ids: &mut Items<u32>, machine: &Machine) -> Result<(), NoMemory>

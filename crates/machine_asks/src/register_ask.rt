@@ -3,7 +3,7 @@ ghost use Rattle.std.specs.Prelude.{◌≡◌, IfOk};
 ghost use Rattle.std.specs.Option.{option_copied};
 ghost use Rattle.desk_state.specs.Rulings.{IsSoundDecision};
 ghost use Rattle.desk_state.specs.Steps.{Gives};
-ghost use Rattle.wire_json.specs.Short.{IsShortForm};
+ghost use Rattle.tailcfg.specs.Short.{IsShortForm};
 ghost use Rattle.machine_asks.specs.Register as spec;
 
 use crate::by_key::by_key;
@@ -16,7 +16,7 @@ use map_delta::profile_of;
 use net_rows::Machine;
 use std::alloc::Global;
 use tail_base::{MachineKey, NoMemory, NodeKey};
-use wire_json::Register;
+use tailcfg::Register;
 
 fn repeats(at: &Snapshot<'_>, node: &NodeKey, row: &Machine) -> bool
     ensures value { result ≡ spec.repeats at.now node.now row.now }

@@ -7,7 +7,7 @@ use net_addr::{Endpoint, Prefix};
 use net_rows::Machine;
 use std::alloc::Global;
 use tail_base::{Duplicate, Items, NoMemory, Text};
-use wire_json::{HostUpdate, Update};
+use tailcfg::{HostUpdate, Update};
 
 fn told_host(alloc: Global, was: &Text, host: &Option<HostUpdate>) -> Result<Text, NoMemory>
     ensures value { IfOk result (λ text. text ≡ spec.told_host was.now host.now) }

@@ -2,7 +2,7 @@
 ghost use Rattle.std.specs.Prelude.{◌≡◌, IfOk};
 ghost use Rattle.desk_state.specs.Rulings.{IsSoundDecision};
 ghost use Rattle.desk_state.specs.Steps.{Gives};
-ghost use Rattle.wire_json.specs.Short.{IsShortUpdate};
+ghost use Rattle.tailcfg.specs.Short.{IsShortUpdate};
 ghost use Rattle.machine_asks.specs.Update as spec;
 
 use crate::holds::keep_rules;
@@ -13,7 +13,7 @@ use desk_state::{Answer, Decision, Snapshot, Stop};
 use net_rows::Machine;
 use std::alloc::Global;
 use tail_base::{Items, MachineKey, NoMemory, NodeKey};
-use wire_json::Update;
+use tailcfg::Update;
 
 fn updated(
     alloc: Global,

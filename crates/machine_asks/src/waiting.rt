@@ -11,7 +11,7 @@ use desk_state::{Answer, Decision, Refusal, Scarce, Snapshot, Stop, is_overdue, 
 use net_rows::{COUNTER_LIMIT, Change, Counters, PENDING_LIMIT, Pending, Row, Tables};
 use std::alloc::Global;
 use tail_base::{Duplicate, Items, MachineKey, NoMemory, NodeKey};
-use wire_json::Register;
+use tailcfg::Register;
 
 fn waits(at: &Snapshot<'_>, node: &NodeKey, entry: &Pending) -> bool
     ensures value { result ≡ spec.waits at.now node.now entry.now }

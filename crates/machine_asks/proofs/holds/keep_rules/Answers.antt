@@ -7,7 +7,6 @@ pub returns-clause-settings : goal.returns-clause-settings
 returns-clause-settings c =
     let settings : c.at.inside.settings.now ≡ c.args.at.now.settings = ap (λ (s : State). s.settings) c.at.view_is in
     holds_of c.args.at.now c.at.inside.settings.now settings c.fields-fields.ensures.rules
-    (rw c.fields-fields.ensures.value at c.base-v4.ensures.block) (rw c.fields-fields.ensures.value at c.base-v6.ensures.block)
 
 pub returns-clause-tables : goal.returns-clause-tables
 returns-clause-tables c =
