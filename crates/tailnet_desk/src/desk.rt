@@ -25,8 +25,9 @@ use desk_state::{
 use io_edge::EdgeFault;
 use machine_asks::{admit, one_map, register, seed, update};
 use moments::Moment;
-use net_rows::{Change, Damage, Kind, RowKey, Settings, Shelf, Tables};
+use net_rows::{Change, Damage, Kind, RowKey, Shelf, Tables};
 use row_keeper::{Keeper, LoadFault};
+use settings::Settings;
 use std::alloc::Global;
 use std::marker::Model;
 use tail_base::{Items, NoMemory};
