@@ -1,4 +1,6 @@
 pub mod Counts
 pub mod Front
+pub mod KnownLemmas
 pub mod OwnerLemmas
 pub mod Seen
+pub mod StepLemmas

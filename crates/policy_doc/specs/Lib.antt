@@ -2,4 +2,5 @@ pub mod Document
 pub mod Entries
 pub mod Keys
 pub mod Rules
+pub mod Sound
 pub mod Walks
