@@ -2,5 +2,6 @@ pub mod Counts
 pub mod Front
 pub mod KnownLemmas
 pub mod OwnerLemmas
+pub mod RowLemmas
 pub mod Seen
 pub mod StepLemmas
