@@ -1,12 +1,11 @@
 -- What is known of a selector that was read.
-use Rattle.std.proofs.Common.{◌≡◌, ℕ, Bool, true, false, ◌&&◌, ◌||◌, List, [], ◌∷◌, Option, Some, None, Result, Ok, Err, cond, refl, sym, ap, ◌∙◌}
+use Rattle.std.proofs.Common.{◌≡◌, ℕ, Bool, true, false, ◌||◌, List, [], ◌∷◌, Option, Some, None, Result, Ok, Err, cond, refl, ap, ◌∙◌}
 use Rattle.std.specs.Prelude.{codes, is_some, not}
 use Rattle.std.specs.List.{find}
 use Rattle.std.specs.Str.{bytes_eq}
 use Rattle.std.proofs.lemmas.Bool.{and_parts}
 use Rattle.tail_base.proofs.Bools.{bytes_eq-true}
 use Rattle.tail_base.specs.Logins.{login_of}
-use Rattle.tail_base.specs.Steps.{◌>>=◌, or_fault}
 use Rattle.net_addr.specs.Bits.{Block}
 use Rattle.policy_rows.specs.declared.code.PolicyCode.TheVariants as code
 use Rattle.policy_rows.specs.declared.fault.PolicyFault.{PolicyFault}
@@ -18,7 +17,7 @@ use Rattle.policy_rows.specs.declared.tag_owner.TagOwner.{TagOwner}
 use Rattle.policy_rows.specs.Faults.{fault_at}
 use Rattle.policy_rows.specs.Names.{begins, group_named, host_named, is_name, owner_of_tag}
 use Rattle.policy_rows.specs.Nets.{is_one_address, net_of_text}
-use Rattle.policy_rows.specs.Selectors.{approver_at, automatic_at, group_at, has_slash, host_at, is_approver, is_source, is_test_end, net_or, plain_at, selector_at, source_at, tag_at, test_end_at, user_or}
+use Rattle.policy_rows.specs.Selectors.{approver_at, automatic_at, group_at, has_slash, host_at, is_approver, is_source, is_test_end, net_or, selector_at, source_at, tag_at, test_end_at, user_or}
 use Rattle.policy_doc.specs.Sound.{has_entry, is_subject}
 use Rattle.policy_doc.proofs.StepLemmas.{bind_parts, check_parts, due_parts}
 
@@ -74,9 +73,9 @@ host_known names place text s e =
 automatic_known : (names : Names) (place text : List ℕ) → IsKnown names (automatic_at place text)
 automatic_known names place text =
     either_known names (bytes_eq text (codes "autogroup:member")) _ _ (one_known names sel.Member refl)
-      (either_known names (bytes_eq text (codes "autogroup:tagged")) _ _ (one_known names sel.AllTagged refl)
-        (either_known names (bytes_eq text (codes "autogroup:internet")) _ _ (one_known names sel.Internet refl)
-          (either_known names (bytes_eq text (codes "autogroup:self")) _ _ (one_known names sel.OwnDevices refl) (none_known names (fault_at code.Unsupported place)))))
+    (either_known names (bytes_eq text (codes "autogroup:tagged")) _ _ (one_known names sel.AllTagged refl)
+    (either_known names (bytes_eq text (codes "autogroup:internet")) _ _ (one_known names sel.Internet refl)
+    (either_known names (bytes_eq text (codes "autogroup:self")) _ _ (one_known names sel.OwnDevices refl) (none_known names (fault_at code.Unsupported place)))))
 
 net_known : (names : Names) (net : Option Block) (other : Result Selector PolicyFault) → IsKnown names other → IsKnown names (net_or net other)
 net_known names None other h = h
@@ -90,11 +89,11 @@ pub selector_known : (names : Names) (place text : List ℕ) → IsKnown names (
 unfolding selector_at
 selector_known names place text =
     either_known names (bytes_eq text (codes "*")) _ _ (one_known names sel.All refl)
-      (either_known names (begins text (codes "group:")) _ _ (group_known names place text)
-        (either_known names (begins text (codes "tag:")) _ _ (tag_known names place text)
-          (either_known names (begins text (codes "autogroup:")) _ _ (automatic_known names place text)
-            (either_known names (begins text (codes "ipset:") || begins text (codes "svc:")) _ _ (none_known names (fault_at code.Unsupported place))
-              (user_known names (login_of text) _ (net_known names (net_of_text text) _ (host_known names place text)))))))
+    (either_known names (begins text (codes "group:")) _ _ (group_known names place text)
+    (either_known names (begins text (codes "tag:")) _ _ (tag_known names place text)
+    (either_known names (begins text (codes "autogroup:")) _ _ (automatic_known names place text)
+    (either_known names (begins text (codes "ipset:") || begins text (codes "svc:")) _ _ (none_known names (fault_at code.Unsupported place))
+    (user_known names (login_of text) _ (net_known names (net_of_text text) _ (host_known names place text)))))))
 
 -- a selector of a kind that may stand there
 abbrev pub IsRead : Names → (Selector → Bool) → Selector → Type 0

@@ -1,5 +1,5 @@
 -- What holds of each row that was read.
-use Rattle.std.proofs.Common.{◌≡◌, ◌≤◌, ℕ, Bool, true, false, ◌&&◌, ◌||◌, List, [], ◌∷◌, Option, Some, None, Result, Ok, Err, length, leb, arith, cond, refl, sym, ap, ◌∙◌}
+use Rattle.std.proofs.Common.{◌≡◌, ℕ, Bool, true, false, ◌&&◌, ◌||◌, List, [], ◌∷◌, Option, Some, None, Result, Ok, Err, length, leb, refl}
 use Rattle.std.specs.Prelude.{codes, not}
 use Rattle.std.specs.List.{after_last, before_last, list_all, list_any}
 use Rattle.std.specs.Result.{result_ok}
@@ -7,7 +7,6 @@ use Rattle.std.specs.Str.{bytes_eq}
 use Rattle.std.proofs.lemmas.Bool.{and_from, le-leb}
 use Rattle.serde_json.specs.Data.{Data}
 use Rattle.serde_json.specs.Find.{as_object, as_str}
-use Rattle.tail_base.specs.Steps.{◌>>=◌, or_fault}
 use Rattle.net_addr.specs.PrefixTexts.{prefix_of_text}
 use Rattle.port_sets.specs.declared.fault.PortFault.{PortFault}
 use Rattle.port_sets.specs.declared.range.PortRange.{PortRange}
@@ -25,12 +24,12 @@ use Rattle.policy_rows.specs.declared.selector.Selector.{Selector}
 use Rattle.policy_rows.specs.declared.test.Test.{Test}
 use Rattle.policy_rows.specs.Dests.{dest_at, is_one_port, needs_star, ports_at, ports_from, test_dest_at}
 use Rattle.policy_rows.specs.Faults.{fault_at, under}
-use Rattle.policy_rows.specs.Selectors.{is_approver, is_colon, is_source, selector_at, source_at, approver_at, test_end_at}
+use Rattle.policy_rows.specs.Selectors.{is_approver, is_colon, is_source, selector_at, test_end_at}
 use Rattle.policy_doc.specs.declared.limits.TheConstants.{LIST_LIMIT}
 use Rattle.policy_doc.specs.Entries.{approver_text, group_entry, is_group_name, is_route_before, member_at, route_entry}
 use Rattle.policy_doc.specs.Keys.{keys_of, section}
 use Rattle.policy_doc.specs.Rules.{action_at, dest_text, list_due, proto_at, rule_at, source_text, subject_at, test_at, test_dest_text}
-use Rattle.policy_doc.specs.Walks.{list_of, or_empty, text_at}
+use Rattle.policy_doc.specs.Walks.{list_of, or_empty}
 use Rattle.policy_doc.specs.Sound.{has_entry, is_every_port, is_subject}
 use Rattle.policy_doc.proofs.KnownLemmas.{IsRead, approver_read, selector_known, source_read, subject_read}
 use Rattle.policy_doc.proofs.StepLemmas.{bind_parts, check_parts, due_parts, given_all, given_short, list_all_read, list_short}

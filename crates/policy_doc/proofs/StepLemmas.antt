@@ -1,5 +1,5 @@
 -- What steps that went well have shown.
-use Rattle.std.proofs.Common.{◌≡◌, ◌+◌, ◌≤◌, ℕ, suc, Bool, true, false, ◌&&◌, List, [], ◌∷◌, ◌++◌, length, Option, Some, None, Result, Ok, Err, cond, leb, arith, refl, sym, ap, ◌∙◌}
+use Rattle.std.proofs.Common.{◌≡◌, ◌+◌, ◌≤◌, ℕ, Bool, true, false, List, [], ◌∷◌, ◌++◌, length, Option, Some, None, Result, Ok, Err, leb, arith, refl, ◌∙◌}
 use Rattle.std.specs.List.{list_all}
 use Rattle.std.proofs.lemmas.Bool.{and_from, leb-true}
 use Rattle.std.proofs.lemmas.List.{length-append}
@@ -46,7 +46,7 @@ each_all P read h place n (item d ds) xs e =
     let first = bind_parts (read (indexed place n) d) _ xs e in
     let rest = bind_parts (each read place (n + 1) ds) _ xs first.2 in
     ok_has (λ ys. list_all P ys ≡ true) (first.0 ∷ rest.0) xs
-      (and_from (P first.0) (list_all P rest.0) (h (indexed place n) d first.0 first.1) (each_all P read h place (n + 1) ds rest.0 rest.1)) rest.2
+    (and_from (P first.0) (list_all P rest.0) (h (indexed place n) d first.0 first.1) (each_all P read h place (n + 1) ds rest.0 rest.1)) rest.2
 
 pub each_count : {A : Type 0} (read : List ℕ → Data → Result A PolicyFault) (place : List ℕ) (n : ℕ) (ds : Items) (xs : List A) → each read place n ds ≡ Ok xs → length xs ≡ items_count ds
 each_count read place n no_items xs e = ok_has (λ ys. length ys ≡ 0) [] xs refl e
