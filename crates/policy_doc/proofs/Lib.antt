@@ -1,4 +1,5 @@
 pub mod Counts
+pub mod FaultLemmas
 pub mod Front
 pub mod KnownLemmas
 pub mod OwnerLemmas

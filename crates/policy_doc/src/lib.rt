@@ -18,5 +18,5 @@ mod testing;
 mod walk;
 
 pub use document::read_policy;
-pub use laws::policies_are_sound;
+pub use laws::{first_faults_count, policies_are_sound};
 pub use limits::{ENTRY_LIMIT, LIST_LIMIT, RULE_LIMIT, TEXT_LIMIT};
