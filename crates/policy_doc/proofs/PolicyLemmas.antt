@@ -1,5 +1,5 @@
 -- What holds of each policy that was read.
-use Rattle.std.proofs.Common.{◌≡◌, ◌≤◌, ℕ, Bool, true, ◌&&◌, ◌||◌, List, [], ◌∷◌, Option, Some, None, Result, Ok, length, leb, arith, refl}
+use Rattle.std.proofs.Common.{◌≡◌, ◌≤◌, ℕ, Bool, true, ◌&&◌, ◌||◌, List, [], ◌∷◌, Option, Some, None, Result, Ok, length, leb, ltb, arith, refl}
 use Rattle.std.specs.Prelude.{codes, not}
 use Rattle.std.specs.List.{list_all}
 use Rattle.serde_json.specs.Data.{Data, Members}
@@ -124,6 +124,7 @@ sound_parts names acls tests_text rules approvers tests n r a t = record {
   denies_known = tests_all names (λ x. list_all (λ e. has_entry names.groups names.tags e.to) x.deny) (λ x h. h.deny.known) tests_text tests t;
   sources_fit = rules_all names (λ x. list_all is_source x.sources) (λ x h. h.sources_fit) acls rules r;
   ports_fit = rules_all names (λ x. not (needs_star x.protos) || list_all (λ e. is_every_port e.ports) x.dests) (λ x h. h.ports_fit) acls rules r;
+  ports_some = rules_all names (λ x. list_all (λ e. ltb 0 (length e.ports)) x.dests) (λ x h. h.ports_some) acls rules r;
   approvers_fit = a.fit;
   exits_fit = a.exits_fit;
   subjects_fit = tests_all names (λ x. is_subject x.subject) (λ x h. h.subject_fit) tests_text tests t;

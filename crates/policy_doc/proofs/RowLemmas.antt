@@ -1,17 +1,17 @@
 -- What holds of each row that was read.
-use Rattle.std.proofs.Common.{◌≡◌, ℕ, Bool, true, false, ◌&&◌, ◌||◌, List, [], ◌∷◌, Option, Some, None, Result, Ok, Err, length, leb, refl}
+use Rattle.std.proofs.Common.{◌≡◌, ℕ, Bool, true, false, ◌&&◌, ◌||◌, List, [], ◌∷◌, Option, Some, None, Result, Ok, Err, length, leb, ltb, refl}
 use Rattle.std.specs.Prelude.{codes, not}
 use Rattle.std.specs.List.{after_last, before_last, list_all, list_any}
 use Rattle.std.specs.Result.{result_ok}
 use Rattle.std.specs.Str.{bytes_eq}
-use Rattle.std.proofs.lemmas.Bool.{and_from, le-leb}
+use Rattle.std.proofs.lemmas.Bool.{and_from, le-leb, lt-ltb}
 use Rattle.serde_json.specs.Data.{Data}
 use Rattle.serde_json.specs.Find.{as_object, as_str}
 use Rattle.net_addr.specs.PrefixTexts.{prefix_of_text}
 use Rattle.port_sets.specs.declared.fault.PortFault.{PortFault}
 use Rattle.port_sets.specs.declared.range.PortRange.{PortRange}
 use Rattle.port_sets.specs.PortTexts.{ports_of_text}
-use Rattle.port_sets.proofs.ReadLemmas.{ports_star}
+use Rattle.port_sets.proofs.ReadLemmas.{ports_star, read_ports}
 use Rattle.policy_rows.specs.declared.approver.Approver.{Approver}
 use Rattle.policy_rows.specs.declared.code.PolicyCode.{PolicyCode}
 use Rattle.policy_rows.specs.declared.code.PolicyCode.TheVariants as code
@@ -61,7 +61,7 @@ every_if true text ports e star = star_every text ports e star
 every_if false text ports e star = refl
 
 abbrev IsDest : Bool → Names → Dest → Type 0
-IsDest only_all names x = (has_entry names.groups names.tags x.to ≡ true) × ((not only_all || is_every_port x.ports) ≡ true)
+IsDest only_all names x = (has_entry names.groups names.tags x.to ≡ true) × ((not only_all || is_every_port x.ports) ≡ true) × (ltb 0 (length x.ports) ≡ true)
 
 dest_read : (only_all : Bool) (names : Names) (place text : List ℕ) (x : Dest) → dest_at only_all names place text ≡ Ok x → IsDest only_all names x
 unfolding dest_at
@@ -72,7 +72,7 @@ dest_read only_all names place text x e =
     let star = check_parts (not only_all || bytes_eq (after_last is_colon text) (codes "*")) (fault_at code.PortsForProto place) _ x ports.2 in
     let same : record { to = to.0; ports = ports.0 } ≡ x = cc (star.1) in
     let found = ports_read code.BadPorts place (ports_of_text (after_last is_colon text)) ports.0 ports.1 in
-    rw (← same) (selector_known names place (before_last is_colon text) to.0 to.1, every_if only_all (after_last is_colon text) ports.0 found star.0)
+    rw (← same) (selector_known names place (before_last is_colon text) to.0 to.1, every_if only_all (after_last is_colon text) ports.0 found star.0, lt-ltb 0 (length ports.0) (read_ports (after_last is_colon text) ports.0 found).some)
 
 dest_text_read : (only_all : Bool) (names : Names) (place : List ℕ) (d : Data) (x : Dest) → dest_text only_all names place d ≡ Ok x → IsDest only_all names x
 unfolding dest_text
@@ -95,6 +95,7 @@ pub record IsRule (names : Names) (r : Rule) : Type 0 where
   pub sources_end : leb (length r.sources) LIST_LIMIT ≡ true
   pub dests_known : list_all (λ x. has_entry names.groups names.tags x.to) r.dests ≡ true
   pub dests_end : leb (length r.dests) LIST_LIMIT ≡ true
+  pub ports_some : list_all (λ x. ltb 0 (length x.ports)) r.dests ≡ true
   pub ports_fit : (not (needs_star r.protos) || list_all (λ x. is_every_port x.ports) r.dests) ≡ true
 
 every_dest : (only_all : Bool) (dests : List Dest) → list_all (λ x. not only_all || is_every_port x.ports) dests ≡ true → (not only_all || list_all (λ x. is_every_port x.ports) dests) ≡ true
@@ -117,6 +118,7 @@ rule_read names place d r e =
       sources_end = due_short (source_text names) _ _ sources.0 sources.1;
       dests_known = due_all (λ x. has_entry names.groups names.tags x.to) (dest_text (needs_star proto.0) names) (λ at x s f. (dest_text_read (needs_star proto.0) names at x s f).0) _ _ dests.0 dests.1;
       dests_end = due_short (dest_text (needs_star proto.0) names) _ _ dests.0 dests.1;
+      ports_some = due_all (λ x. ltb 0 (length x.ports)) (dest_text (needs_star proto.0) names) (λ at x s f. (dest_text_read (needs_star proto.0) names at x s f).2) _ _ dests.0 dests.1;
       ports_fit = every_dest (needs_star proto.0) dests.0 (due_all (λ x. not (needs_star proto.0) || is_every_port x.ports) (dest_text (needs_star proto.0) names) (λ at x s f. (dest_text_read (needs_star proto.0) names at x s f).1) _ _ dests.0 dests.1);
     })
 

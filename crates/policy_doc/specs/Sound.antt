@@ -1,5 +1,5 @@
 -- What holds of each policy that is read, fact by fact.
-use Rattle.std.specs.Prelude.{◌≡◌, ◌≤◌, ◌==◌, ◌&&◌, ◌||◌, Bool, true, false, not, List, [], ◌∷◌, length, nat_le, Option, Some, None, is_some}
+use Rattle.std.specs.Prelude.{◌≡◌, ◌≤◌, ◌==◌, ◌&&◌, ◌||◌, Bool, true, false, not, List, [], ◌∷◌, length, nat_le, nat_lt, Option, Some, None, is_some}
 use Rattle.std.specs.List.{list_all}
 use Rattle.port_sets.specs.declared.range.PortRange.{PortRange}
 use Rattle.policy_rows.specs.declared.group.Group.{Group}
@@ -62,6 +62,8 @@ pub record IsSound (p : Policy) : Type 0 where
   pub sources_fit : list_all (λ r. list_all is_source r.sources) (written_rules p.rules) ≡ true
   -- a rule whose protocol has no ports has all ports
   pub ports_fit : list_all (λ r. not (needs_star r.protos) || list_all (λ e. is_every_port e.ports) r.dests) (written_rules p.rules) ≡ true
+  -- each destination of a rule has a port
+  pub ports_some : list_all (λ r. list_all (λ e. nat_lt 0 (length e.ports)) r.dests) (written_rules p.rules) ≡ true
   -- approvers are users, groups and tags
   pub approvers_fit : list_all (λ a. list_all is_approver a.by) p.route_approvers ≡ true
   pub exits_fit : list_all is_approver p.exit_approvers ≡ true
