@@ -7,7 +7,7 @@ use Rattle.wire_json.specs.MapRequest.{map_ask_of_body}
 use Rattle.wire_json.specs.Register.{register_of_body}
 use Rattle.wire_json.specs.declared.fault.WireFault.TheVariants as fault
 use Rattle.wire_json.specs.declared.field.Field.TheVariants as field
-use Rattle.wire_json.specs.declared.map_ask.MapAsk.{MapAsk}
+use Rattle.tailcfg.specs.declared.map_ask.MapAsk.{MapAsk}
 use Rattle.desk_state.specs.declared.ask.Ask.TheVariants as ask
 use Rattle.desk_front.specs.Faults.{body_answer, field_answer, unless_faulty}
 use Rattle.desk_front.specs.declared.action.Action.{Action}

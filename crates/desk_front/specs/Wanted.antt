@@ -1,7 +1,7 @@
 -- What a request wants: the path first, then the method, then the machine's key or the operator's token, then the body.
 use Rattle.std.specs.Prelude.{Option, None, Some, codes, if◌then◌else◌}
 use Rattle.http_front.specs.declared.request.Request.{Request}
-use Rattle.net_rows.specs.declared.settings.SettingsFields.{SettingsFields}
+use Rattle.settings.specs.declared.fields.SettingsFields.{SettingsFields}
 use Rattle.path_routes.specs.Finds.{found_in, owner_in}
 use Rattle.path_routes.specs.declared.found.Found.{Found}
 use Rattle.desk_front.specs.Actions.{action_of, is_machine_route}

@@ -1,6 +1,6 @@
 //! What machines ask.
 ghost use Rattle.std.specs.Prelude.{◌≡◌, IfOk};
-ghost use Rattle.wire_json.specs.Short.{IsShortForm, IsShortUpdate};
+ghost use Rattle.tailcfg.specs.Short.{IsShortForm, IsShortUpdate};
 ghost use Rattle.desk_front.specs.Faults.{field_answer};
 ghost use Rattle.desk_front.specs.MachineWants.{asked_by, header_key, machine_wants, map_body_wants, map_wants, register_wants};
 ghost use Rattle.desk_front.specs.Wants.{IsSound};
@@ -12,7 +12,8 @@ use crate::want::Wanted;
 use desk_state::Ask;
 use std::alloc::Global;
 use tail_base::{Bytes, MachineKey, NoMemory};
-use wire_json::{Field, MapAsk, WireFault, read_map_request, read_register};
+use tailcfg::MapAsk;
+use wire_json::{Field, WireFault, read_map_request, read_register};
 
 /// The header that names a machine.
 const MACHINE_HEADER: &str = "Ts-Machine-Key";
