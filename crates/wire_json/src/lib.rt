@@ -19,4 +19,3 @@ pub use map_request::read_map_request;
 pub use readers::{flag_of, some_time_of};
 pub use register::read_register;
 pub use spelled::{Spelled, list_of};
-
