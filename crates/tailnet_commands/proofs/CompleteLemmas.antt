@@ -11,7 +11,7 @@ use Rattle.http_front.specs.declared.request.Request.{Request}
 use Rattle.http_front.proofs.Streams.{Leads-append, Leads_first, Splits_unique}
 use Rattle.http_front.proofs.Refusals.{Splits-append_bad}
 use Rattle.desk_front.specs.Wanted.{site_of, wanted_of}
-use Rattle.net_rows.specs.declared.settings.SettingsFields.{SettingsFields}
+use Rattle.settings.specs.declared.fields.SettingsFields.{SettingsFields}
 use Rattle.tail_words.specs.SettingsText.{settings_of}
 use Rattle.desk_front.specs.declared.want.Wanted.{Wanted}
 use Rattle.desk_front.specs.declared.want.Wanted.TheVariants as wants

@@ -1,6 +1,6 @@
 -- What the command `pipe` comes to.
 use Rattle.std.proofs.Common.{ℕ, Option, List}
-use Rattle.net_rows.specs.declared.settings.SettingsFields.{SettingsFields}
+use Rattle.settings.specs.declared.fields.SettingsFields.{SettingsFields}
 use Rattle.tailnet_commands.specs.Run.{Ran, World}
 use Rattle.tailnet_commands.specs.Pipe.{AreSettingsOf, Piped}
 use Rattle.tailnet_commands.specs.declared.closed.Closed.{Closed}

@@ -4,7 +4,7 @@ use Rattle.std.specs.Prelude.{IfSome}
 use Rattle.std.specs.Option.{option_map}
 use Rattle.moments.specs.Moments.{clamped}
 use Rattle.io_edge.specs.Edge.{Rose, RoseBy, IsWhereTold, StillTells}
-use Rattle.net_rows.specs.declared.settings.SettingsFields.{SettingsFields}
+use Rattle.settings.specs.declared.fields.SettingsFields.{SettingsFields}
 use Rattle.tailnet_desk.specs.Chains.{Point, Deals, Chain}
 use Rattle.desk_state.specs.State.{State, opening}
 use Rattle.tailnet_desk.specs.Opening.{unserved}

@@ -8,7 +8,7 @@ use Rattle.desk_front.specs.Wanted.{site_of, wanted_of}
 use Rattle.desk_front.specs.declared.want.Wanted.{Wanted}
 use Rattle.desk_front.specs.declared.want.Wanted.TheVariants as wants
 use Rattle.net_rows.specs.declared.rows.Rows.{Rows}
-use Rattle.net_rows.specs.declared.settings.SettingsFields.{SettingsFields}
+use Rattle.settings.specs.declared.fields.SettingsFields.{SettingsFields}
 use Rattle.tail_words.specs.SettingsText.{settings_of}
 use Rattle.tailnet_desk.specs.Opening.{unserved}
 use Rattle.tailnet_commands.specs.Pipe.{Outcome, file_limit}

@@ -1,7 +1,7 @@
 -- What the command `pipe` comes to.
 use Rattle.std.specs.Prelude.{◌≡◌, ◌<◌, ℕ, Option, Some, List, length, Result, Ok, Err, IfSome, IsSomeAnd}
 use Rattle.io_edge.specs.Edge.{Rose}
-use Rattle.net_rows.specs.declared.settings.SettingsFields.{SettingsFields}
+use Rattle.settings.specs.declared.fields.SettingsFields.{SettingsFields}
 use Rattle.tail_words.specs.SettingsText.{settings_of}
 use Rattle.tail_words.specs.declared.fault.SettingsFault.TheVariants.{Refused}
 use Rattle.tailnet_desk.specs.Opening.{unserved}

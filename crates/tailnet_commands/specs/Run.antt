@@ -4,7 +4,7 @@ use Rattle.std.specs.Option.{option_map}
 use Rattle.moments.specs.Moments.{clamped}
 use Rattle.io_edge.specs.Edge.{Rose, RoseBy, IsWhereTold}
 use Rattle.net_rows.specs.declared.rows.Rows.{Rows}
-use Rattle.net_rows.specs.declared.settings.SettingsFields.{SettingsFields}
+use Rattle.settings.specs.declared.fields.SettingsFields.{SettingsFields}
 use Rattle.tailnet_desk.specs.Chains.{Turned, Point, Deals, IsHistory}
 use Rattle.tailnet_desk.specs.Opening.{unserved}
 use Rattle.desk_state.specs.State.{opening}
