@@ -84,7 +84,7 @@ pub fn admit(
         return Err(Stop::Refused(Refusal::NodeKeyTaken));
     }
     tags_defined(entry.tags.as_slice())?;
-    let place = place_for(alloc, at, &entry.host, at.tables.by_key(&entry.machine))?;
+    let place = place_for(alloc, at, &entry.host, at.tables.machine_of(&entry.machine))?;
     let next = place.next;
     let entrant = awaited(alloc, at, entry, user.id)?;
     let row = machine_row(alloc, &entry.machine, entrant, place);

@@ -46,7 +46,7 @@ pub fn register(
 ) -> Result<Decision, Stop>
     ensures value { Gives (λ d. d) result (spec.register at.now machine.now form.now words) }
 {
-    let row = at.tables.by_key(machine);
+    let row = at.tables.machine_of(machine);
     if is_logout(at, form.expiry) {
         return logout(alloc, at, &form.node, row);
     }
