@@ -9,10 +9,11 @@ ghost use Rattle.admin_wire.specs.Forms.{admit_form_at, admit_form_of_body, empt
 
 use desk_state::KeyForm;
 use moments::Moment;
-use net_rows::{ASKED_TAG_LIMIT, TAG_LIMIT};
+use net_rows::TAG_LIMIT;
 use serde_json::Value;
 use std::alloc::Global;
 use tail_base::{Items, Tag, Text};
+use tailcfg::ASKED_TAG_LIMIT;
 use wire_json::{
     AdminField, Field, WireFault, field_of, flag_of, list_of, object_of_body, some_time_of,
 };

@@ -164,6 +164,7 @@ const TESTS: &str =
 /// Of what is read.
 const SOUND: &str = r#"{} => ok
 {"acls":[]} => ok
+{"groups":null,"\u0067roups":{}} => ok
  /* a */ {"SSH":null,"derpmap":7,} // b => ok
 {"acls":[{"action":"accept","proto":"sctp","src":["*"],"dst":["*:*","*:80"]}]} => ok
 {"acls":[{"action":"accept","proto":1,"src":["*"],"dst":["*:*","*:*"]}]} => ok

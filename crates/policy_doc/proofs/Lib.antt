@@ -1,4 +1,9 @@
 pub mod Counts
+pub mod FaultLemmas
 pub mod Front
+pub mod KnownLemmas
 pub mod OwnerLemmas
+pub mod PolicyLemmas
+pub mod RowLemmas
 pub mod Seen
+pub mod StepLemmas

@@ -1,5 +1,7 @@
 pub mod Document
 pub mod Entries
+pub mod FirstFault
 pub mod Keys
 pub mod Rules
+pub mod Sound
 pub mod Walks

@@ -8,6 +8,7 @@ mod document;
 mod groups;
 mod hosts;
 mod keys;
+mod laws;
 mod limits;
 mod owner;
 mod proto;
@@ -17,4 +18,5 @@ mod testing;
 mod walk;
 
 pub use document::read_policy;
+pub use laws::{first_faults_count, policies_are_sound};
 pub use limits::{ENTRY_LIMIT, LIST_LIMIT, RULE_LIMIT, TEXT_LIMIT};
