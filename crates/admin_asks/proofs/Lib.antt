@@ -1,5 +1,5 @@
-mod KeyLaws
-mod NamedLaws
-mod NodeLaws
-mod SweepLaws
-mod UserLaws
+pub mod KeyLaws
+pub mod NamedLaws
+pub mod NodeLaws
+pub mod SweepLaws
+pub mod UserLaws

@@ -1,9 +1,7 @@
 //! Operators make, list and end pre-auth keys.
-ghost use Rattle.std.specs.Prelude.{◌≡◌, ◌≤◌, IfOk, true, length};
-ghost use Rattle.tailcfg.specs.declared.limits.TheConstants.{ASKED_TAG_LIMIT};
+ghost use Rattle.std.specs.Prelude.{◌≡◌, IfOk, true};
 ghost use Rattle.net_rows.specs.Room.{has_room};
 ghost use Rattle.net_rows.specs.declared.change.Kind.TheVariants as kind;
-ghost use Rattle.desk_state.specs.Rulings.{IsSoundDecision};
 ghost use Rattle.desk_state.specs.Steps.{Gives};
 ghost use Rattle.admin_asks.specs.Keys as spec;
 
@@ -66,7 +64,9 @@ fn added_key(alloc: Global, tables: &Tables, key: AuthKey) -> Result<Decision, N
     })
 }
 
-fn adding_key(
+/// A pre-auth key is made for a user as the form asks, with the next id and a text of its own: the
+/// id, and fresh random words.
+pub fn add_key(
     alloc: Global,
     at: &Snapshot<'_>,
     form: &KeyForm,
@@ -86,22 +86,6 @@ fn adding_key(
     Ok(added_key(alloc, at.tables, key)?)
 }
 
-/// A pre-auth key is made for a user as the form asks, with the next id and a text of its own: the
-/// id, and fresh random words.
-pub fn add_key(
-    alloc: Global,
-    at: &Snapshot<'_>,
-    form: &KeyForm,
-    words: Option<[u64; 4]>,
-) -> Result<Decision, Stop>
-    requires short { length form.now.tags ≤ ASKED_TAG_LIMIT }
-    ensures value { Gives (λ d. d) result (spec.add_key at.now form.now words) }
-    ensures sound { IsSoundDecision at.now.rows result }
-{
-    let _rules = at.tables.users();
-    adding_key(alloc, at, form, words)
-}
-
 fn key_lines(alloc: Global, tables: &Tables) -> Result<Items<KeyLine>, NoMemory>
     ensures value { IfOk result (λ lines. lines ≡ spec.key_lines tables.now.rows.users tables.now.rows.keys) }
 {
@@ -115,7 +99,6 @@ fn key_lines(alloc: Global, tables: &Tables) -> Result<Items<KeyLine>, NoMemory>
 /// The pre-auth keys by id, each with the login of its user.
 pub fn keys(alloc: Global, at: &Snapshot<'_>) -> Result<Decision, Stop>
     ensures value { Gives (λ d. d) result (spec.keys at.now) }
-    ensures sound { IsSoundDecision at.now.rows result }
 {
     let lines = key_lines(alloc, at.tables)?;
     Ok(Decision::Only(Answer::Keys(lines)))
@@ -148,20 +131,12 @@ fn expired_key(alloc: Global, at: &Snapshot<'_>, key: &AuthKey) -> Result<Decisi
     })
 }
 
-fn expiring_key(alloc: Global, at: &Snapshot<'_>, id: u32) -> Result<Decision, Stop>
+/// The life of the pre-auth key of an id ends now, unless it has ended already.
+pub fn expire_key(alloc: Global, at: &Snapshot<'_>, id: u32) -> Result<Decision, Stop>
     ensures value { Gives (λ d. d) result (spec.expire_key at.now id) }
 {
     match at.tables.key(id) {
         Some(key) => Ok(expired_key(alloc, at, key)?),
         None => Err(Stop::Refused(Refusal::KeyUnknown)),
     }
-}
-
-/// The life of the pre-auth key of an id ends now, unless it has ended already.
-pub fn expire_key(alloc: Global, at: &Snapshot<'_>, id: u32) -> Result<Decision, Stop>
-    ensures value { Gives (λ d. d) result (spec.expire_key at.now id) }
-    ensures sound { IsSoundDecision at.now.rows result }
-{
-    let _rules = at.tables.users();
-    expiring_key(alloc, at, id)
 }

@@ -2,8 +2,6 @@
 //! A decision changes nothing yet, and where it changes rows, it keeps the rules of the tables.
 #![tactic(auto)]
 
-// Each function that may change rows reads the users as `_rules` first: the accessor's contract says
-// that the tables keep their rules, which the decision's own clause rests on.
 mod key_asks;
 mod node_asks;
 mod sweeping;

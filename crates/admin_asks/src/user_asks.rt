@@ -2,7 +2,6 @@
 ghost use Rattle.std.specs.Prelude.{◌≡◌, IfOk, true};
 ghost use Rattle.net_rows.specs.Room.{has_room};
 ghost use Rattle.net_rows.specs.declared.change.Kind.TheVariants as kind;
-ghost use Rattle.desk_state.specs.Rulings.{IsSoundDecision};
 ghost use Rattle.desk_state.specs.Steps.{Gives};
 ghost use Rattle.admin_asks.specs.Users as spec;
 
@@ -69,7 +68,9 @@ fn added_user(alloc: Global, tables: &Tables, login: Login) -> Result<Decision, 
     })
 }
 
-fn adding_user(alloc: Global, at: &Snapshot<'_>, name: &Text) -> Result<Decision, Stop>
+/// A user is made, with the next id and this login, to which an `@` is added if it has none. No
+/// other user may have it.
+pub fn add_user(alloc: Global, at: &Snapshot<'_>, name: &Text) -> Result<Decision, Stop>
     ensures value { Gives (λ d. d) result (spec.add_user at.now name.now) }
 {
     let Some(login) = Login::read(alloc, with_at(alloc, name)?.as_slice())? else {
@@ -84,20 +85,9 @@ fn adding_user(alloc: Global, at: &Snapshot<'_>, name: &Text) -> Result<Decision
     Ok(added_user(alloc, at.tables, login)?)
 }
 
-/// A user is made, with the next id and this login, to which an `@` is added if it has none. No
-/// other user may have it.
-pub fn add_user(alloc: Global, at: &Snapshot<'_>, name: &Text) -> Result<Decision, Stop>
-    ensures value { Gives (λ d. d) result (spec.add_user at.now name.now) }
-    ensures sound { IsSoundDecision at.now.rows result }
-{
-    let _rules = at.tables.users();
-    adding_user(alloc, at, name)
-}
-
 /// The users by id.
 pub fn users(alloc: Global, at: &Snapshot<'_>) -> Result<Decision, Stop>
     ensures value { Gives (λ d. d) result (spec.users at.now) }
-    ensures sound { IsSoundDecision at.now.rows result }
 {
     let users = Items::from_slice(alloc, at.tables.users())?;
     Ok(Decision::Only(Answer::Users(users)))
@@ -134,7 +124,8 @@ fn user_gone(alloc: Global, tables: &Tables, user: &User) -> Result<Change, NoMe
     })
 }
 
-fn dropping_user(alloc: Global, at: &Snapshot<'_>, login: &Text) -> Result<Decision, Stop>
+/// A user without machines goes, and all of the user's keys with it.
+pub fn drop_user(alloc: Global, at: &Snapshot<'_>, login: &Text) -> Result<Decision, Stop>
     ensures value { Gives (λ d. d) result (spec.drop_user at.now login.now) }
 {
     let user = user_named(alloc, at.tables, login)?;
@@ -146,13 +137,4 @@ fn dropping_user(alloc: Global, at: &Snapshot<'_>, login: &Text) -> Result<Decis
         offline: Items::new(alloc),
         answer: Answer::Gone,
     })
-}
-
-/// A user without machines goes, and all of the user's keys with it.
-pub fn drop_user(alloc: Global, at: &Snapshot<'_>, login: &Text) -> Result<Decision, Stop>
-    ensures value { Gives (λ d. d) result (spec.drop_user at.now login.now) }
-    ensures sound { IsSoundDecision at.now.rows result }
-{
-    let _rules = at.tables.users();
-    dropping_user(alloc, at, login)
 }

@@ -17,7 +17,7 @@ use Rattle.desk_state.specs.Steps.{or_refuse, refuse_if}
 use Rattle.desk_state.specs.Users.{tags_defined, user_named, user_of}
 use Rattle.desk_state.specs.declared.reply.Refusal.TheVariants.{NodeKeyTaken, PendingUnknown, TagUndefined, UnknownUser}
 use Rattle.desk_state.proofs.StepLemmas.{AreRuled, bind_ok, bind_ruled, ok_ruled, or_refuse_ok, or_ruled, refuse_ruled}
-use Rattle.machine_asks.specs.Admit.{admit, admitted, awaited, timely_entry}
+use Rattle.machine_asks.specs.Admit.{admit, awaited, timely_entry}
 use Rattle.machine_asks.specs.Holds.{SettingsHold}
 use Rattle.machine_asks.specs.Rows.{is_taken, place_for}
 use Rattle.machine_asks.specs.declared.place.Place.{Place}
@@ -55,16 +55,12 @@ awaited_keeps s p u sound inside user =
       tags = omega (arith, entry.tags, length-sorted_once (slice_cmp nat_cmp) p.tags);
     }
 
-admitted_proper : (s : State) (p : Pending) (u : User) → SettingsHold s → AreSound s.rows → Contains s.rows.pending p → Contains s.rows.users u → IsProper s (admitted s p u.id)
-admitted_proper s p u hold sound inside user =
-    proper_refuse s (is_taken s.rows.machines p.machine p.node) NodeKeyTaken _ tt (λ free.
-    proper_bind s (tags_defined p.tags) _ (refuse_ruled (nat_lt 0 (length p.tags)) TagUndefined tt) (λ _ _.
-    proper_bind s (place_for s p.host (machine_of s.rows.machines p.machine.0)) _ (place_ruled s p.host (machine_of s.rows.machines p.machine.0)) (λ (place : Place) placed.
-    proper_changes s _ _ _ (enter_sound s p.machine (awaited s p u.id) p.host (machine_of s.rows.machines p.machine.0) place None (Some p) hold sound refl free
-    (awaited_keeps s p u sound inside user) placed tt))))
-
 pub admit_proper : (s : State) (pending login : List ℕ) → SettingsHold s → AreSound s.rows → IsProper s (admit s pending login)
 admit_proper s pending login hold sound =
     proper_bind s (timely_entry s pending) _ (entry_ruled s pending) (λ (p : Pending) found.
     proper_bind s (user_named s.rows login) _ (user_ruled s.rows login) (λ (u : User) named.
-    admitted_proper s p u hold sound (entry_is s pending p found) (user_is s.rows login u named)))
+    proper_refuse s (is_taken s.rows.machines p.machine p.node) NodeKeyTaken _ tt (λ free.
+    proper_bind s (tags_defined p.tags) _ (refuse_ruled (nat_lt 0 (length p.tags)) TagUndefined tt) (λ _ _.
+    proper_bind s (place_for s p.host (machine_of s.rows.machines p.machine.0)) _ (place_ruled s p.host (machine_of s.rows.machines p.machine.0)) (λ (place : Place) placed.
+    proper_changes s _ _ _ (enter_sound s p.machine (awaited s p u.id) p.host (machine_of s.rows.machines p.machine.0) place None (Some p) hold sound refl free
+    (awaited_keeps s p u sound (entry_is s pending p found) (user_is s.rows login u named)) placed tt))))))

@@ -1,5 +1,5 @@
 -- Each registration is refused by rules alone, and keeps the rules of the tables.
-use Rattle.std.proofs.Common.{◌≡◌, ℕ, false, List, Option, Some, None, Ok, Err, refl, nat_lt, length}
+use Rattle.std.proofs.Common.{◌≡◌, ℕ, Bool, false, not, List, Option, Some, None, Result, Ok, Err, refl, nat_lt, length}
 use Rattle.std.specs.Prelude.{Contains}
 use Rattle.std.specs.Str.{bytes_eq}
 use Rattle.tail_base.specs.declared.key.MachineKey.{MachineKey}
@@ -12,12 +12,14 @@ use Rattle.tailcfg.specs.Short.{IsShortForm}
 use Rattle.tailcfg.specs.declared.register.Register.{Register}
 use Rattle.desk_state.specs.Changes.{machine_gone}
 use Rattle.desk_state.specs.State.{State, is_ahead}
+use Rattle.desk_state.specs.declared.decision.Decision.{Decision}
+use Rattle.desk_state.specs.declared.reply.Refusal.{Refusal}
 use Rattle.desk_state.specs.declared.reply.Refusal.TheVariants.{NodeKeyTaken, UnknownMachine}
-use Rattle.machine_asks.specs.Logout.{ended, is_logout, logged_out, logout, logout_of, rotated, rotates}
-use Rattle.machine_asks.specs.Register.{arrive, enter, register, repeated, repeats, unkeyed, unrepeated}
+use Rattle.machine_asks.specs.Logout.{ended, is_logout, logged_out, logout, rotated, rotates}
+use Rattle.machine_asks.specs.Register.{of_row, register, repeated, repeats}
 use Rattle.machine_asks.specs.Rows.{is_taken, row_replaced}
 use Rattle.machine_asks.specs.Holds.{SettingsHold}
-use Rattle.machine_asks.proofs.Proper.{IsProper, proper_changes, proper_choice, proper_err, proper_if, proper_only, proper_refuse}
+use Rattle.machine_asks.proofs.Proper.{IsProper, proper_changes, proper_err, proper_if, proper_only}
 use Rattle.machine_asks.proofs.RowLemmas.{machine_found, own_node, replaced_sound}
 use Rattle.machine_asks.specs.ByKey.{by_key}
 use Rattle.machine_asks.specs.Waiting.{wait}
@@ -62,53 +64,27 @@ rotated_sound s mk node m sound found free =
       tags = row.tags;
     })
 
-logout_of_proper : (s : State) (m : Machine) → AreSound s.rows → Contains s.rows.machines m → IsProper s (Ok (logout_of s m))
-logout_of_proper s m sound inside =
-    proper_choice s m.ephemeral _ _
-    (λ _. proper_changes s (machine_gone s.rows m.id) _ _ (sound_without_machine s.rows m.id sound))
-    (λ _. proper_choice s (is_ahead s.now m.expiry) _ _
-    (λ _. proper_changes s (row_replaced s.rows (ended s m)) _ _ (ended_sound s m sound inside))
-    (λ _. proper_only s (logged_out s m)))
-
 logout_proper : (s : State) (mk : MachineKey) (node : NodeKey) (held : Option Machine) → AreSound s.rows → machine_of s.rows.machines mk.0 ≡ held
     → IsProper s (logout s node held)
 logout_proper s mk node None sound found = proper_err s UnknownMachine tt
 logout_proper s mk node (Some m) sound found =
-    proper_if s (bytes_eq m.node.0 node.0) (Ok (logout_of s m)) (Err UnknownMachine)
-    (λ same. logout_of_proper s m sound (machine_found s.rows.machines mk m found).0)
-    (λ other. proper_err s UnknownMachine tt)
+    let inside = (machine_found s.rows.machines mk m found).0 in
+    proper_if s (not (bytes_eq m.node.0 node.0)) _ _ (λ _. proper_err s UnknownMachine tt) (λ _.
+    proper_if s m.ephemeral _ _ (λ _. proper_changes s (machine_gone s.rows m.id) _ _ (sound_without_machine s.rows m.id sound)) (λ _.
+    proper_if s (not (is_ahead s.now m.expiry)) _ _ (λ _. proper_only s (logged_out s m)) (λ _.
+    proper_changes s (row_replaced s.rows (ended s m)) _ _ (ended_sound s m sound inside))))
 
-unkeyed_proper : (s : State) (mk : MachineKey) (form : Register) (words : Option (List ℕ)) (held : Option Machine) → AreSound s.rows → IsShortForm form
-    → machine_of s.rows.machines mk.0 ≡ held → is_taken s.rows.machines mk form.node ≡ false → IsProper s (unkeyed s mk form words held)
-unkeyed_proper s mk form words None sound short found free = wait_proper s mk form words sound short
-unkeyed_proper s mk form words (Some m) sound short found free =
-    proper_if s (rotates s form.old m) (Ok (rotated s form.node m)) (wait s mk form words)
-    (λ _. proper_changes s _ _ _ (rotated_sound s mk form.node m sound found free))
-    (λ _. wait_proper s mk form words sound short)
-
-enter_proper : (s : State) (mk : MachineKey) (form : Register) (words : Option (List ℕ)) (held : Option Machine) → SettingsHold s → AreSound s.rows → IsShortForm form
-    → machine_of s.rows.machines mk.0 ≡ held → is_taken s.rows.machines mk form.node ≡ false → IsProper s (enter s mk form words held)
-enter_proper s mk form words held hold sound short found free =
-    proper_if s (nat_lt 0 (length form.auth)) (by_key s mk form held) (unkeyed s mk form words held)
-    (λ _. by_key_proper s mk form held hold sound short found free)
-    (λ _. unkeyed_proper s mk form words held sound short found free)
-
-unrepeated_proper : (s : State) (mk : MachineKey) (form : Register) (words : Option (List ℕ)) (held : Option Machine) → SettingsHold s → AreSound s.rows → IsShortForm form
-    → machine_of s.rows.machines mk.0 ≡ held → IsProper s (unrepeated s mk form words held)
-unrepeated_proper s mk form words held hold sound short found =
-    proper_refuse s (is_taken s.rows.machines mk form.node) NodeKeyTaken (λ _. enter s mk form words held) tt
-    (λ free. enter_proper s mk form words held hold sound short found free)
-
-arrive_proper : (s : State) (mk : MachineKey) (form : Register) (words : Option (List ℕ)) (held : Option Machine) → SettingsHold s → AreSound s.rows → IsShortForm form
-    → machine_of s.rows.machines mk.0 ≡ held → IsProper s (arrive s mk form words held)
-arrive_proper s mk form words None hold sound short found = unrepeated_proper s mk form words None hold sound short found
-arrive_proper s mk form words (Some m) hold sound short found =
-    proper_if s (repeats s form.node m) (Ok (repeated s m)) (unrepeated s mk form words (Some m))
-    (λ again. proper_only s _) (λ new. unrepeated_proper s mk form words (Some m) hold sound short found)
+of_row_proper : (s : State) (held : Option Machine) (fits : Machine → Bool) (decides : Machine → Decision) (later : Result Decision Refusal)
+    → ((m : Machine) → held ≡ Some m → IsProper s (Ok (decides m))) → IsProper s later → IsProper s (of_row held fits decides later)
+of_row_proper s None fits decides later h k = k
+of_row_proper s (Some m) fits decides later h k = proper_if s (fits m) (Ok (decides m)) later (λ _. h m refl) (λ _. k)
 
 pub register_proper : (s : State) (mk : MachineKey) (form : Register) (words : Option (List ℕ)) → SettingsHold s → AreSound s.rows → IsShortForm form → IsProper s (register s mk form words)
 register_proper s mk form words hold sound short =
     let held = machine_of s.rows.machines mk.0 in
-    proper_if s (is_logout s form.expiry) (logout s form.node held) (arrive s mk form words held)
-    (λ _. logout_proper s mk form.node held sound refl)
-    (λ _. arrive_proper s mk form words held hold sound short refl)
+    proper_if s (is_logout s form.expiry) _ _ (λ _. logout_proper s mk form.node held sound refl) (λ _.
+    of_row_proper s held (repeats s form.node) (repeated s) _ (λ m found. proper_only s _) (
+    proper_if s (is_taken s.rows.machines mk form.node) _ _ (λ _. proper_err s NodeKeyTaken tt) (λ free.
+    proper_if s (nat_lt 0 (length form.auth)) _ _ (λ _. by_key_proper s mk form held hold sound short refl free) (λ _.
+    of_row_proper s held (rotates s form.old) (rotated s form.node) _ (λ m found. proper_changes s _ _ _ (rotated_sound s mk form.node m sound found free)) (
+    wait_proper s mk form words sound short)))))

@@ -41,16 +41,12 @@ awaited s p user = record {
 abbrev pub let_in : State → Pending → Machine → ℕ → Decision
 let_in s p m next = Changes (row_change s.rows m next None (Some p)) (m.id ∷ []) (Node (offline_line s m))
 
--- the machine of an entry enters for this user
-abbrev pub admitted : State → Pending → ℕ → Result Decision Refusal
-admitted s p user = do
-  other ← refuse_if (is_taken s.rows.machines p.machine p.node) NodeKeyTaken
-  tags ← tags_defined p.tags
-  place ← place_for s p.host (machine_of s.rows.machines p.machine.0)
-  Ok (let_in s p (machine_row p.machine (awaited s p user) place) place.next)
-
+-- the machine that waits under that text enters for the user of that login
 abbrev pub admit : State → List ℕ → List ℕ → Result Decision Refusal
 admit s pending login = do
   p ← timely_entry s pending
   user ← user_named s.rows login
-  admitted s p user.id
+  other ← refuse_if (is_taken s.rows.machines p.machine p.node) NodeKeyTaken
+  tags ← tags_defined p.tags
+  place ← place_for s p.host (machine_of s.rows.machines p.machine.0)
+  Ok (let_in s p (machine_row p.machine (awaited s p user.id) place) place.next)

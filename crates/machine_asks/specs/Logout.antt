@@ -33,17 +33,14 @@ removed s m = Changes (machine_gone s.rows m.id) [] (logged_out s m)
 abbrev pub closed : State → Machine → Decision
 closed s m = Changes (row_replaced s.rows (ended s m)) (online_ids s m) (logged_out s m)
 
--- unless it has ended already
-abbrev pub closed_once : State → Machine → Decision
-closed_once s m = if is_ahead s.now m.expiry then closed s m else Only (logged_out s m)
-
-abbrev pub logout_of : State → Machine → Decision
-logout_of s m = if m.ephemeral then removed s m else closed_once s m
-
--- the machine of these keys logs out
+-- the machine of these keys logs out: unless its life has ended already, its life ends now
 abbrev pub logout : State → NodeKey → Option Machine → Result Decision Refusal
 logout s node None = Err UnknownMachine
-logout s node (Some m) = if bytes_eq m.node.0 node.0 then Ok (logout_of s m) else Err UnknownMachine
+logout s node (Some m) =
+    if not (bytes_eq m.node.0 node.0) then Err UnknownMachine
+    else if m.ephemeral then Ok (removed s m)
+    else if not (is_ahead s.now m.expiry) then Ok (Only (logged_out s m))
+    else Ok (closed s m)
 
 -- the node key is the one that is to be replaced
 abbrev pub is_old : Option NodeKey → NodeKey → Bool

@@ -1,11 +1,9 @@
 //! An operator admits a machine that waits.
 ghost use Rattle.std.specs.Prelude.{◌≡◌, IfOk};
-ghost use Rattle.desk_state.specs.Rulings.{IsSoundDecision};
 ghost use Rattle.desk_state.specs.Steps.{Gives};
 ghost use Rattle.machine_asks.specs.Admit as spec;
 
 use crate::entrant::{Entrant, expiry_of};
-use crate::holds::keep_rules;
 use crate::place::{is_taken, place_for};
 use crate::rows::{machine_row, row_change};
 use desk_state::{
@@ -67,34 +65,6 @@ fn let_in(
     })
 }
 
-fn admitted(alloc: Global, at: &Snapshot<'_>, entry: &Pending, user: u32) -> Result<Decision, Stop>
-    ensures value { Gives (λ d. d) result (spec.admitted at.now entry.now user) }
-{
-    if is_taken(at.tables.machines(), &entry.machine, &entry.node) {
-        return Err(Stop::Refused(Refusal::NodeKeyTaken));
-    }
-    tags_defined(entry.tags.as_slice())?;
-    let row = at.tables.machine_of(&entry.machine);
-    let place = place_for(alloc, at, &entry.host, row)?;
-    let next = place.next;
-    let entrant = awaited(alloc, at, entry, user)?;
-    let row = machine_row(alloc, &entry.machine, entrant, place);
-    Ok(let_in(alloc, at, entry, row, next)?)
-}
-
-fn admit_of(
-    alloc: Global,
-    at: &Snapshot<'_>,
-    pending: &Text,
-    login: &Text,
-) -> Result<Decision, Stop>
-    ensures value { Gives (λ d. d) result (spec.admit at.now pending.now login.now) }
-{
-    let entry = timely_entry(at, pending)?;
-    let user = user_named(alloc, at.tables, login)?;
-    admitted(alloc, at, entry, user.id)
-}
-
 /// What the admission of a machine comes to that waits under a pending entry of this text.
 ///
 /// The entry's time mustn't have passed, its node key mustn't be another machine's, and its tags have
@@ -107,8 +77,16 @@ pub fn admit(
     login: &Text,
 ) -> Result<Decision, Stop>
     ensures value { Gives (λ d. d) result (spec.admit at.now pending.now login.now) }
-    ensures sound { IsSoundDecision at.now.rows result }
 {
-    keep_rules(at);
-    admit_of(alloc, at, pending, login)
+    let entry = timely_entry(at, pending)?;
+    let user = user_named(alloc, at.tables, login)?;
+    if is_taken(at.tables.machines(), &entry.machine, &entry.node) {
+        return Err(Stop::Refused(Refusal::NodeKeyTaken));
+    }
+    tags_defined(entry.tags.as_slice())?;
+    let place = place_for(alloc, at, &entry.host, at.tables.machine_of(&entry.machine))?;
+    let next = place.next;
+    let entrant = awaited(alloc, at, entry, user.id)?;
+    let row = machine_row(alloc, &entry.machine, entrant, place);
+    Ok(let_in(alloc, at, entry, row, next)?)
 }

@@ -6,7 +6,7 @@ ghost use Rattle.machine_asks.specs.Holds.{SettingsHold};
 use desk_state::Snapshot;
 
 /// Hands out what settings and tables keep at all times, for the proofs of decisions.
-pub(crate) fn keep_rules(at: &Snapshot<'_>)
+pub fn keep_rules(at: &Snapshot<'_>)
     ensures settings { SettingsHold at.now }
     ensures tables { damage at.now.rows ≡ None }
 {

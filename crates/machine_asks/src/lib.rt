@@ -18,6 +18,7 @@ mod waiting;
 mod who_asks;
 
 pub use admit_ask::admit;
+pub use holds::keep_rules;
 pub use laws::{
     kept_rows_stay, repeats_are_answered, repeats_change_nothing, rows_that_stay_are_kept,
 };

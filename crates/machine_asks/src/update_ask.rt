@@ -1,11 +1,8 @@
 //! A machine tells of itself.
 ghost use Rattle.std.specs.Prelude.{◌≡◌, IfOk};
-ghost use Rattle.desk_state.specs.Rulings.{IsSoundDecision};
 ghost use Rattle.desk_state.specs.Steps.{Gives};
-ghost use Rattle.tailcfg.specs.Short.{IsShortUpdate};
 ghost use Rattle.machine_asks.specs.Update as spec;
 
-use crate::holds::keep_rules;
 use crate::rows::row_replaced;
 use crate::told::{same_told, told_row};
 use crate::who_asks::asking;
@@ -33,7 +30,10 @@ fn updated(
     })
 }
 
-fn update_of(
+/// What comes of what a machine tells of itself: its endpoints are replaced, its disco key and the
+/// text and the DERP region of its host where they are given, and its advertised routes where it
+/// tells of its host. It has to be one with these keys, and live.
+pub fn update(
     alloc: Global,
     at: &Snapshot<'_>,
     machine: &MachineKey,
@@ -45,22 +45,4 @@ fn update_of(
     let row = asking(at, machine, node)?;
     let told = told_row(alloc, row, update)?;
     Ok(updated(alloc, at, row, told)?)
-}
-
-/// What comes of what a machine tells of itself: its endpoints are replaced, its disco key and the
-/// text and the DERP region of its host where they are given, and its advertised routes where it
-/// tells of its host. It has to be one with these keys, and live.
-pub fn update(
-    alloc: Global,
-    at: &Snapshot<'_>,
-    machine: &MachineKey,
-    node: &NodeKey,
-    update: &Update,
-) -> Result<Decision, Stop>
-    requires short { IsShortUpdate update.now }
-    ensures value { Gives (λ d. d) result (spec.update at.now machine.now node.now update.now) }
-    ensures sound { IsSoundDecision at.now.rows result }
-{
-    keep_rules(at);
-    update_of(alloc, at, machine, node, update)
 }

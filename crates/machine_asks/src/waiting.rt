@@ -111,26 +111,6 @@ fn entered(
     })
 }
 
-fn wait_anew(
-    alloc: Global,
-    at: &Snapshot<'_>,
-    machine: &MachineKey,
-    form: &Register,
-    words: Option<[u64; 4]>,
-    old: Option<&Pending>,
-) -> Result<Decision, Stop>
-    ensures value { Gives (λ d. d) result (spec.wait_anew at.now machine.now form.now words (option_copied old.entry)) }
-{
-    if !has_place(at.tables, old) {
-        return Err(Stop::Refused(Refusal::Full(Scarce::Pending)));
-    }
-    let Some(words) = words else {
-        return Err(Stop::Refused(Refusal::EntropyFault));
-    };
-    let entry = new_entry(alloc, at, machine, form, &words)?;
-    Ok(entered(alloc, at.tables, entry, old)?)
-}
-
 fn repeated(alloc: Global, entry: &Pending) -> Result<Decision, NoMemory>
     ensures value { IfOk result (λ d. d ≡ spec.waits_on entry.now) }
 {
@@ -151,8 +131,17 @@ pub(crate) fn wait(
     ensures value { Gives (λ d. d) result (spec.wait at.now machine.now form.now words) }
 {
     let old = at.tables.pending_of(machine);
-    match old {
-        Some(entry) if waits(at, &form.node, entry) => Ok(repeated(alloc, entry)?),
-        _ => wait_anew(alloc, at, machine, form, words, old),
+    if let Some(entry) = old
+        && waits(at, &form.node, entry)
+    {
+        return Ok(repeated(alloc, entry)?);
     }
+    if !has_place(at.tables, old) {
+        return Err(Stop::Refused(Refusal::Full(Scarce::Pending)));
+    }
+    let Some(words) = words else {
+        return Err(Stop::Refused(Refusal::EntropyFault));
+    };
+    let entry = new_entry(alloc, at, machine, form, &words)?;
+    Ok(entered(alloc, at.tables, entry, old)?)
 }

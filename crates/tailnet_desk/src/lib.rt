@@ -3,9 +3,11 @@
 
 mod desk;
 mod entry;
+mod laws;
 mod opening;
 mod turns;
 
 pub use desk::{Desk, OpenFault};
 pub use entry::{Entry, Event};
+pub use laws::decisions_keep_rules;
 pub use turns::Turns;
