@@ -69,7 +69,8 @@ fn check_action(
     place: &str,
     value: Option<&Value>,
 ) -> Result<(), Failure<PolicyFault>>
-    ensures value { Gives (λ x. x) result (action_at place.now (option_map view (option_copied value.entry))) }
+    ensures value { Gives (λ x. x) result (action_at place.now
+        (option_map view (option_copied value.entry))) }
 {
     let Some(value) = value else {
         return refused(alloc, PolicyCode::BadAction, place);
@@ -87,7 +88,8 @@ fn list_due<E: ReadElement>(
     place: &str,
     value: Option<&Value>,
 ) -> Result<Items<E::Item>, Failure<PolicyFault>>
-    ensures value { Gives (λ x. x) result (list_due (E.reads names.now) place.now (option_map view (option_copied value.entry))) }
+    ensures value { Gives (λ x. x) result (list_due (E.reads names.now) place.now
+        (option_map view (option_copied value.entry))) }
 {
     match value {
         Some(value) => list_of::<E>(alloc, LIST_LIMIT, names, place, value),
@@ -103,7 +105,8 @@ fn dests_due(
     place: &str,
     value: Option<&Value>,
 ) -> Result<Items<Dest>, Failure<PolicyFault>>
-    ensures value { Gives (λ x. x) result (list_due (dest_text only_all names.now) place.now (option_map view (option_copied value.entry))) }
+    ensures value { Gives (λ x. x) result (list_due (dest_text only_all names.now) place.now
+        (option_map view (option_copied value.entry))) }
 {
     if only_all {
         list_due::<DestText<true>>(alloc, names, place, value)

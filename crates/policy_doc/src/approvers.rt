@@ -65,7 +65,8 @@ pub(crate) fn approvers_or_none(
     names: &Names,
     value: Option<&Value>,
 ) -> Result<Approvers, Failure<PolicyFault>>
-    ensures value { Gives (λ x. x) result (approvers_or_none names.now (option_map view (option_copied value.entry))) }
+    ensures value { Gives (λ x. x) result (approvers_or_none names.now
+        (option_map view (option_copied value.entry))) }
 {
     match value {
         Some(value) => read_approvers(alloc, names, "autoApprovers", value),

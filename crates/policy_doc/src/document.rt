@@ -47,7 +47,8 @@ fn read_rules(
     names: &Names,
     value: Option<&Value>,
 ) -> Result<Option<Items<Rule>>, Failure<PolicyFault>>
-    ensures value { Gives (λ x. x) result (acls_section names.now (option_map view (option_copied value.entry))) }
+    ensures value { Gives (λ x. x) result (acls_section names.now
+        (option_map view (option_copied value.entry))) }
 {
     match value {
         Some(value) => Ok(Some(list_of::<RuleObject>(alloc, RULE_LIMIT, names, "acls", value)?)),
@@ -61,7 +62,8 @@ fn read_tests(
     names: &Names,
     value: Option<&Value>,
 ) -> Result<Items<Test>, Failure<PolicyFault>>
-    ensures value { Gives (λ x. x) result (tests_section names.now (option_map view (option_copied value.entry))) }
+    ensures value { Gives (λ x. x) result (tests_section names.now
+        (option_map view (option_copied value.entry))) }
 {
     list_or_empty::<TestObject>(alloc, ENTRY_LIMIT, names, "tests", value)
 }

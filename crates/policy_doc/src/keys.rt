@@ -73,7 +73,8 @@ pub(crate) fn check_keys(
 
 /// The value of a key.
 pub(crate) fn section<'a>(name: &str, members: &'a Map<String, Value>) -> Option<&'a Value>
-    ensures value { option_map (λ v. view v.now) result ≡ section name.now (members_view members.now.entries) }
+    ensures value { option_map (λ v. view v.now) result
+        ≡ section name.now (members_view members.now.entries) }
 {
     for (key, value) in members {
         if is_same_key(newer(key.as_str()), name) {

@@ -31,7 +31,8 @@ pub(crate) fn read_proto(
     place: &str,
     value: Option<&Value>,
 ) -> Result<Protos, Failure<PolicyFault>>
-    ensures value { Gives (λ x. x) result (proto_at place.now (option_map view (option_copied value.entry))) }
+    ensures value { Gives (λ x. x) result (proto_at place.now
+        (option_map view (option_copied value.entry))) }
 {
     let Some(value) = value else {
         return Ok(Protos::usual());

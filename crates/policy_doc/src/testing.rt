@@ -46,7 +46,8 @@ fn read_subject(
     place: &str,
     value: Option<&Value>,
 ) -> Result<Selector, Failure<PolicyFault>>
-    ensures value { Gives (λ x. x) result (subject_at names.now place.now (option_map view (option_copied value.entry))) }
+    ensures value { Gives (λ x. x) result (subject_at names.now place.now
+        (option_map view (option_copied value.entry))) }
 {
     let Some(value) = value else {
         return refused(alloc, PolicyCode::BadTest, place);

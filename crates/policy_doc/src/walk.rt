@@ -35,7 +35,8 @@ fn each<E: ReadElement>(
     place: &str,
     list: &[Value],
 ) -> Result<Items<E::Item>, Failure<PolicyFault>>
-    ensures value { Gives (λ x. x) result (each (E.reads names.now) place.now 0 (items_view list.now)) }
+    ensures value { Gives (λ x. x) result
+        (each (E.reads names.now) place.now 0 (items_view list.now)) }
 {
     let mut out = Items::new(alloc);
     for (index, value) in list.iter().enumerate() {
@@ -55,7 +56,8 @@ pub(crate) fn list_of<E: ReadElement>(
     place: &str,
     value: &Value,
 ) -> Result<Items<E::Item>, Failure<PolicyFault>>
-    ensures value { Gives (λ x. x) result (list_of most (E.reads names.now) place.now (view value.now)) }
+    ensures value { Gives (λ x. x) result (list_of most (E.reads names.now) place.now
+        (view value.now)) }
 {
     let Some(list) = value.as_array() else {
         return refused(alloc, PolicyCode::WrongShape, place);
@@ -96,7 +98,8 @@ pub(crate) trait ReadMember: Sized + Drop {
         place: &str,
         value: &Value,
     ) -> Result<Self, Failure<PolicyFault>>
-        ensures value { Gives (λ x. x) result (reads names.now before.now key.now place.now (view value.now)) };
+        ensures value { Gives (λ x. x) result (reads names.now before.now key.now place.now
+            (view value.now)) };
 }
 
 fn each_member<M: ReadMember>(
@@ -133,7 +136,8 @@ fn object_of<M: ReadMember>(
     place: &str,
     value: &Value,
 ) -> Result<Items<M>, Failure<PolicyFault>>
-    ensures value { Gives (λ x. x) result (object_of most (M.reads names.now) place.now (view value.now)) }
+    ensures value { Gives (λ x. x) result (object_of most (M.reads names.now) place.now
+        (view value.now)) }
 {
     let Some(members) = value.as_object() else {
         return refused(alloc, PolicyCode::WrongShape, place);

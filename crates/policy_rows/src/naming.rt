@@ -20,7 +20,8 @@ pub fn members_of<'a>(groups: &'a [Group], name: &[u8]) -> &'a [Login]
 }
 
 fn is_member(groups: &[Group], name: &[u8], login: &[u8]) -> bool
-    ensures value { result ≡ list_any (λ user. bytes_eq user login.now) (members_of groups.now name.now) }
+    ensures value { result
+        ≡ list_any (λ user. bytes_eq user login.now) (members_of groups.now name.now) }
 {
     let members = members_of(groups, name);
     members.iter().any(|user| user.as_slice() == login)

@@ -10,7 +10,8 @@ use tail_base::NoMemory;
 
 /// The one protocol of that number, if it is 1 to 255.
 pub fn protos_numbered(alloc: Global, number: u64) -> Result<Option<Protos>, NoMemory>
-    ensures value { IfOk result (λ protos. protos ≡ option_map Some (in_range 1 255 (Some number))) }
+    ensures value { IfOk result
+        (λ protos. protos ≡ option_map Some (in_range 1 255 (Some number))) }
 {
     if number < 1 || 255 < number {
         return Ok(None);

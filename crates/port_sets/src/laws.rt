@@ -6,7 +6,8 @@ ghost use Rattle.port_sets.specs.Ranges.{IsPorts, holds};
 
 /// What a text of ports is read as has a range, and its ranges stand apart.
 pub fn read_ports_are_some()
-    ensures some { (text : List ℕ) (ranges : List PortRange) → ports_of_text text ≡ Ok ranges → IsPorts ranges }
+    ensures some { (text : List ℕ) (ranges : List PortRange) → ports_of_text text ≡ Ok ranges
+        → IsPorts ranges }
 {}
 
 /// A set of ports holds a port.
