@@ -26,7 +26,7 @@ struct Outside {
     entropy: MemoryEntropy,
 }
 
-fn outside(alloc: Global) -> Result<Outside, NoMemory> {
+fn new_outside(alloc: Global) -> Result<Outside, NoMemory> {
     let mut moments = Items::new(alloc);
     moments.push(1_000_000_000)?;
     let mut random = Items::new(alloc);
@@ -75,7 +75,7 @@ fn said<R: Threads + Wait + Sync>(
 
 #[test]
 fn no_words_are_no_command(rt: HostRuntime) -> Result<(), Fail> {
-    let given = outside(rt.alloc())?;
+    let given = new_outside(rt.alloc())?;
     let (status, errors) = said(&rt, rt.alloc(), &[], given);
     assert!(rt; status == Status::Usage);
     assert!(rt; errors.bytes() == b"tailnetd: usage\n".as_slice());
