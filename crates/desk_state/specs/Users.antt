@@ -29,11 +29,11 @@ abbrev pub tags_defined : State → List (List ℕ) → Result (Unit {0}) Refusa
 tags_defined s [] = Ok tt
 tags_defined s (tag ∷ tags) = tag_defined s tag >>= (λ _. tags_defined s tags)
 
--- a tag is defined, and the user may request it
-abbrev pub tag_granted : State → User → List ℕ → Result (Unit {0}) Refusal
+-- a tag is defined, and the user of this id may request it
+abbrev pub tag_granted : State → ℕ → List ℕ → Result (Unit {0}) Refusal
 tag_granted s user tag = tag_defined s tag
 
--- each of the tags may be requested by the user, tried in order
-abbrev pub tags_granted : State → User → List (List ℕ) → Result (Unit {0}) Refusal
+-- each of the tags may be requested by the user of this id, tried in order
+abbrev pub tags_granted : State → ℕ → List (List ℕ) → Result (Unit {0}) Refusal
 tags_granted s user [] = Ok tt
 tags_granted s user (tag ∷ tags) = tag_granted s user tag >>= (λ _. tags_granted s user tags)

@@ -51,16 +51,16 @@ pub fn tags_defined(at: &Snapshot<'_>, tags: &[Tag]) -> Result<(), Failure<Refus
     Ok(())
 }
 
-fn tag_granted(at: &Snapshot<'_>, _user: &User, tag: &Tag) -> Result<(), Failure<Refusal>>
-    ensures value { Gives (λ t. t) result (tag_granted at.now _user.now tag.now) }
+fn tag_granted(at: &Snapshot<'_>, _user: u32, tag: &Tag) -> Result<(), Failure<Refusal>>
+    ensures value { Gives (λ t. t) result (tag_granted at.now _user tag.now) }
 {
     tag_defined(at, tag)
 }
 
-/// Refuses the first tag that the user may not request: one that isn't defined, and then one that the
+/// Refuses the first tag that the user of this id may not request: one that isn't defined, and then one that the
 /// user doesn't own.
-pub fn tags_granted(at: &Snapshot<'_>, user: &User, tags: &[Tag]) -> Result<(), Failure<Refusal>>
-    ensures value { Gives (λ t. t) result (tags_granted at.now user.now tags.now) }
+pub fn tags_granted(at: &Snapshot<'_>, user: u32, tags: &[Tag]) -> Result<(), Failure<Refusal>>
+    ensures value { Gives (λ t. t) result (tags_granted at.now user tags.now) }
 {
     for tag in tags {
         tag_granted(at, user, tag)?;

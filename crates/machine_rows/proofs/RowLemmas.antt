@@ -4,7 +4,6 @@ use Rattle.std.specs.Prelude.{Contains, IfSome}
 use Rattle.std.specs.Str.{bytes_eq}
 use Rattle.tail_base.specs.declared.key.MachineKey.{MachineKey}
 use Rattle.tail_base.specs.declared.key.NodeKey.{NodeKey}
-use Rattle.net_addr.specs.Bits.{Address}
 use Rattle.tailcfg.specs.declared.limits.TheConstants.{HOST_LIMIT, ROUTE_LIMIT}
 use Rattle.net_rows.specs.declared.limits.TheConstants.{COUNTER_LIMIT, MACHINE_LIMIT, TAG_LIMIT}
 use Rattle.net_rows.specs.Room.{has_room}
@@ -27,14 +26,14 @@ use Rattle.allot.specs.Names.{free_name}
 use Rattle.allot.proofs.AddressLaws.{address_fresh, v4_inside, v6_inside}
 use Rattle.allot.proofs.NameLaws.{name_fresh}
 use Rattle.desk_state.specs.State.{State}
-use Rattle.desk_state.specs.Steps.{refuse_if, or_refuse}
-use Rattle.desk_state.specs.declared.reply.Refusal.TheVariants.{Full, AddressesSpent}
-use Rattle.desk_state.specs.declared.reply.Scarce.TheVariants as scarce
-use Rattle.desk_state.proofs.StepLemmas.{AreRuled, bind_ok, bind_ruled, ok_ruled, or_refuse_ok, or_ruled, refuse_ruled, unless_ok}
-use Rattle.machine_asks.specs.Rows.{is_taken, kept_place, machine_row, new_place, place_for, row_change, row_replaced}
-use Rattle.machine_asks.specs.declared.entrant.Entrant.{Entrant}
-use Rattle.machine_asks.specs.declared.place.Place.{Place}
-use Rattle.machine_asks.specs.Holds.{SettingsHold}
+use Rattle.tail_base.specs.Steps.{or_fault, refuse_if}
+use Rattle.desk_state.specs.declared.refusal.Refusal.TheVariants.{Full, AddressesSpent}
+use Rattle.desk_state.specs.declared.refusal.Scarce.TheVariants as scarce
+use Rattle.tail_base.proofs.StepLemmas.{bind_parts, fault_parts, not_parts}
+use Rattle.machine_rows.specs.Rows.{is_taken, kept_place, machine_row, new_place, place_for, row_change, row_replaced}
+use Rattle.machine_rows.specs.declared.entrant.Entrant.{Entrant}
+use Rattle.machine_rows.specs.declared.place.Place.{Place}
+use Rattle.settings.specs.Settings.{AreSettings}
 
 -- what a row takes anew keeps the rules of rows
 pub record EntrantKeeps (users : List User) (e : Entrant) : Type 0 where
@@ -63,9 +62,9 @@ record NewPlace (s : State) (host : List ℕ) (p : Place) : Type 0 where
 
 new_place_is : (s : State) (host : List ℕ) (p : Place) → new_place s host ≡ Ok p → NewPlace s host p
 new_place_is s host p h =
-    let room = bind_ok (refuse_if (not (has_room s.rows kind.Machine)) (Full scarce.Machine)) _ p h in
-    let v4 = bind_ok (or_refuse (free_address s.settings.prefix_v4 s.rows.machines) (AddressesSpent 4)) _ p room.2 in
-    let v6 = bind_ok (or_refuse (free_address s.settings.prefix_v6 s.rows.machines) (AddressesSpent 6)) _ p v4.2 in
+    let room = bind_parts (refuse_if (not (has_room s.rows kind.Machine)) (Full scarce.Machine)) _ p h in
+    let v4 = bind_parts (or_fault (AddressesSpent 4) (free_address s.settings.prefix_v4 s.rows.machines)) _ p room.2 in
+    let v6 = bind_parts (or_fault (AddressesSpent 6) (free_address s.settings.prefix_v6 s.rows.machines)) _ p v4.2 in
     let made : Place = record {
       id = s.rows.next.machine;
       name = free_name s.rows.machines host;
@@ -77,21 +76,14 @@ new_place_is s host p h =
     } in
     let same : made ≡ p = cc in
     subst (λ (x : Place). NewPlace s host x) same (record {
-      room = unless_ok _ (Full scarce.Machine) room.0 room.1;
-      v4 = or_refuse_ok _ (AddressesSpent 4) v4.0 v4.1;
-      v6 = or_refuse_ok _ (AddressesSpent 6) v6.0 v6.1;
+      room = not_parts _ (Full scarce.Machine) room.0 room.1;
+      v4 = fault_parts (AddressesSpent 4) _ v4.0 v4.1;
+      v6 = fault_parts (AddressesSpent 6) _ v6.0 v6.1;
       name = refl;
       approved = refl;
       id = refl;
       next = refl;
     })
-
-pub place_ruled : (s : State) (host : List ℕ) (held : Option Machine) → AreRuled (place_for s host held)
-place_ruled s host (Some m) = ok_ruled (kept_place s m)
-place_ruled s host None =
-    bind_ruled (refuse_if (not (has_room s.rows kind.Machine)) (Full scarce.Machine)) _ (refuse_ruled (not (has_room s.rows kind.Machine)) (Full scarce.Machine) tt) (λ _.
-    bind_ruled (or_refuse (free_address s.settings.prefix_v4 s.rows.machines) (AddressesSpent 4)) _ (or_ruled (free_address s.settings.prefix_v4 s.rows.machines) (AddressesSpent 4) tt) (λ (v4 : Address).
-    bind_ruled (or_refuse (free_address s.settings.prefix_v6 s.rows.machines) (AddressesSpent 6)) _ (or_ruled (free_address s.settings.prefix_v6 s.rows.machines) (AddressesSpent 6) tt) (λ (v6 : Address). ok_ruled _)))
 
 -- no row has the machine key
 by_none : (ms : List Machine) (mk : MachineKey) → machine_of ms mk.0 ≡ None → (a : Machine) → Contains ms a → a.machine.0 ≢ mk.0
@@ -117,7 +109,7 @@ not_taken ms mk node h a inside e =
       | inr fails ↦ let bad : true ≡ false = rw fails at other in absurd (cc)
     ]
 
-fits_new : (s : State) (mk : MachineKey) (e : Entrant) (host : List ℕ) (p : Place) → SettingsHold s
+fits_new : (s : State) (mk : MachineKey) (e : Entrant) (host : List ℕ) (p : Place) → AreSettings s.settings
     → AreSound s.rows → NewPlace s host p → machine_of s.rows.machines mk.0 ≡ None → is_taken s.rows.machines mk e.node ≡ false → EntrantKeeps s.rows.users e
     → FitsMachine s.rows (machine_row mk e p)
 fits_new s mk e host p hold sound place none free owed =
@@ -134,8 +126,8 @@ fits_new s mk e host p hold sound place none free owed =
       v6 = λ a within q. absurd (a6.v6_fresh a within q);
       keeps = record {
         user = owed.user;
-        v4 = v4_inside s.settings s.rows.machines p.v4 hold.rules place.v4;
-        v6 = v6_inside s.settings s.rows.machines p.v6 hold.rules place.v6;
+        v4 = v4_inside s.settings s.rows.machines p.v4 hold place.v4;
+        v6 = v6_inside s.settings s.rows.machines p.v6 hold place.v6;
         host = owed.host;
         endpoints = omega arith;
         routes = owed.routes;
@@ -235,7 +227,7 @@ replaced_sound t m r sound inside same own keeps =
 
 -- a machine enters: its row is made or renewed
 pub enter_sound : (s : State) (mk : MachineKey) (e : Entrant) (host : List ℕ) (held : Option Machine) (p : Place) (key : Option AuthKey) (pending : Option Pending)
-    → SettingsHold s → AreSound s.rows → machine_of s.rows.machines mk.0 ≡ held → is_taken s.rows.machines mk e.node ≡ false
+    → AreSettings s.settings → AreSound s.rows → machine_of s.rows.machines mk.0 ≡ held → is_taken s.rows.machines mk e.node ≡ false
     → EntrantKeeps s.rows.users e → place_for s host held ≡ Ok p → IfSome key (λ k. Contains s.rows.keys k)
     → AreSound (after s.rows (row_change s.rows (machine_row mk e p) p.next key pending))
 enter_sound s mk e host None p key pending hold sound none free owed placed inside =

@@ -2,24 +2,16 @@
 ghost use Rattle.std.specs.Prelude.{◌≡◌, IfOk};
 ghost use Rattle.std.specs.Option.{option_copied};
 ghost use Rattle.net_rows.specs.declared.machine.Machine.{Machine};
-ghost use Rattle.machine_asks.specs.Rows as spec;
+ghost use Rattle.machine_rows.specs.Rows as spec;
 
 use crate::entrant::Entrant;
 use crate::place::Place;
-use desk_state::{Answer, Snapshot, is_ahead, is_online, presence_of};
-use map_delta::profile_of;
-use moments::Moment;
 use net_rows::{AuthKey, Change, Counters, Machine, Pending, Row, RowKey, Tables};
 use std::alloc::Global;
 use tail_base::{DiscoKey, Duplicate, Items, MachineKey, NoMemory};
 
 /// The row of a machine that enters at this place.
-pub(crate) fn machine_row(
-    alloc: Global,
-    machine: &MachineKey,
-    entrant: Entrant,
-    place: Place,
-) -> Machine
+pub fn machine_row(alloc: Global, machine: &MachineKey, entrant: Entrant, place: Place) -> Machine
     ensures value { result ≡ spec.machine_row machine.now entrant place }
 {
     Machine {
@@ -56,10 +48,7 @@ fn with_used_key(alloc: Global, row: Machine, key: Option<&AuthKey>) -> Result<I
     Ok(puts)
 }
 
-pub(crate) fn pending_gone(
-    alloc: Global,
-    pending: Option<&Pending>,
-) -> Result<Items<RowKey>, NoMemory>
+pub fn pending_gone(alloc: Global, pending: Option<&Pending>) -> Result<Items<RowKey>, NoMemory>
     ensures value { IfOk result (λ gone. gone ≡ spec.pending_gone (option_copied pending.entry)) }
 {
     let mut gone = Items::new(alloc);
@@ -71,7 +60,7 @@ pub(crate) fn pending_gone(
 
 /// A machine's row is put, with the key that was used and without the pending entry, and this is the
 /// next id.
-pub(crate) fn row_change(
+pub fn row_change(
     alloc: Global,
     tables: &Tables,
     row: Machine,
@@ -92,38 +81,8 @@ pub(crate) fn row_change(
 }
 
 /// A row that is there already is replaced.
-pub(crate) fn row_replaced(alloc: Global, tables: &Tables, row: Machine) -> Result<Change, NoMemory>
+pub fn row_replaced(alloc: Global, tables: &Tables, row: Machine) -> Result<Change, NoMemory>
     ensures value { IfOk result (λ c. c ≡ spec.row_replaced tables.now.rows row) }
 {
     row_change(alloc, tables, row, tables.next().machine, None, None)
-}
-
-/// The machine's id, if it is online.
-pub(crate) fn online_ids(
-    alloc: Global,
-    at: &Snapshot<'_>,
-    row: &Machine,
-) -> Result<Items<u32>, NoMemory>
-    ensures value { IfOk result (λ ids. ids ≡ spec.online_ids at.now row.now) }
-{
-    let mut ids = Items::new(alloc);
-    if is_online(presence_of(at.presence, row.id)) {
-        ids.push(row.id)?;
-    }
-    Ok(ids)
-}
-
-/// The answer to a machine that is registered for this user, with a node key of this expiry.
-pub(crate) fn registered(
-    alloc: Global,
-    at: &Snapshot<'_>,
-    user: u32,
-    expiry: Option<Moment>,
-) -> Result<Answer, NoMemory>
-    ensures value { IfOk result (λ answer. answer ≡ spec.registered at.now user expiry) }
-{
-    Ok(Answer::Registered {
-        profile: profile_of(alloc, at.tables, user)?,
-        expired: !is_ahead(at.time, expiry),
-    })
 }

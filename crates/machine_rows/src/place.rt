@@ -1,20 +1,20 @@
 //! Where a machine stands: its id, name and addresses.
 ghost use Rattle.std.specs.Prelude.{◌≡◌, IfOk};
 ghost use Rattle.std.specs.Option.{option_copied};
-ghost use Rattle.desk_state.specs.Steps.{Gives};
-ghost use Rattle.machine_asks.specs.Rows as spec;
+ghost use Rattle.tail_base.specs.Steps.{Gives};
+ghost use Rattle.machine_rows.specs.Rows as spec;
 
 use allot::{free_name, least_address};
-use desk_state::{Refusal, Scarce, Snapshot, Stop};
+use desk_state::{Refusal, Scarce, Snapshot};
 use moments::Moment;
 use net_addr::{Addr, Prefix};
 use net_rows::{Kind, Machine};
 use std::alloc::Global;
-use tail_base::{Duplicate, Items, Label, MachineKey, NoMemory, NodeKey, Text};
+use tail_base::{Duplicate, Failure, Items, Label, MachineKey, NoMemory, NodeKey, Text};
 
 /// What a machine keeps when its row is renewed.
 #[derive(Drop)]
-pub(crate) struct Place {
+pub struct Place {
     pub id: u32,
     pub name: Label,
     pub v4: Addr,
@@ -27,7 +27,7 @@ pub(crate) struct Place {
 }
 
 /// Whether another machine's row has the node key.
-pub(crate) fn is_taken(machines: &[Machine], machine: &MachineKey, node: &NodeKey) -> bool
+pub fn is_taken(machines: &[Machine], machine: &MachineKey, node: &NodeKey) -> bool
     ensures value { result ≡ spec.is_taken machines.now machine.now node.now }
 {
     machines
@@ -49,17 +49,17 @@ fn kept_place(alloc: Global, at: &Snapshot<'_>, row: &Machine) -> Result<Place, 
     })
 }
 
-fn new_place(alloc: Global, at: &Snapshot<'_>, host: &Text) -> Result<Place, Stop>
+fn new_place(alloc: Global, at: &Snapshot<'_>, host: &Text) -> Result<Place, Failure<Refusal>>
     ensures value { Gives (λ p. p) result (spec.new_place at.now host.now) }
 {
     if !at.tables.room(Kind::Machine) {
-        return Err(Stop::Refused(Refusal::Full(Scarce::Machine)));
+        return Err(Failure::Fault(Refusal::Full(Scarce::Machine)));
     }
     let Some(v4) = least_address(at.settings, at.tables, false) else {
-        return Err(Stop::Refused(Refusal::AddressesSpent { family: 4 }));
+        return Err(Failure::Fault(Refusal::AddressesSpent { family: 4 }));
     };
     let Some(v6) = least_address(at.settings, at.tables, true) else {
-        return Err(Stop::Refused(Refusal::AddressesSpent { family: 6 }));
+        return Err(Failure::Fault(Refusal::AddressesSpent { family: 6 }));
     };
     let id = at.tables.next().machine;
     Ok(Place {
@@ -75,12 +75,12 @@ fn new_place(alloc: Global, at: &Snapshot<'_>, host: &Text) -> Result<Place, Sto
 
 /// Where the machine stands: where its row does, or, without one, at the next id, the least free
 /// addresses and the first free name.
-pub(crate) fn place_for(
+pub fn place_for(
     alloc: Global,
     at: &Snapshot<'_>,
     host: &Text,
     row: Option<&Machine>,
-) -> Result<Place, Stop>
+) -> Result<Place, Failure<Refusal>>
     ensures value { Gives (λ p. p) result (spec.place_for at.now host.now (option_copied row.entry)) }
 {
     match row {

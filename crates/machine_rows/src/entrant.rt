@@ -1,6 +1,6 @@
 //! What a machine's row takes when it is made or renewed.
 ghost use Rattle.std.specs.Prelude.{◌≡◌, ◌++◌, IfOk};
-ghost use Rattle.machine_asks.specs.Rows as spec;
+ghost use Rattle.machine_rows.specs.Rows as spec;
 
 use desk_state::Snapshot;
 use moments::Moment;
@@ -10,7 +10,7 @@ use tail_base::{Duplicate, Items, NoMemory, NodeKey, Tag, Text};
 
 /// What a machine's row takes when it is made or renewed.
 #[derive(Drop)]
-pub(crate) struct Entrant {
+pub struct Entrant {
     pub node: NodeKey,
     /// The id of its user.
     pub user: u32,
@@ -23,7 +23,7 @@ pub(crate) struct Entrant {
 }
 
 /// When the node key of a machine expires that asked for this and has these tags.
-pub(crate) fn expiry_of(at: &Snapshot<'_>, asked: Option<Moment>, tags: &[Tag]) -> Option<Moment>
+pub fn expiry_of(at: &Snapshot<'_>, asked: Option<Moment>, tags: &[Tag]) -> Option<Moment>
     ensures value { result ≡ spec.expiry_of at.now asked tags.now }
 {
     if asked.is_some() {
@@ -38,7 +38,7 @@ pub(crate) fn expiry_of(at: &Snapshot<'_>, asked: Option<Moment>, tags: &[Tag]) 
 }
 
 /// The tags of the first list, and then those of the second.
-pub(crate) fn joined(alloc: Global, first: &[Tag], second: &[Tag]) -> Result<Items<Tag>, NoMemory>
+pub fn joined(alloc: Global, first: &[Tag], second: &[Tag]) -> Result<Items<Tag>, NoMemory>
     ensures value { IfOk result (λ made. made ≡ first.now ++ second.now) }
 {
     let mut made = Items::from_slice(alloc, first)?;

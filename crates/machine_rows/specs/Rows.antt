@@ -17,16 +17,13 @@ use Rattle.net_rows.specs.declared.machine.Machine.{Machine}
 use Rattle.net_rows.specs.declared.pending.Pending.{Pending}
 use Rattle.allot.specs.Addresses.{free_address}
 use Rattle.allot.specs.Names.{free_name}
-use Rattle.map_delta.specs.Profiles.{profile_of}
-use Rattle.desk_state.specs.State.{State, is_ahead, is_online, later_by, presence_of}
-use Rattle.desk_state.specs.Steps.{◌>>=◌, refuse_if, or_refuse}
-use Rattle.desk_state.specs.declared.reply.Answer.{Answer}
-use Rattle.desk_state.specs.declared.reply.Answer.TheVariants.{Registered}
-use Rattle.desk_state.specs.declared.reply.Refusal.{Refusal}
-use Rattle.desk_state.specs.declared.reply.Refusal.TheVariants.{Full, AddressesSpent}
-use Rattle.desk_state.specs.declared.reply.Scarce.TheVariants as scarce
-use Rattle.machine_asks.specs.declared.entrant.Entrant.{Entrant}
-use Rattle.machine_asks.specs.declared.place.Place.{Place}
+use Rattle.desk_state.specs.State.{State, later_by}
+use Rattle.tail_base.specs.Steps.{◌>>=◌, or_fault, refuse_if}
+use Rattle.desk_state.specs.declared.refusal.Refusal.{Refusal}
+use Rattle.desk_state.specs.declared.refusal.Refusal.TheVariants.{Full, AddressesSpent}
+use Rattle.desk_state.specs.declared.refusal.Scarce.TheVariants as scarce
+use Rattle.machine_rows.specs.declared.entrant.Entrant.{Entrant}
+use Rattle.machine_rows.specs.declared.place.Place.{Place}
 
 -- another machine's row has this node key
 abbrev pub is_taken : List Machine → MachineKey → NodeKey → Bool
@@ -53,8 +50,8 @@ kept_place s m = record {
 abbrev pub new_place : State → List ℕ → Result Place Refusal
 new_place s host = do
   room ← refuse_if (not (has_room s.rows kind.Machine)) (Full scarce.Machine)
-  v4 ← or_refuse (free_address s.settings.prefix_v4 s.rows.machines) (AddressesSpent 4)
-  v6 ← or_refuse (free_address s.settings.prefix_v6 s.rows.machines) (AddressesSpent 6)
+  v4 ← or_fault (AddressesSpent 4) (free_address s.settings.prefix_v4 s.rows.machines)
+  v6 ← or_fault (AddressesSpent 6) (free_address s.settings.prefix_v6 s.rows.machines)
   Ok (record {
     id = s.rows.next.machine;
     name = free_name s.rows.machines host;
@@ -112,11 +109,3 @@ row_change t m next key pending = record {
 -- a row that is there already is replaced
 abbrev pub row_replaced : Rows → Machine → Change
 row_replaced t m = row_change t m t.next.machine None None
-
--- the machine, if it is online
-abbrev pub online_ids : State → Machine → List ℕ
-online_ids s m = if is_online (presence_of s.presence m.id) then m.id ∷ [] else []
-
--- the answer: for whom the machine is registered, and whether its node key has expired already
-abbrev pub registered : State → ℕ → Option ℤ → Answer
-registered s user expiry = Registered (profile_of s.rows.users user) (not (is_ahead s.now expiry))
