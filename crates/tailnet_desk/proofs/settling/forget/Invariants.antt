@@ -1,6 +1,6 @@
 use Rattle.std.proofs.Common.{◌≡◌, ◌≤◌, drop}
 use Rattle.desk_state.specs.State.{forgotten}
-use Rattle.tailnet_desk.proofs.desk.forget.Given as goal
+use Rattle.tailnet_desk.proofs.settling.forget.Given as goal
 
 abbrev pub invariant-loop-key : goal.invariant-loop-key
 invariant-loop-key l = record {

@@ -1,6 +1,6 @@
 use Rattle.std.proofs.Common.{◌≡◌, ◌≤◌, drop, length}
 use Rattle.desk_state.specs.State.{all_offline}
-use Rattle.tailnet_desk.proofs.desk.go_offline.Given as goal
+use Rattle.tailnet_desk.proofs.settling.go_offline.Given as goal
 
 abbrev pub invariant-loop-id : goal.invariant-loop-id
 invariant-loop-id l = record {
