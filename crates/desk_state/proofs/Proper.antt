@@ -1,18 +1,23 @@
 -- Decisions whose change, if any, keeps the rules of the tables and changes rows: one step for each form
 -- that decisions have.
-use Rattle.std.proofs.Common.{◌≡◌, ◌≢◌, Bool, true, false, Option, Some, None, Result, Ok, Err, if◌then◌else◌, refl, sym, ◌∙◌, subst}
+use Rattle.std.proofs.Common.{◌≡◌, ◌≢◌, Bool, true, false, Option, Some, None, Result, Ok, Err, if◌then◌else◌, arith, refl, sym, ◌∙◌, subst}
 use Rattle.tail_base.specs.Steps.{◌>>=◌, or_fault, refuse_if}
 use Rattle.net_rows.specs.Rows.{after}
 use Rattle.net_rows.specs.Sound.{AreSound}
 use Rattle.net_rows.specs.declared.change.Change.{Change}
 use Rattle.net_rows.specs.declared.rows.Rows.{Rows}
 use Rattle.net_rows.proofs.Sounds.{no_damage}
-use Rattle.desk_state.specs.Decisions.{IsSound, IsSoundChange}
+use Rattle.net_rows.specs.declared.change.Counters.{Counters}
+use Rattle.desk_state.specs.Decisions.{IsNoLess, IsSound, IsSoundChange}
 use Rattle.desk_state.specs.declared.decision.Decision.{Decision}
 use Rattle.desk_state.specs.declared.refusal.Refusal.{Refusal}
 
-pub sound_change : (rows : Rows) (c : Change) → AreSound (after rows c) → after rows c ≢ rows → IsSoundChange rows c
-sound_change rows c sound differs = record { sound = no_damage (after rows c) sound; differs = differs }
+pub sound_change : (rows : Rows) (c : Change) → AreSound (after rows c) → after rows c ≢ rows → IsNoLess rows.next c.next → IsSoundChange rows c
+sound_change rows c sound differs rises = record { sound = no_damage (after rows c) sound; differs = differs; rises = rises }
+
+-- counters that stay as they are, or rise by one
+pub same_counters : (next : Counters) → IsNoLess next next
+same_counters next = record { user = omega arith; key = omega arith; pending = omega arith; machine = omega arith }
 
 pub proper_err : {A : Type 0} (rows : Rows) (r : Refusal) → IsSound {A = A} rows (Err r)
 proper_err rows r d c e is = absurd (cc)
