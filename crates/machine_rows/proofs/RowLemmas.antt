@@ -51,7 +51,7 @@ pub record StandsAs (m r : Machine) : Type 0 where
   pub v6 : r.v6 ≡ m.v6
 
 -- where a machine without a row stands
-record NewPlace (s : State) (host : List ℕ) (p : Place) : Type 0 where
+pub record NewPlace (s : State) (host : List ℕ) (p : Place) : Type 0 where
   pub room : has_room s.rows kind.Machine ≡ true
   pub v4 : free_address s.settings.prefix_v4 s.rows.machines ≡ Some p.v4
   pub v6 : free_address s.settings.prefix_v6 s.rows.machines ≡ Some p.v6
@@ -60,7 +60,7 @@ record NewPlace (s : State) (host : List ℕ) (p : Place) : Type 0 where
   pub id : p.id ≡ s.rows.next.machine
   pub next : p.next ≡ s.rows.next.machine + 1
 
-new_place_is : (s : State) (host : List ℕ) (p : Place) → new_place s host ≡ Ok p → NewPlace s host p
+pub new_place_is : (s : State) (host : List ℕ) (p : Place) → new_place s host ≡ Ok p → NewPlace s host p
 new_place_is s host p h =
     let room = bind_parts (refuse_if (not (has_room s.rows kind.Machine)) (Full scarce.Machine)) _ p h in
     let v4 = bind_parts (or_fault (AddressesSpent 4) (free_address s.settings.prefix_v4 s.rows.machines)) _ p room.2 in
