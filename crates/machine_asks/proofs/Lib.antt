@@ -5,5 +5,6 @@ pub mod Waits
 pub mod Registrations
 pub mod Seeds
 pub mod Updates
+pub mod Admissions
 pub mod Repeats
 pub mod Sameness

@@ -8,4 +8,5 @@ pub mod Waiting
 pub mod Register
 pub mod Update
 pub mod OneMap
+pub mod Admit
 pub mod Laws

@@ -1,6 +1,7 @@
 //! What the machines of a tailnet ask: to be registered, to be admitted, and for their maps.
 #![tactic(auto)]
 
+mod admit_ask;
 mod by_key;
 mod entrant;
 mod holds;
@@ -16,6 +17,7 @@ mod update_ask;
 mod waiting;
 mod who_asks;
 
+pub use admit_ask::admit;
 pub use holds::keep_rules;
 pub use laws::{
     kept_rows_stay, repeats_are_answered, repeats_change_nothing, rows_that_stay_are_kept,
