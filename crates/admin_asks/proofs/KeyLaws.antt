@@ -1,5 +1,5 @@
 -- Decisions on pre-auth keys are sound.
-use Rattle.std.proofs.Common.{◌≡◌, ◌≢◌, ◌≤◌, ◌+◌, ℕ, ℤ, true, not, List, Option, Some, Ok, inl, inr, sym, ap, ◌∙◌, refl, subst, nat_lt, length, arith}
+use Rattle.std.proofs.Common.{◌≡◌, ◌≢◌, ◌≤◌, ◌+◌, ℕ, ℤ, true, not, List, Option, Some, inl, inr, sym, ap, ◌∙◌, refl, subst, nat_lt, length, arith}
 use Rattle.std.specs.Prelude.{Contains}
 use Rattle.std.proofs.lemmas.Bool.{and_parts, ltb-true, not-false}
 use Rattle.tailcfg.specs.declared.limits.TheConstants.{ASKED_TAG_LIMIT}
@@ -23,7 +23,7 @@ use Rattle.desk_state.specs.declared.refusal.Scarce.TheVariants as scarce
 use Rattle.desk_state.proofs.Proper.{proper_bind, proper_choice, proper_none, proper_or, proper_refuse, proper_some, same_counters, sound_change}
 use Rattle.desk_state.proofs.TextLemmas.{fresh_key_text, key_text_names}
 use Rattle.machine_rows.proofs.Rests.{put_rests_is}
-use Rattle.admin_asks.specs.Keys.{new_key, key_change, added_key, add_key, expiry_change, expired_key, expire_key}
+use Rattle.admin_asks.specs.Keys.{new_key, key_change, added_key, add_key, expiry_change, expire_key}
 use Rattle.admin_asks.proofs.NamedLaws.{row_there, user_there}
 
 -- a new key of a user of the tables may be put

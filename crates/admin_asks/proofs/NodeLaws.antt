@@ -18,7 +18,6 @@ use Rattle.net_rows.specs.Sound.{AreSound, FitsMachine}
 use Rattle.net_rows.specs.declared.machine.Machine.{Machine}
 use Rattle.net_rows.specs.declared.rows.Rows.{Rows}
 use Rattle.net_rows.proofs.Members.{list_any_member}
-use Rattle.net_rows.proofs.SoundRemove.{sound_without_machine}
 use Rattle.desk_state.specs.Changes.{machine_gone}
 use Rattle.desk_state.specs.Decisions.{IsSound}
 use Rattle.desk_state.specs.State.{State}
@@ -26,8 +25,9 @@ use Rattle.desk_state.specs.Users.{tags_defined}
 use Rattle.desk_state.specs.declared.refusal.Refusal.TheVariants.{UnknownMachine, BadName, NameTaken}
 use Rattle.desk_state.proofs.Proper.{proper_bind, proper_choice, proper_none, proper_or, proper_refuse, proper_some, same_counters, sound_change}
 use Rattle.machine_rows.specs.Rows.{row_replaced}
-use Rattle.machine_rows.proofs.Rests.{gone_differs, replaced_differs}
+use Rattle.machine_rows.proofs.Rests.{replaced_differs}
 use Rattle.machine_rows.proofs.RowLemmas.{row_sound}
+use Rattle.machine_rows.proofs.SoundChanges.{gone_change}
 use Rattle.admin_asks.specs.Nodes.{changed_node, ends_at, expired_node, expire_node, is_name_taken, renamed_node, rename, same_node, tagged_node, set_tags, drop_node}
 use Rattle.admin_asks.proofs.NamedLaws.{row_there}
 
@@ -138,5 +138,4 @@ drop_node_proper s id sound =
     let t = s.rows in
     proper_or t UnknownMachine (machine_with t.machines id) _ (λ (m : Machine) found.
     proper_some t _ (machine_gone t m.id) refl
-    (sound_change t _ (sound_without_machine t m.id sound)
-    (gone_differs t m (row_there (λ (x : Machine). x.id) t.machines id m found)) (same_counters t.next)))
+    (gone_change t m sound (row_there (λ (x : Machine). x.id) t.machines id m found)))

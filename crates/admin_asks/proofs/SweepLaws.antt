@@ -1,5 +1,5 @@
 -- A sweep is a sound decision, and counts what goes.
-use Rattle.std.proofs.Common.{◌≡◌, ◌≢◌, ◌≤◌, ◌+◌, ◌==◌, ℕ, true, false, List, [], ◌∷◌, ◌++◌, None, Ok, inl, inr, sym, ap, ◌∙◌, refl, subst, length, arith}
+use Rattle.std.proofs.Common.{◌≡◌, ◌≢◌, ◌≤◌, ◌+◌, ◌==◌, true, false, List, [], ◌∷◌, ◌++◌, None, inl, inr, sym, ap, ◌∙◌, refl, subst, length, arith}
 use Rattle.std.specs.Prelude.{Contains}
 use Rattle.std.specs.List.{list_all}
 use Rattle.net_rows.specs.Damage.{damage}

@@ -1,5 +1,5 @@
 -- Decisions on users are sound.
-use Rattle.std.proofs.Common.{◌≡◌, ◌≢◌, ◌+◌, ◌++◌, ◌==◌, ℕ, true, false, not, List, [], ◌∷◌, Ok, inl, sym, ap, ◌∙◌, refl, subst, nat_lt, length, arith}
+use Rattle.std.proofs.Common.{◌≡◌, ◌≢◌, ◌+◌, ◌++◌, ◌==◌, ℕ, true, false, not, List, [], ◌∷◌, inl, sym, ap, ◌∙◌, refl, subst, nat_lt, length, arith}
 use Rattle.std.specs.Prelude.{Contains}
 use Rattle.std.specs.Str.{bytes_eq}
 use Rattle.std.proofs.lemmas.Bool.{and_parts, both_ways, ltb-true, not-false}
