@@ -43,9 +43,11 @@ key_change t key = record {
   next = record t.next { key = t.next.key + 1 };
 }
 
+-- the key is made, and is the answer
 abbrev pub added_key : Rows → AuthKey → Decision OperatorAnswer
 added_key t key = changing (key_change t key) (answer.Key (key_line t.users key))
 
+-- a key is made for a user who is there, with tags that are defined, if there is room and random words were drawn
 abbrev pub add_key : State → KeyForm → Option (List ℕ) → Result (Decision OperatorAnswer) Refusal
 add_key s form words = do
   user ← user_named s.rows form.login
@@ -58,6 +60,7 @@ add_key s form words = do
 abbrev pub key_lines : Rows → List KeyLine
 key_lines t = map (key_line t.users) t.keys
 
+-- the keys by id
 abbrev pub keys : State → Result (Decision OperatorAnswer) Refusal
 keys s = Ok (only (answer.Keys (key_lines s.rows)))
 
@@ -73,6 +76,7 @@ expiry_change s key = record {
 abbrev pub expired_key : State → AuthKey → Decision OperatorAnswer
 expired_key s key = if is_ahead s.now key.expiry then changing (expiry_change s key) answer.Gone else only answer.Gone
 
+-- the key of an id expires now
 abbrev pub expire_key : State → ℕ → Result (Decision OperatorAnswer) Refusal
 expire_key s id = do
   key ← or_fault KeyUnknown (key_with s.rows.keys id)

@@ -26,6 +26,7 @@ use Rattle.admin_asks.specs.declared.operator_answer.OperatorAnswer.TheVariants 
 abbrev pub node_lines : State → List Machine → List NodeLine
 node_lines s machines = map (node_line s) machines
 
+-- the machines by id, whether they are live or not
 abbrev pub nodes : State → Result (Decision OperatorAnswer) Refusal
 nodes s = Ok (only (answer.Nodes (node_lines s s.rows.machines)))
 
@@ -42,6 +43,7 @@ abbrev pub ends_at : Option ℤ → ℤ → Bool
 ends_at None end = false
 ends_at (Some moment) end = int_eq moment end
 
+-- a machine whose node key expires then already stays as it is
 abbrev pub expired_node : State → Machine → ℤ → Decision OperatorAnswer
 expired_node s m end = if ends_at m.expiry end then same_node s m else changed_node s (record m { expiry = Some end })
 
@@ -55,9 +57,11 @@ expire_node s id expiry = do
 abbrev pub is_name_taken : List Machine → ℕ → List ℕ → Bool
 is_name_taken machines id name = list_any (λ m. bytes_eq m.name name && not (m.id == id)) machines
 
+-- a machine that has the name already stays as it is
 abbrev pub renamed_node : State → Machine → List ℕ → Decision OperatorAnswer
 renamed_node s m name = if bytes_eq m.name name then same_node s m else changed_node s (record m { name = name })
 
+-- a name has to be a label that no other machine has
 abbrev pub rename : State → ℕ → List ℕ → Result (Decision OperatorAnswer) Refusal
 rename s id name = do
   machine ← or_fault UnknownMachine (machine_with s.rows.machines id)
@@ -65,15 +69,18 @@ rename s id name = do
   free ← refuse_if (is_name_taken s.rows.machines machine.id label) NameTaken
   Ok (renamed_node s machine label)
 
+-- a machine that has the tags already stays as it is
 abbrev pub tagged_node : State → Machine → List (List ℕ) → Decision OperatorAnswer
 tagged_node s m tags = if pointwise bytes_eq m.tags tags then same_node s m else changed_node s (record m { tags = tags })
 
+-- tags have to be defined, and are kept in byte order, each once
 abbrev pub set_tags : State → ℕ → List (List ℕ) → Result (Decision OperatorAnswer) Refusal
 set_tags s id tags = do
   machine ← or_fault UnknownMachine (machine_with s.rows.machines id)
   defined ← tags_defined s tags
   Ok (tagged_node s machine (sorted_once (slice_cmp nat_cmp) tags))
 
+-- the machine of an id goes
 abbrev pub drop_node : State → ℕ → Result (Decision OperatorAnswer) Refusal
 drop_node s id = do
   machine ← or_fault UnknownMachine (machine_with s.rows.machines id)

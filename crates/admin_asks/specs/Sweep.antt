@@ -25,14 +25,16 @@ lost_machines s machines = map (λ (m : Machine). gone.Machine m.id) (filter (is
 abbrev pub overdue_entries : State → List Pending → List RowKey
 overdue_entries s entries = map (λ (p : Pending). gone.Pending p.id) (filter (is_overdue s) entries)
 
+-- these machines go, and these pending entries
 abbrev pub sweep_change : Rows → List RowKey → List RowKey → Change
 sweep_change t machines pending = record { puts = []; gone = machines ++ pending; next = t.next }
 
--- these machines and pending entries go
+-- where none goes, no row changes
 abbrev pub sweep_decision : Rows → List RowKey → List RowKey → Decision OperatorAnswer
 sweep_decision t machines pending =
     if length machines + length pending == 0 then only (answer.Swept 0 0)
     else changing (sweep_change t machines pending) (answer.Swept (length machines) (length pending))
 
+-- ephemeral machines that aren't live go, and pending entries whose time has passed
 abbrev pub sweep : State → Result (Decision OperatorAnswer) Refusal
 sweep s = Ok (sweep_decision s.rows (lost_machines s s.rows.machines) (overdue_entries s s.rows.pending))

@@ -24,6 +24,7 @@ use Rattle.desk_state.specs.declared.refusal.Scarce.TheVariants as scarce
 use Rattle.admin_asks.specs.declared.operator_answer.OperatorAnswer.{OperatorAnswer}
 use Rattle.admin_asks.specs.declared.operator_answer.OperatorAnswer.TheVariants as answer
 
+-- the name has an `@`
 abbrev pub has_at : List ℕ → Bool
 has_at name = list_any (λ b. b == 64) name
 
@@ -35,6 +36,7 @@ with_at name = if has_at name then name else name ++ codes "@"
 abbrev pub is_login_taken : List User → List ℕ → Bool
 is_login_taken users login = list_any (λ u. bytes_eq u.login login) users
 
+-- the user with the next id
 abbrev pub new_user : Rows → List ℕ → User
 new_user t login = record { id = t.next.user; login = login }
 
@@ -46,9 +48,11 @@ user_change t user = record {
   next = record t.next { user = t.next.user + 1 };
 }
 
+-- the user is made, and is the answer
 abbrev pub added_user : Rows → List ℕ → Decision OperatorAnswer
 added_user t login = changing (user_change t (new_user t login)) (answer.User (new_user t login))
 
+-- a name has to spell a login that no user has, and there has to be room
 abbrev pub add_user : State → List ℕ → Result (Decision OperatorAnswer) Refusal
 add_user s name = do
   login ← or_fault BadName (login_of (with_at name))
@@ -56,6 +60,7 @@ add_user s name = do
   room ← refuse_if (not (has_room s.rows kind.User)) (Full scarce.User)
   Ok (added_user s.rows login)
 
+-- the users by id
 abbrev pub users : State → Result (Decision OperatorAnswer) Refusal
 users s = Ok (only (answer.Users s.rows.users))
 
@@ -75,6 +80,7 @@ user_gone t user = record {
   next = t.next;
 }
 
+-- a user without machines goes, and the user's keys
 abbrev pub drop_user : State → List ℕ → Result (Decision OperatorAnswer) Refusal
 drop_user s login = do
   user ← user_named s.rows login
