@@ -3,7 +3,7 @@ use tail_base::Text;
 
 /// What answers depend on beside the desk.
 #[derive(Drop)]
-pub struct Site {
+pub struct FrontSettings {
     /// The operator's token.
     pub token: Text,
     /// Where machines that wait are sent.
