@@ -2,7 +2,7 @@
 use Rattle.std.specs.Prelude.{Bool, false}
 use Rattle.admin_asks.specs.Draws as operator
 use Rattle.admin_asks.specs.Short.{IsShortOperatorAsk}
-use Rattle.machine_asks.specs.Draws as machine
+use Rattle.machine_asks.specs.Decision as machine
 use Rattle.machine_asks.specs.Short.{IsShortMachineAsk}
 use Rattle.tailnet_desk.specs.declared.ask.Ask.{Ask}
 use Rattle.tailnet_desk.specs.declared.ask.Ask.TheVariants as ask
