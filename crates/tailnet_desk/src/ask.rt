@@ -11,9 +11,7 @@ use tail_base::Text;
 pub enum Ask {
     /// The program makes a first user and a reusable pre-auth key with this text, in tables without
     /// users.
-    Seed {
-        text: Text,
-    },
+    Seed { text: Text },
     Machine(MachineAsk),
     Operator(OperatorAsk),
 }
