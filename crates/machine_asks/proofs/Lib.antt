@@ -3,5 +3,5 @@ mod Keyed
 mod Registrations
 mod Repeats
 mod Seeds
-pub mod Updates
+mod Updates
 mod Waits

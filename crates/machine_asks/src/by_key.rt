@@ -64,7 +64,8 @@ fn changes_nothing(
     key: &AuthKey,
     pending: Option<&Pending>,
 ) -> bool
-    ensures value { result ≡ spec.changes_nothing (option_copied row.entry) renewed.now key.now (option_copied pending.entry) }
+    ensures value { result ≡ spec.changes_nothing (option_copied row.entry) renewed.now key.now
+        (option_copied pending.entry) }
 {
     match row {
         None => false,
@@ -81,7 +82,8 @@ fn change_by_key(
     next: u32,
     key: &AuthKey,
 ) -> Result<Option<Change>, NoMemory>
-    ensures value { IfOk result (λ change. change ≡ spec.change_by_key at.now (option_copied was.entry) row next key.now) }
+    ensures value { IfOk result (λ change. change
+        ≡ spec.change_by_key at.now (option_copied was.entry) row next key.now) }
 {
     let pending = at.tables.pending_of(&row.machine);
     if changes_nothing(was, &row, key, pending) {
@@ -113,7 +115,8 @@ fn admitted_by_key(
     next: u32,
     key: &AuthKey,
 ) -> Result<Decision<MachineAnswer>, NoMemory>
-    ensures value { IfOk result (λ d. d ≡ spec.admitted_by_key at.now (option_copied was.entry) row next key.now) }
+    ensures value { IfOk result (λ d. d
+        ≡ spec.admitted_by_key at.now (option_copied was.entry) row next key.now) }
 {
     let mut offline = Items::new(alloc);
     offline.push(row.id)?;
@@ -126,8 +129,8 @@ fn admitted_by_key(
     })
 }
 
-/// A machine registers with the pre-auth key of its form. A machine without a row gets one; one with
-/// a row keeps its place, and takes the rest anew. If that leaves each row as it is, none changes.
+/// A machine registers with the pre-auth key of its form. A machine without a row gets one; one
+/// with a row keeps its place, and takes the rest anew. If that leaves each row as it is, none changes.
 pub(crate) fn by_key(
     alloc: Global,
     at: &Snapshot<'_>,

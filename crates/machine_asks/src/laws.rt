@@ -1,4 +1,5 @@
-//! What holds of machines' asks in any state. None of these functions does anything: each states a law.
+//! What holds of machines' asks in any state. None of these functions does anything: each states a
+//! law.
 ghost use Rattle.std.specs.Prelude.{◌≡◌, ℕ, List, Option, None, Ok, false};
 ghost use Rattle.settings.specs.Settings.{AreSettings};
 ghost use Rattle.net_rows.specs.Damage.{damage};
@@ -20,8 +21,8 @@ ghost use Rattle.machine_asks.specs.declared.answer.MachineAnswer.TheVariants.{R
 ghost use Rattle.machine_asks.specs.declared.ask.MachineAsk.{MachineAsk};
 ghost use Rattle.machine_asks.specs.declared.ask.MachineAsk.TheVariants.{Register};
 
-/// What is decided of a machine's ask changes rows or has no change, and the tables keep their rules
-/// after it.
+/// What is decided of a machine's ask has no change, or one that changes rows, lets no counter fall,
+/// and keeps the rules of the tables.
 pub fn machine_decisions_are_sound()
     ensures decided { (s : State) (x : MachineAsk) (words : Option (List ℕ))
         → AreSettings s.settings → damage s.rows ≡ None → IsShortMachineAsk x

@@ -1,4 +1,5 @@
-//! What the machines of a tailnet ask, to be registered and for their maps; and the first user and key.
+//! What the machines of a tailnet ask, to be registered and for their maps; and the first user and
+//! key.
 #![tactic(auto)]
 
 mod answer;

@@ -22,7 +22,8 @@ use tailcfg::Update;
 
 /// Adds the machine's id, if it is live.
 fn add_live(at: &Snapshot<'_>, ids: &mut Items<u32>, machine: &Machine) -> Result<(), NoMemory>
-    ensures ok { OnOk result (ids.new ≡ ids.old ++ (if is_live at.now machine.now then machine.now.id ∷ [] else [])) }
+    ensures ok { OnOk result (ids.new
+        ≡ ids.old ++ (if is_live at.now machine.now then machine.now.id ∷ [] else [])) }
 {
     if is_live(at, machine) {
         ids.push(machine.id)
@@ -58,7 +59,8 @@ fn map_in(
     tables: &Tables,
     row: &Machine,
 ) -> Result<MachineAnswer, NoMemory>
-    ensures value { IfOk result (λ a. a ≡ spec.map_for (record at.now { rows = tables.now.rows }) row.now) }
+    ensures value { IfOk result (λ a. a
+        ≡ spec.map_for (record at.now { rows = tables.now.rows }) row.now) }
 {
     let changed = Snapshot {
         settings: at.settings,
@@ -77,7 +79,8 @@ fn changed_map(
     row: &Machine,
 ) -> Result<MachineAnswer, NoMemory>
     requires sound { damage (after at.now.rows change.now) ≡ None }
-    ensures value { IfOk result (λ a. a ≡ spec.map_for (spec.after_change at.now change.now) row.now) }
+    ensures value { IfOk result (λ a. a
+        ≡ spec.map_for (spec.after_change at.now change.now) row.now) }
 {
     let tables = at.tables.after(alloc, change)?;
     map_in(alloc, at, &tables, row)
@@ -108,7 +111,8 @@ fn map_decision(
 ) -> Result<Decision<MachineAnswer>, NoMemory>
     requires inside { Contains at.now.rows.machines row.now }
     requires short { IfSome (option_copied update) IsShortUpdate }
-    ensures value { IfOk result (λ d. d ≡ spec.map_decision at.now row.now (option_copied update.entry)) }
+    ensures value { IfOk result (λ d. d
+        ≡ spec.map_decision at.now row.now (option_copied update.entry)) }
 {
     keep_rules(at);
     match update {
@@ -120,8 +124,8 @@ fn map_decision(
     }
 }
 
-/// What comes of a machine's wish for its map: the whole map, computed afresh, after what it tells of
-/// itself. The machine has to be one with these keys, and live.
+/// What a machine's ask for its map results in: the whole map, computed afresh, after what it tells
+/// of itself. The machine has to be one with these keys, and live.
 pub(crate) fn one_map(
     alloc: Global,
     at: &Snapshot<'_>,

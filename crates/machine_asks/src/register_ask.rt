@@ -39,10 +39,10 @@ fn registered_again(
 /// What the registration of a machine results in: the first of six rules that fits decides.
 ///
 /// An expiry that has passed logs the machine out. A live machine that has this node key already is
-/// registered as it stands. Else the node key has to be no other machine's, and the machine enters by
-/// its pre-auth key, if it gives one. Without one it takes the node key in place of its old one, if it
-/// is live and names that; and else it waits for an operator. The words are for the text of a new
-/// pending entry.
+/// registered as it stands. Else the node key has to be no other machine's, and the machine enters
+/// by its pre-auth key, if it gives one. Without one it takes the node key in place of its old one,
+/// if it is live and names that; and else it waits for an operator. The words are for the text of a
+/// new pending entry.
 pub(crate) fn register(
     alloc: Global,
     at: &Snapshot<'_>,

@@ -80,7 +80,8 @@ fn entry_change(
     old: Option<&Pending>,
 ) -> Result<Change, NoMemory>
     requires counter { tables.now.rows.next.pending < 2147483647 }
-    ensures value { IfOk result (λ c. c ≡ spec.entry_change tables.now.rows entry (option_copied old.entry)) }
+    ensures value { IfOk result (λ c. c
+        ≡ spec.entry_change tables.now.rows entry (option_copied old.entry)) }
 {
     let next = tables.next();
     let mut puts = Items::new(alloc);
@@ -102,7 +103,8 @@ fn waiting_entered(
     old: Option<&Pending>,
 ) -> Result<Decision<MachineAnswer>, NoMemory>
     requires counter { tables.now.rows.next.pending < 2147483647 }
-    ensures value { IfOk result (λ d. d ≡ spec.waiting_entered tables.now.rows entry (option_copied old.entry)) }
+    ensures value { IfOk result (λ d. d
+        ≡ spec.waiting_entered tables.now.rows entry (option_copied old.entry)) }
 {
     let answer = MachineAnswer::LoginAt {
         pending: entry.text.copy(alloc)?,

@@ -3,8 +3,8 @@ ghost use Rattle.std.specs.Prelude.{◌≡◌, true};
 ghost use Rattle.net_rows.specs.declared.machine.Machine.{Machine};
 ghost use Rattle.machine_rows.specs.Same.{KeepsPlace, KeepsRegistration, same_row, same_told};
 
-/// A row whose place stays, and that is as it was in what the machine tells of itself and in how it is
-/// registered, is the row that it was. Where its registration stays too, the first test is enough.
+/// A row whose place stays, and that passes the test of all that is renewed, is the row that it was.
+/// If its registration stays too, the test of what the machine tells of itself is enough.
 pub fn kept_rows_stay()
     ensures told { (m r : Machine) → KeepsPlace m r → KeepsRegistration m r
         → same_told m r ≡ true → r ≡ m }

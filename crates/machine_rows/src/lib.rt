@@ -1,5 +1,6 @@
-//! The rows of machines as asks make them: where a machine without a row gets its place, what it takes
-//! anew when it registers or is admitted, the change that puts its row, and whether the row is as it was.
+//! The rows of machines as asks make them: where a machine without a row gets its place, what it
+//! takes anew when it registers or is admitted, the change that puts its row, and whether the row is
+//! as it was.
 #![tactic(auto)]
 
 mod entrant;

@@ -81,7 +81,8 @@ pub fn place_for(
     host: &Text,
     row: Option<&Machine>,
 ) -> Result<Place, Failure<Refusal>>
-    ensures value { Gives (λ p. p) result (spec.place_for at.now host.now (option_copied row.entry)) }
+    ensures value { Gives (λ p. p) result
+        (spec.place_for at.now host.now (option_copied row.entry)) }
 {
     match row {
         Some(row) => Ok(kept_place(alloc, at, row)?),

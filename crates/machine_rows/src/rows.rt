@@ -48,6 +48,7 @@ fn with_used_key(alloc: Global, row: Machine, key: Option<&AuthKey>) -> Result<I
     Ok(puts)
 }
 
+/// The pending entry goes, if there is one.
 pub fn pending_gone(alloc: Global, pending: Option<&Pending>) -> Result<Items<RowKey>, NoMemory>
     ensures value { IfOk result (λ gone. gone ≡ spec.pending_gone (option_copied pending.entry)) }
 {
@@ -58,8 +59,8 @@ pub fn pending_gone(alloc: Global, pending: Option<&Pending>) -> Result<Items<Ro
     Ok(gone)
 }
 
-/// A machine's row is put, with the key that was used and without the pending entry, and this is the
-/// next id.
+/// A machine's row is put, with the key that was used and without the pending entry, and this is
+/// the next id.
 pub fn row_change(
     alloc: Global,
     tables: &Tables,
@@ -68,7 +69,8 @@ pub fn row_change(
     key: Option<&AuthKey>,
     pending: Option<&Pending>,
 ) -> Result<Change, NoMemory>
-    ensures value { IfOk result (λ c. c ≡ spec.row_change tables.now.rows row next (option_copied key.entry) (option_copied pending.entry)) }
+    ensures value { IfOk result (λ c. c ≡ spec.row_change tables.now.rows row next
+        (option_copied key.entry) (option_copied pending.entry)) }
 {
     Ok(Change {
         puts: with_used_key(alloc, row, key)?,
