@@ -10,7 +10,7 @@ use Rattle.desk_state.specs.declared.decision.Decision.{Decision}
 use Rattle.desk_state.specs.declared.refusal.Refusal.{Refusal}
 use Rattle.desk_state.proofs.Proper.{proper_err}
 use Rattle.admin_asks.specs.Decision as operator
-use Rattle.admin_asks.proofs.DecisionLaws.{decision_sound as operator_decision_sound}
+use Rattle.admin_asks.proofs.DecisionLaws.{operator_decision_sound}
 use Rattle.machine_asks.specs.Decision as machine
 use Rattle.machine_asks.specs.Seed.{seed}
 use Rattle.machine_asks.proofs.DecisionLaws.{machine_decision_sound, seed_sound}
