@@ -98,7 +98,7 @@ complete_of (ended.Closed closed.Early) file before now seed old new p c = absur
     never_early _ (site_of p.settings) _ _ new.told _ _ c.input c.requests c.whole
     (subst (λ (f : SettingsFields). AllByRecursion (λ r. IsAccepted (wanted_of (site_of f) r)) c.requests) same c.accepted) c.input_is p.talk.serves)
 complete_of (ended.Closed closed.ReadFault) file before now seed old new p c = absurd (c.no_read_fault p.talk.serves.ending.3)
-complete_of (ended.Closed closed.WriteFault) file before now seed old new p c = absurd (c.no_write_fault p.talk.serves.ending)
+complete_of (ended.Closed closed.WriteFault) file before now seed old new p c = absurd (c.no_write_fault p.talk.serves.ending.1)
 complete_of (ended.Closed closed.NoMemory) file before now seed old new p c = inr refl
 complete_of (ended.Settings rule key) file before now seed old new p c = absurd (let broken = rw c.file_is at p.1 in let kept = c.settings_are in cc)
 complete_of ended.TooLarge file before now seed old new p c = absurd (let large = rw c.file_is at p.1 in omega (arith, large, c.small))
