@@ -19,7 +19,7 @@ use Rattle.policy_rows.specs.Names.{begins, group_named, host_named, is_name, ow
 use Rattle.policy_rows.specs.Nets.{is_one_address, net_of_text}
 use Rattle.policy_rows.specs.Selectors.{approver_at, automatic_at, group_at, has_slash, host_at, is_approver, is_source, is_test_end, net_or, selector_at, source_at, tag_at, test_end_at, user_or}
 use Rattle.policy_doc.specs.Sound.{has_entry, is_subject}
-use Rattle.policy_doc.proofs.StepLemmas.{bind_parts, check_parts, due_parts}
+use Rattle.tail_base.proofs.StepLemmas.{bind_parts, check_parts, due_parts}
 
 -- what a search finds passes its test, and the search for it again ends at one
 pub found_passes : {A : Type 0} (test : A → Bool) (xs : List A) (x : A) → find test xs ≡ Some x → test x ≡ true

@@ -25,7 +25,8 @@ use Rattle.policy_doc.specs.Rules.{rule_at, test_at}
 use Rattle.policy_doc.specs.Sound.{IsSound, has_entry, is_every_port, is_subject, written_rules}
 use Rattle.policy_doc.specs.Walks.{list_of, object_of, or_empty}
 use Rattle.policy_doc.proofs.RowLemmas.{IsRule, IsTest, approver_text_read, group_read, route_read, rule_read, test_read}
-use Rattle.policy_doc.proofs.StepLemmas.{bind_parts, check_parts, due_parts, given_all, given_short, list_all_read, list_short, object_all, object_short, ok_has}
+use Rattle.tail_base.proofs.StepLemmas.{bind_parts, check_parts, due_parts}
+use Rattle.policy_doc.proofs.StepLemmas.{given_all, given_short, list_all_read, list_short, object_all, object_short, ok_has}
 
 record AreNames (names : Names) : Type 0 where
   groups_end : length names.groups ≤ ENTRY_LIMIT

@@ -32,7 +32,8 @@ use Rattle.policy_doc.specs.Rules.{action_at, dest_text, list_due, proto_at, rul
 use Rattle.policy_doc.specs.Walks.{list_of, or_empty}
 use Rattle.policy_doc.specs.Sound.{has_entry, is_every_port, is_subject}
 use Rattle.policy_doc.proofs.KnownLemmas.{IsRead, approver_read, selector_known, source_read, subject_read}
-use Rattle.policy_doc.proofs.StepLemmas.{bind_parts, check_parts, due_parts, given_all, given_short, list_all_read, list_short}
+use Rattle.tail_base.proofs.StepLemmas.{bind_parts, check_parts, due_parts}
+use Rattle.policy_doc.proofs.StepLemmas.{given_all, given_short, list_all_read, list_short}
 
 source_text_read : (names : Names) (place : List ℕ) (d : Data) (s : Selector) → source_text names place d ≡ Ok s → IsRead names is_source s
 unfolding source_text

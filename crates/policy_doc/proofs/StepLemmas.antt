@@ -1,36 +1,16 @@
 -- What steps that went well have shown.
-use Rattle.std.proofs.Common.{◌≡◌, ◌+◌, ◌≤◌, ℕ, Bool, true, false, List, [], ◌∷◌, ◌++◌, length, Option, Some, None, Result, Ok, Err, leb, arith, refl, ◌∙◌}
+use Rattle.std.proofs.Common.{◌≡◌, ◌+◌, ◌≤◌, ℕ, Bool, true, List, [], ◌∷◌, ◌++◌, length, Option, Some, None, Result, Ok, leb, arith, refl, ◌∙◌}
 use Rattle.std.specs.List.{list_all}
 use Rattle.std.proofs.lemmas.Bool.{and_from, leb-true}
 use Rattle.std.proofs.lemmas.List.{length-append}
 use Rattle.std.proofs.lemmas.List.Folds.{list_all-append}
 use Rattle.serde_json.specs.Data.{Data, Items, no_items, item, Members, no_members, member}
 use Rattle.serde_json.specs.Find.{as_array, as_object}
-use Rattle.tail_base.specs.Steps.{◌>>=◌, or_fault, refuse_unless}
+use Rattle.tail_base.proofs.StepLemmas.{bind_parts, check_parts, due_parts}
 use Rattle.policy_rows.specs.declared.fault.PolicyFault.{PolicyFault}
 use Rattle.policy_rows.specs.declared.code.PolicyCode.TheVariants as code
 use Rattle.policy_rows.specs.Faults.{fault_at, indexed, under}
 use Rattle.policy_doc.specs.Walks.{each, each_member, items_count, list_of, members_count, object_of, or_empty}
-
-pub bind_parts : {A B E : Type 0} (r : Result A E) (f : A → Result B E) (y : B) → (r >>= f) ≡ Ok y → (x : A) × (r ≡ Ok x) × (f x ≡ Ok y)
-bind_parts (Ok x) f y h = (x, refl, h)
-bind_parts (Err e) f y h = absurd (cc)
-
-pub fault_parts : {A E : Type 0} (e : E) (o : Option A) (x : A) → or_fault e o ≡ Ok x → o ≡ Some x
-fault_parts e None x h = absurd (cc)
-fault_parts e (Some y) x h = cc
-
-pub due_parts : {A B E : Type 0} (e : E) (o : Option A) (f : A → Result B E) (y : B) → (or_fault e o >>= f) ≡ Ok y → (x : A) × (o ≡ Some x) × (f x ≡ Ok y)
-due_parts e None f y h = absurd (cc)
-due_parts e (Some x) f y h = (x, refl, h)
-
-pub check_parts : {B E : Type 0} (b : Bool) (e : E) (f : Unit {0} → Result B E) (y : B) → (refuse_unless b e >>= f) ≡ Ok y → (b ≡ true) × (f tt ≡ Ok y)
-check_parts true e f y h = (refl, h)
-check_parts false e f y h = absurd (cc)
-
-pub unless_parts : {E : Type 0} (b : Bool) (e : E) (u : Unit {0}) → refuse_unless b e ≡ Ok u → b ≡ true
-unless_parts true e u h = refl
-unless_parts false e u h = absurd (cc)
 
 abbrev the_ok : {A : Type 0} → A → Result A PolicyFault
 the_ok x = Ok x
