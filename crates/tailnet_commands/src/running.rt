@@ -42,8 +42,8 @@ fn run_behind<I: Source, O: Sink, P: Opener, C: Clock, N: Entropy>(
     requires site { front.now ≡ site_of settings }
     ensures ran { let at = giving O.holds O.write_faults C.answer N.word N.faults in
         Ran result settings seed
-        (world P.told P.faults opener.old (told I.left I.read_faults input.old (at output.old clock.old entropy.old)))
-        (world P.told P.faults opener.new (told I.left I.read_faults input.new (at output.new clock.new entropy.new))) }
+        (world P.told P.asked P.faults opener.old (told I.left I.read_faults input.old (at output.old clock.old entropy.old)))
+        (world P.told P.asked P.faults opener.new (told I.left I.read_faults input.new (at output.new clock.new entropy.new))) }
 {
     let moment = Moment::clamp(clock.seconds());
     let requests = settings.fields().requests;
@@ -80,8 +80,8 @@ pub(crate) fn run<I: Source, O: Sink, P: Opener, C: Clock, N: Entropy>(
 ) -> Ended
     ensures ran { let at = giving O.holds O.write_faults C.answer N.word N.faults in
         Ran result settings seed
-        (world P.told P.faults opener.old (told I.left I.read_faults input.old (at output.old clock.old entropy.old)))
-        (world P.told P.faults opener.new (told I.left I.read_faults input.new (at output.new clock.new entropy.new))) }
+        (world P.told P.asked P.faults opener.old (told I.left I.read_faults input.old (at output.old clock.old entropy.old)))
+        (world P.told P.asked P.faults opener.new (told I.left I.read_faults input.new (at output.new clock.new entropy.new))) }
 {
     match Front::new(alloc, &settings) {
         Ok(front) => run_behind(

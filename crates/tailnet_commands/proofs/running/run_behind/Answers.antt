@@ -21,7 +21,8 @@ returns-in-Ok-open g c =
           (where_given _ (g.P.Opener.told c.args.opener.now) _ c.in-Ok.ensures.gives opened.rows)
           talked
           (where_still _ _ (g.P.Opener.told c.close-in-Ok-open.new.self) c.close-in-Ok-open.ensures.told c.close.ensures.told)
-          (omega (arith, c.close-in-Ok-open.ensures.faults, c.in-Ok.ensures.later, ap g.P.Keeper.Keeper.faults c.close.ensures.value));
+          (omega (arith, c.close-in-Ok-open.ensures.faults, c.in-Ok.ensures.later, ap g.P.Keeper.Keeper.faults c.close.ensures.value))
+          (rw c.fields.ensures.value at (c.close-in-Ok-open.ensures.asked ∙ c.in-Ok.ensures.asked));
     }
 
 pub returns-in-Err : goal.returns-in-Err
@@ -37,6 +38,7 @@ returns-in-Err g c =
             write_faults = refl;
             rows = kept_given (g.P.Opener.told c.args.opener.now) _ (g.P.Opener.told c.close-in-Err.new.self) gives (still_still _ _ _ failed.kept c.close-in-Err.ensures.told);
           })
+          (rw c.fields.ensures.value at (c.close-in-Err.ensures.asked ∙ c.in-Ok.ensures.asked))
           (λ h. omega (arith, failed.fault h, c.close-in-Err.ensures.faults, c.in-Ok.ensures.later, c.in-Ok.ensures.fresh))
           (λ kind id h. given_some _ (g.P.Opener.told c.args.opener.now) _ gives (failed.damaged kind id h));
     }
