@@ -46,8 +46,9 @@ fn run_behind<I: Source, O: Sink, P: Opener, C: Clock, N: Entropy>(
         (world P.told P.asked P.faults opener.new (told I.left I.read_faults input.new (at output.new clock.new entropy.new))) }
 {
     let moment = Moment::clamp(clock.seconds());
-    let requests = settings.fields().requests;
-    let keeper = match opener.open(alloc, settings.fields().database.as_str()) {
+    let fields = settings.fields();
+    let requests = fields.requests;
+    let keeper = match opener.open(alloc, fields.database.as_str()) {
         Ok(keeper) => keeper,
         Err(EdgeFault::Failed) => return Ended::KeeperFault,
         Err(EdgeFault::NoMemory) => return Ended::NoMemory,
