@@ -153,17 +153,21 @@ class Front:
         text = text_of(self.whole_map(row))
         return len(text).to_bytes(4, "little") + text
 
+    def resolvers(self, addresses):
+        return [{"Addr": address} for address in addresses]
+
     def whole_map(self, row):
         """Without a policy every live machine is a peer of every other, and all may send to it."""
         peers = [other for other in self.tailnet.machines.values() if other is not row and self.tailnet.is_live(other)]
         ports = {"First": 0, "Last": 65535}
+        routes = self.settings.get("dns.routes", {})
         whole = {
             "DNSConfig": {
-                "Domains": [self.settings["base_domain"]],
+                "Domains": self.settings.get("dns.search", [self.settings["base_domain"]]),
                 "ExtraRecords": [],
-                "Proxied": True,
-                "Resolvers": [],
-                "Routes": {},
+                "Proxied": self.settings.get("dns.magic", True),
+                "Resolvers": self.resolvers(self.settings.get("dns.resolvers", [])),
+                "Routes": {domain: self.resolvers(routes[domain]) for domain in sorted(routes)},
             },
             "Domain": self.settings["base_domain"],
             "Node": self.node(row),

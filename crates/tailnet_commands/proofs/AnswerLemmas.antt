@@ -18,7 +18,7 @@ use Rattle.desk_front.specs.declared.want.Wanted.TheVariants as wants
 use Rattle.desk_front.specs.declared.front_settings.FrontSettings.{FrontSettings}
 use Rattle.tailnet_commands.specs.Outside.{Giving, Took, Drew}
 use Rattle.tailnet_commands.specs.Asked.{IsAsked, IsClosing, Follows}
-use Rattle.tailnet_commands.specs.Exchanges.{Answered, IsExchange, IsOutcome, ended_by}
+use Rattle.tailnet_commands.specs.Exchanges.{Answered, IsExchange, IsOutcome, breaks, ended_by}
 use Rattle.tailnet_commands.specs.Pieces.{Sent, IsSent}
 use Rattle.tailnet_commands.specs.declared.closed.Closed.{Closed}
 use Rattle.tailnet_commands.specs.declared.closed.Closed.TheVariants.{End, Early, ReadFault, WriteFault, NoMemory}
@@ -111,13 +111,14 @@ follows_early T done = record { is = λ written bytes before now h. (h, refl) }
 
 -- an exchange without a turn
 pub answered_fixed : {T S : Type 0} (turn : S → Event → Reply → S → Type 0) (site : FrontSettings) (sent outcome : Result T Closed) (request : Request) (last : Bool) (bytes : List ℕ) (ended : Option Closed) (old new : Giving) (s : S)
-    → IsExchange site last (record { request = request; turns = []; bytes = bytes; ended = ended })
+    → IsExchange site last (record { request = request; turns = []; bytes = bytes; ended = ended; broken = breaks outcome })
     → ((k : ℕ) → new.answers k ≡ old.answers k) → ((k : ℕ) → new.words k ≡ old.words k) → old.word_faults ≤ new.word_faults
     → Sent sent old.held new.held old.write_faults new.write_faults bytes → Follows sent outcome ended → Answered turn site outcome request last old new s s
 answered_fixed turn site sent outcome request last bytes ended old new s is a w f wrote follows = record {
-  exchange = record { request = request; turns = []; bytes = bytes; ended = ended };
+  exchange = record { request = request; turns = []; bytes = bytes; ended = ended; broken = breaks outcome };
   request_is = refl;
   is = is;
+  broken_is = refl;
   chain = refl;
   took = took_none old new a w f;
   written = wrote.written;
@@ -133,8 +134,9 @@ pub answered_ask : {T S : Type 0} (turn : S → Event → Reply → S → Type 0
 answered_ask turn site sent outcome request last ask old new s t wants_it asked follows =
     let close = request.close || last in
     record {
-      exchange = record { request = request; turns = asked.turned ∷ []; bytes = reply_bytes site ask asked.turned.reply close; ended = ended_by close };
+      exchange = record { request = request; turns = asked.turned ∷ []; bytes = reply_bytes site ask asked.turned.reply close; ended = ended_by close; broken = breaks outcome };
       request_is = refl;
+      broken_is = refl;
       is = inr (rw wants_it (asked.turned, refl, asked.ask_is, asked.words_are, refl, refl));
       chain = (t, asked.leads, refl);
       took = asked.took;
@@ -155,12 +157,12 @@ or_true false = refl
 
 -- want of memory before any event
 pub exchange_unanswered : (site : FrontSettings) (request : Request) (last close : Bool) (bytes : List ℕ) → close ≡ (request.close || last) → bytes ≡ answer 503 (codes "{\"error\":\"NoMemory\"}") close
-    → IsExchange site last (record { request = request; turns = []; bytes = bytes; ended = ended_by close })
+    → IsExchange site last (record { request = request; turns = []; bytes = bytes; ended = ended_by close; broken = false })
 exchange_unanswered site request last close bytes e is = inl (refl, is ∙ ap (λ (b : Bool). answer 503 (codes "{\"error\":\"NoMemory\"}") b) e, ap ended_by e)
 
 -- a fixed answer that leaves the connection as the request wants it
 pub exchange_fixed : (site : FrontSettings) (request : Request) (last close : Bool) (status : ℕ) (body : List ℕ) → close ≡ (request.close || last) → wants.Answer status body ≡ wanted_of site request → (status == 400) ≡ false
-    → IsExchange site last (record { request = request; turns = []; bytes = answer status body close; ended = ended_by close })
+    → IsExchange site last (record { request = request; turns = []; bytes = answer status body close; ended = ended_by close; broken = false })
 exchange_fixed site request last close status body e w test =
     let closing : close ≡ ((request.close || last) || (status == 400)) = e ∙ sym (ap (λ (b : Bool). (request.close || last) || b) test ∙ or_false (request.close || last)) in
     let ending : ended_by close ≡ (if status == 400 then Some Early else ended_by (request.close || last)) = ap ended_by e ∙ sym (ap (λ (b : Bool). if b then Some Early else ended_by (request.close || last)) test) in
@@ -168,7 +170,7 @@ exchange_fixed site request last close status body e w test =
 
 -- the answer to a faulty request ends the connection
 pub exchange_faulty : (site : FrontSettings) (request : Request) (last : Bool) (status : ℕ) (body : List ℕ) → status ≡ 400 → wants.Answer status body ≡ wanted_of site request
-    → IsExchange site last (record { request = request; turns = []; bytes = answer 400 body true; ended = Some Early })
+    → IsExchange site last (record { request = request; turns = []; bytes = answer 400 body true; ended = Some Early; broken = false })
 exchange_faulty site request last status body is w =
     let w400 : wants.Answer 400 body ≡ wanted_of site request = rw is at w in
     inr (rw (← w400) (refl, ap (λ (b : Bool). answer 400 body b) (sym (or_true (request.close || last))), refl))

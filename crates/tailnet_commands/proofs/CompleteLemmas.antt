@@ -92,19 +92,19 @@ never_early turn site limit old new s t input requests whole ok is serves =
 pub complete_of : (e : Ended) (file : Option (Option (List ℕ))) (before now : ℕ) (seed : Option (List ℕ)) (old new : World) → Piped e file before now seed old new → IsClear file before now old new → (status_of e ≡ status.Ok) ⊎ (status_of e ≡ status.NoMemory)
 complete_of (ended.Closed closed.End) file before now seed old new p c = inl refl
 complete_of (ended.Closed closed.Early) file before now seed old new p c = absurd (
-    let told : settings_of c.text ≡ Ok p.settings = rw c.file_is at p.settings_are in
+    let told : settings_of c.text ≡ Ok p.settings = (rw c.file_is at p.settings_are).1 in
     let is = c.settings_are in
     let same : c.settings ≡ p.settings = cc in
     never_early _ (front_settings p.settings) _ _ new.told _ _ c.input c.requests c.whole
     (subst (λ (f : SettingsFields). AllByRecursion (λ r. IsAccepted (wanted_of (front_settings f) r)) c.requests) same c.accepted) c.input_is p.talk.serves)
 complete_of (ended.Closed closed.ReadFault) file before now seed old new p c = absurd (c.no_read_fault p.talk.serves.ending.3)
-complete_of (ended.Closed closed.WriteFault) file before now seed old new p c = absurd (c.no_write_fault p.talk.serves.ending)
+complete_of (ended.Closed closed.WriteFault) file before now seed old new p c = absurd (c.no_write_fault p.talk.serves.ending.1)
 complete_of (ended.Closed closed.NoMemory) file before now seed old new p c = inr refl
-complete_of (ended.Settings rule key) file before now seed old new p c = absurd (let broken = rw c.file_is at p.1 in let kept = c.settings_are in cc)
-complete_of ended.TooLarge file before now seed old new p c = absurd (let large = rw c.file_is at p.1 in omega (arith, large, c.small))
-complete_of ended.FileFault file before now seed old new p c = absurd (c.no_file_fault p.1)
-complete_of ended.KeeperFault file before now seed old new p c = absurd (c.no_keeper_fault p.1)
-complete_of (ended.Damaged kind id) file before now seed old new p c = absurd (let damaged = rw c.rows_are at p.1 in let sound = c.served in cc)
+complete_of (ended.Settings rule key) file before now seed old new p c = absurd (let broken = (rw c.file_is at p.2).1 in let kept = c.settings_are in cc)
+complete_of ended.TooLarge file before now seed old new p c = absurd (let large = rw c.file_is at p.2 in omega (arith, large, c.small))
+complete_of ended.FileFault file before now seed old new p c = absurd (c.no_file_fault p.2)
+complete_of ended.KeeperFault file before now seed old new p c = absurd (c.no_keeper_fault p.2)
+complete_of (ended.Damaged kind id) file before now seed old new p c = absurd (let damaged = rw c.rows_are at p.2 in let sound = c.served in cc)
 complete_of ended.NoMemory file before now seed old new p c = inr refl
 
 pub complete : IsComplete

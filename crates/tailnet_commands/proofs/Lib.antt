@@ -6,3 +6,4 @@ pub mod TalkLemmas
 pub mod RunLemmas
 pub mod PipeLemmas
 pub mod CompleteLemmas
+pub mod Heard

@@ -1,5 +1,5 @@
 -- What the command `pipe` comes to.
-use Rattle.std.proofs.Common.{ℕ, Option, List}
+use Rattle.std.proofs.Common.{ℕ, Option, List, inl, inr}
 use Rattle.settings.specs.declared.fields.SettingsFields.{SettingsFields}
 use Rattle.tailnet_commands.specs.Run.{Ran, World}
 use Rattle.tailnet_commands.specs.Pipe.{AreSettingsOf, Piped}
@@ -13,6 +13,7 @@ ran_piped (ended.Closed c) settings file before now seed old new are r = record 
 ran_piped (ended.Settings rule key) settings file before now seed old new are r = absurd r
 ran_piped ended.TooLarge settings file before now seed old new are r = absurd r
 ran_piped ended.FileFault settings file before now seed old new are r = absurd r
-ran_piped ended.KeeperFault settings file before now seed old new are r = r
-ran_piped (ended.Damaged kind id) settings file before now seed old new are r = r
-ran_piped ended.NoMemory settings file before now seed old new are r = r
+ran_piped ended.KeeperFault settings file before now seed old new are r = (r.0, (settings, are, r.1), r.2)
+ran_piped (ended.Damaged kind id) settings file before now seed old new are r = (r.0, (settings, are, r.1), r.2)
+ran_piped ended.NoMemory settings file before now seed old new are (quiet, inl unasked) = (quiet, inl unasked)
+ran_piped ended.NoMemory settings file before now seed old new are (quiet, inr asked) = (quiet, inr (settings, are, asked))

@@ -1,5 +1,5 @@
 -- A run over settings.
-use Rattle.std.proofs.Common.{◌≡◌, ◌+◌, ◌-◌, ℕ, ℤ, Option, None, Some, List, [], ◌++◌, length, refl, ap, sym, ◌∙◌, arith, subst}
+use Rattle.std.proofs.Common.{◌≡◌, ◌+◌, ◌-◌, ℕ, ℤ, Option, None, Some, List, [], ◌++◌, length, inr, refl, ap, sym, ◌∙◌, arith, subst}
 use Rattle.std.specs.Prelude.{IfSome}
 use Rattle.std.specs.Option.{option_map}
 use Rattle.moments.specs.Moments.{clamped}
@@ -14,7 +14,7 @@ use Rattle.tailnet_desk.proofs.Histories.{history_of}
 use Rattle.desk_front.specs.Wanted.{front_settings}
 use Rattle.tailnet_commands.specs.Exchanges.{turns_of}
 use Rattle.tailnet_commands.specs.Outside.{from_number}
-use Rattle.tailnet_commands.specs.Run.{Conversation, World, Ran, Untouched, IsFaultOf}
+use Rattle.tailnet_commands.specs.Run.{Conversation, IsAskedFor, World, Ran, Untouched, IsFaultOf}
 use Rattle.tailnet_commands.specs.Talk.{Talked, after_answers}
 use Rattle.tailnet_commands.proofs.TalkLemmas.{serves_from, with_answers}
 use Rattle.tailnet_commands.proofs.Tellings.{same_moments}
@@ -56,8 +56,8 @@ still_still {A} a (Some z) (Some y) h k = let e : Some z ≡ Some y = k in h ∙
 pub talked_run : (closed : Closed) (settings : SettingsFields) (seed : Option (List ℕ)) (moment : ℤ) (old new : World) (f : ℕ → Option ℤ) (d : State) (count : ℕ) (final : Point)
     → IsWhereTold moment (option_map clamped (old.told.giving.answers 0)) → ((k : ℕ) → f k ≡ old.told.giving.answers (k + 1))
     → d ≡ opening settings d.rows moment → IsWhereTold d.rows old.rows → Talked (front_settings settings) closed settings.requests seed (with_answers old.told f) new.told (record { state = d; count = count }) final
-    → IsWhereTold final.state.rows new.rows → RoseBy final.count old.keeper_faults new.keeper_faults → Conversation closed settings seed old new
-talked_run closed settings seed moment old new f d count final at shifted is rows_told talked last rose =
+    → IsWhereTold final.state.rows new.rows → RoseBy final.count old.keeper_faults new.keeper_faults → IsAskedFor settings old new → Conversation closed settings seed old new
+talked_run closed settings seed moment old new f d count final at shifted is rows_told talked last rose asked =
     let n = length talked.seeding in
     let served = serves_from Deals (front_settings settings) closed settings.requests [] (after_answers n (with_answers old.told f)) new.told talked.seeded final (from_number (1 + n) old.told.giving.answers)
     (λ k. shifted (k + n) ∙ ap old.told.giving.answers (omega arith)) talked.serves in
@@ -66,6 +66,7 @@ talked_run closed settings seed moment old new f d count final at shifted is row
     subst (λ (s : State). Chain Deals (record { state = s; count = count }) (talked.seeding ++ turns_of talked.serves.exchanges) final) is talked.chain in
     record {
       rows = d.rows;
+      asked = asked;
       rows_told = rows_told;
       moment = moment;
       moment_told = at;
@@ -82,8 +83,8 @@ talked_run closed settings seed moment old new f d count final at shifted is row
     }
 
 -- a desk that didn't open
-pub faulted : (f : OpenFault) (e : Ended) (settings : SettingsFields) (seed : Option (List ℕ)) (old new : World) → IsFaultOf f e → Untouched old new → (f ≡ fault.KeeperFault → Rose old.keeper_faults new.keeper_faults)
+pub faulted : (f : OpenFault) (e : Ended) (settings : SettingsFields) (seed : Option (List ℕ)) (old new : World) → IsFaultOf f e → Untouched old new → IsAskedFor settings old new → (f ≡ fault.KeeperFault → Rose old.keeper_faults new.keeper_faults)
     → ((kind : _) (id : ℕ) → f ≡ fault.Damaged kind id → IfSome old.rows (λ rows. unserved rows ≡ Some (record { kind = kind; id = id }))) → Ran e settings seed old new
-faulted fault.KeeperFault e settings seed old new is quiet rose damaged = rw is (quiet, rose refl)
-faulted (fault.Damaged kind id) e settings seed old new is quiet rose damaged = rw is (quiet, damaged kind id refl)
-faulted fault.NoMemory e settings seed old new is quiet rose damaged = rw is quiet
+faulted fault.KeeperFault e settings seed old new is quiet asked rose damaged = rw is (quiet, asked, rose refl)
+faulted (fault.Damaged kind id) e settings seed old new is quiet asked rose damaged = rw is (quiet, asked, damaged kind id refl)
+faulted fault.NoMemory e settings seed old new is quiet asked rose damaged = rw is (quiet, inr asked)

@@ -16,8 +16,9 @@ use Rattle.desk_state.specs.declared.reply.Reply.{Reply}
 use Rattle.desk_front.specs.declared.front_settings.FrontSettings.{FrontSettings}
 use Rattle.tailnet_commands.specs.Outside.{Giving, Took}
 use Rattle.tailnet_commands.specs.Asked.{IsRefused, IsRefusedBy}
-use Rattle.tailnet_commands.specs.Exchanges.{Exchange, IsExchange, AreExchanges, Answered, IsOutcome, turns_of, answers_of, bad_answer}
-use Rattle.tailnet_commands.specs.Serve.{Serves, Goes, Ends, Told}
+use Rattle.tailnet_commands.specs.Exchanges.{Exchange, IsExchange, AreExchanges, Answered, IsOutcome, breaks, turns_of, answers_of, end_of, bad_answer}
+use Rattle.tailnet_commands.specs.Pieces.{IsPrefix}
+use Rattle.tailnet_commands.specs.Serve.{Serves, Goes, Ends, IsExtra, Told}
 use Rattle.tailnet_commands.proofs.AnswerLemmas.{took_none}
 use Rattle.tailnet_commands.proofs.Tellings.{took-append}
 use Rattle.tailnet_commands.proofs.Writes.{prefix_more}
@@ -49,12 +50,12 @@ serves_none turn site closed limit held read old new s same came later ends =
     }
 
 refused_ends : (closed : Closed) (rest : List ℕ) (status : ℕ) (written : List ℕ) (old new : Told) → IsTail rest (bad status) → IsRefusedBy written (bad_answer status) old.giving.write_faults new.giving.write_faults closed
-    → Ends closed [] rest (bad_answer status) written old new
-refused_ends End rest status written old new tail h = absurd h
-refused_ends Early rest status written old new tail h = (h, inr (refl, inr (status, tail, refl)))
-refused_ends ReadFault rest status written old new tail h = absurd h
-refused_ends WriteFault rest status written old new tail h = h
-refused_ends NoMemory rest status written old new tail h = tt
+    → IsPrefix written (bad_answer status) → Ends closed [] rest (bad_answer status) written old new
+refused_ends End rest status written old new tail h front = absurd h
+refused_ends Early rest status written old new tail h front = (h, inr (refl, inr (status, tail, refl)), tt)
+refused_ends ReadFault rest status written old new tail h front = absurd h
+refused_ends WriteFault rest status written old new tail h front = (front, h)
+refused_ends NoMemory rest status written old new tail h front = front
 
 -- nothing was served, and a refused head was answered
 pub serves_refused : {S : Type 0} (turn : S → Event → Reply → S → Type 0) (site : FrontSettings) (closed : Closed) (limit : ℕ) (held new_held : List ℕ) (status : ℕ) (old new : Told) (s : S)
@@ -72,12 +73,12 @@ serves_refused turn site closed limit held new_held status old new s took later 
   each = tt;
   chain = refl;
   took = took_none old.giving new.giving answers words faults;
-  extra_is = inr (status, took.answers.0, refl);
+  extra_is = inr (refl, (status, took.answers.0, refl));
   front = refused.front;
   to_sink = refused.to_sink;
   reads_later = later;
   writes_later = refused.later;
-  ending = refused_ends closed (held ++ took.read) status refused.written old new took.answers.0 refused.is;
+  ending = refused_ends closed (held ++ took.read) status refused.written old new took.answers.0 refused.is refused.front;
 }
 
 or_none : (o : Option Closed) → option_or o None ≡ o
@@ -85,12 +86,12 @@ or_none None = refl
 or_none (Some x) = refl
 
 last_ends : (T : Type 0) (closed : Closed) (x : Exchange) (rest written : List ℕ) (old new : Told) → IsOutcome {T = T} (Err closed) x.ended written x.bytes old.giving.write_faults new.giving.write_faults
-    → Ends closed (x ∷ []) rest [] written old new
-last_ends T End x rest written old new h = (h.0 ∙ sym (append-nil x.bytes), inl (or_none x.ended ∙ h.1))
-last_ends T Early x rest written old new h = (h.0 ∙ sym (append-nil x.bytes ∙ ap (λ b. b) refl) ∙ sym (append-nil (x.bytes ++ [])), inl (or_none x.ended ∙ h.1))
-last_ends T ReadFault x rest written old new h = absurd h
-last_ends T WriteFault x rest written old new h = h
-last_ends T NoMemory x rest written old new h = tt
+    → IsPrefix written x.bytes → x.broken ≡ breaks {T = T} (Err closed) → Ends closed (x ∷ []) rest [] written old new
+last_ends T End x rest written old new h front b = (h.0 ∙ sym (append-nil x.bytes), inl (or_none x.ended ∙ h.1), (b, tt))
+last_ends T Early x rest written old new h front b = (h.0 ∙ sym (append-nil x.bytes ∙ ap (λ b. b) refl) ∙ sym (append-nil (x.bytes ++ [])), inl (or_none x.ended ∙ h.1), (b, tt))
+last_ends T ReadFault x rest written old new h front b = absurd h
+last_ends T WriteFault x rest written old new h front b = (inl (b, refl, refl, front), h)
+last_ends T NoMemory x rest written old new h front b = inl (b, refl, refl, front)
 
 -- the last request was served
 pub served_last : {T S : Type 0} (turn : S → Event → Reply → S → Type 0) (site : FrontSettings) (outcome : Result T Closed) (request : Request) (last : Bool) (held new_held : List ℕ) (old new : Told) (s t : S)
@@ -116,7 +117,7 @@ served_last {T} turn site (Err closed) request last held new_held old new s t to
       to_sink = answered.to_sink;
       reads_later = later;
       writes_later = answered.later;
-      ending = last_ends T closed x new_held answered.written old new answered.outcome_is;
+      ending = last_ends T closed x new_held answered.written old new answered.outcome_is answered.front answered.broken_is;
     }
 
 -- a request was served, and the connection goes on
@@ -131,6 +132,7 @@ goes_one turn site (Ok done) request last held new_held old new s t took later a
   bytes_read = rw answered.request_is took.answers;
   is = answered.is;
   open_still = answered.outcome_is.1;
+  unbroken = answered.broken_is;
   chain = answered.chain;
   took = answered.took;
   to_sink = answered.to_sink ∙ ap (λ b. and_held old.giving.held b) answered.outcome_is.0;
@@ -139,13 +141,16 @@ goes_one turn site (Ok done) request last held new_held old new s t took later a
 }
 goes_one turn site (Err closed) request last held new_held old new s t took later answered more = tt
 
-ends_more : (closed : Closed) (x : Exchange) (xs : List Exchange) (rest extra written : List ℕ) (old mid new : Told) → x.ended ≡ None → old.read_faults ≤ mid.read_faults → old.giving.write_faults ≤ mid.giving.write_faults
+ends_more : (closed : Closed) (x : Exchange) (xs : List Exchange) (rest extra written : List ℕ) (old mid new : Told) → x.ended ≡ None → x.broken ≡ false → old.read_faults ≤ mid.read_faults → old.giving.write_faults ≤ mid.giving.write_faults
     → Ends closed xs rest extra written mid new → Ends closed (x ∷ xs) rest extra (x.bytes ++ written) old new
-ends_more End x xs rest extra written old mid new still r w e = rw still (ap (λ b. x.bytes ++ b) e.0, e.1)
-ends_more Early x xs rest extra written old mid new still r w e = rw still (ap (λ b. x.bytes ++ b) e.0 ∙ sym (append_assoc x.bytes (answers_of xs) extra), e.1)
-ends_more ReadFault x xs rest extra written old mid new still r w e = rw still (ap (λ b. x.bytes ++ b) e.0, e.1, e.2, rose_later old.read_faults mid.read_faults new.read_faults r e.3)
-ends_more WriteFault x xs rest extra written old mid new still r w e = rose_later old.giving.write_faults mid.giving.write_faults new.giving.write_faults w e
-ends_more NoMemory x xs rest extra written old mid new still r w e = tt
+ends_more End x xs rest extra written old mid new still u r w e = rw still (ap (λ b. x.bytes ++ b) e.0, e.1, (u, e.2))
+ends_more Early x xs rest extra written old mid new still u r w e = rw still (ap (λ b. x.bytes ++ b) e.0 ∙ sym (append_assoc x.bytes (answers_of xs) extra), e.1, (u, e.2))
+ends_more ReadFault x xs rest extra written old mid new still u r w e = rw still (ap (λ b. x.bytes ++ b) e.0, e.1, e.2, rose_later old.read_faults mid.read_faults new.read_faults r e.3, (u, e.4))
+ends_more WriteFault x xs rest extra written old mid new still u r w e = (inr (written, u, refl, e.0), rose_later old.giving.write_faults mid.giving.write_faults new.giving.write_faults w e.1)
+ends_more NoMemory x xs rest extra written old mid new still u r w e = inr (written, u, refl, e)
+
+extra_more : (x : Exchange) (xs : List Exchange) (rest extra : List ℕ) → x.ended ≡ None → IsExtra (end_of xs) rest extra → IsExtra (end_of (x ∷ xs)) rest extra
+extra_more x xs rest extra still e = rw still e
 
 -- one exchange, and then the rest of the connection
 pub serves_more : {S : Type 0} (turn : S → Event → Reply → S → Type 0) (site : FrontSettings) (closed : Closed) (limit more : ℕ) (last : Bool) (held mid_held : List ℕ) (old mid new : Told) (s u t : S) → limit ≡ more - 1 → 0 < more → last ≡ (more == 1)
@@ -163,13 +168,13 @@ serves_more turn site closed limit more last held mid_held old mid new s u t is 
       written = x.bytes ++ serves.written;
       from_source = goes.from_source ∙ ap (λ o. and_then_left goes.read o) serves.from_source ∙ left_more new.left goes.read serves.read;
       bytes_read = (mid_held ++ serves.read, whole, serves.bytes_read);
-      each = (some, subst (λ (b : Bool). IsExchange site b x) is_last goes.is, λ _. goes.open_still, subst (λ (n : ℕ). AreExchanges site n xs) is serves.each);
+      each = (some, subst (λ (b : Bool). IsExchange site b x) is_last goes.is, λ _. (goes.open_still, goes.unbroken), subst (λ (n : ℕ). AreExchanges site n xs) is serves.each);
       chain = Chain-append turn s x.turns (turns_of xs) u t goes.chain serves.chain;
       took = took-append old.giving mid.giving new.giving x.turns (turns_of xs) goes.took serves.took;
-      extra_is = serves.extra_is;
+      extra_is = extra_more x xs serves.rest serves.extra goes.open_still serves.extra_is;
       front = rw (append_assoc x.bytes (answers_of xs) serves.extra) (prefix_more x.bytes serves.written (answers_of xs ++ serves.extra) serves.front);
       to_sink = serves.to_sink ∙ ap (λ o. and_held o serves.written) goes.to_sink ∙ held_more old.giving.held x.bytes serves.written;
       reads_later = omega (arith, goes.reads_later, serves.reads_later);
       writes_later = omega (arith, goes.writes_later, serves.writes_later);
-      ending = ends_more closed x xs serves.rest serves.extra serves.written old mid new goes.open_still goes.reads_later goes.writes_later serves.ending;
+      ending = ends_more closed x xs serves.rest serves.extra serves.written old mid new goes.open_still goes.unbroken goes.reads_later goes.writes_later serves.ending;
     }

@@ -1,5 +1,5 @@
 -- What the command `policy-check` comes to.
-use Rattle.std.specs.Prelude.{◌≡◌, ℕ, Bool, Option, List, [], ◌++◌, length, codes, Result, Ok, Err, IfSome, IsSomeAnd, ◌==◌, if◌then◌else◌}
+use Rattle.std.specs.Prelude.{◌≡◌, ◌≤◌, ℕ, Bool, Option, List, [], ◌++◌, length, codes, Result, Ok, Err, IfSome, IsSomeAnd, ◌==◌, if◌then◌else◌}
 use Rattle.io_edge.specs.Edge.{Rose}
 use Rattle.policy_doc.specs.Document.{policy_of_text}
 use Rattle.tail_base.specs.Steps.{◌>>=◌, refuse_unless}
@@ -9,6 +9,7 @@ use Rattle.policy_rows.specs.declared.fault.PolicyFault.{PolicyFault}
 use Rattle.policy_rows.specs.declared.policy.Policy.{Policy}
 use Rattle.tailnet_commands.specs.Pieces.{Wrote}
 use Rattle.tailnet_commands.specs.Pipe.{IsTooLarge}
+use Rattle.tailnet_commands.specs.declared.limits.TheConstants.{FILE_LIMIT}
 use Rattle.tailnet_commands.specs.declared.status.Status.{Status}
 use Rattle.tailnet_commands.specs.declared.status.Status.TheVariants as status
 
@@ -30,10 +31,10 @@ abbrev pub verdict_status : Result (Unit {0}) PolicyFault → Status
 verdict_status (Ok sound) = status.Ok
 verdict_status (Err fault) = status.Refused
 
--- The file has a verdict, where it is told, and its line was written, or, where a write failed, a front of it.
+-- The file has at most 1 MiB and a verdict, where it is told, and its line was written, or, where a write failed, a front of it.
 pub record Judged (ended : Status) (file : Option (Option (List ℕ))) (old new : Option (List ℕ)) (before now : ℕ) : Type 0 where
   pub verdict : Result (Unit {0}) PolicyFault
-  pub verdict_is : IfSome file (λ held. IsSomeAnd held (λ text. verdict_of text ≡ verdict))
+  pub verdict_is : IfSome file (λ held. IsSomeAnd held (λ text. (length text ≤ FILE_LIMIT) × (verdict_of text ≡ verdict)))
   pub failed : Bool
   pub wrote : Wrote old new before now (verdict_line verdict) failed
   pub status_is : ended ≡ (if failed then status.WriteFault else verdict_status verdict)
@@ -56,7 +57,12 @@ Checked status.WriteFault file faults faults_after old new before now = Judged s
 Checked status.Settings file faults faults_after old new before now = IsTooLarge file × IsUnwritten old new before now
 Checked status.ReadFault file faults faults_after old new before now = Rose faults faults_after × IsUnwritten old new before now
 Checked status.NoMemory file faults faults_after old new before now = IsUnwritten old new before now
-Checked ended file faults faults_after old new before now = ⊥
+Checked status.Early file faults faults_after old new before now = ⊥
+Checked status.Usage file faults faults_after old new before now = ⊥
+Checked status.KeeperFault file faults faults_after old new before now = ⊥
+Checked status.Damaged file faults faults_after old new before now = ⊥
+Checked status.DoorFault file faults faults_after old new before now = ⊥
+Checked status.EntropyFault file faults faults_after old new before now = ⊥
 
 -- the line of a status on errors
 abbrev pub check_line : Status → List ℕ
@@ -64,4 +70,11 @@ check_line status.WriteFault = codes "tailnetd: write fault\n"
 check_line status.Settings = codes "tailnetd: file too large\n"
 check_line status.ReadFault = codes "tailnetd: read fault\n"
 check_line status.NoMemory = codes "tailnetd: no memory\n"
-check_line ended = []
+check_line status.Ok = []
+check_line status.Early = []
+check_line status.Usage = []
+check_line status.KeeperFault = []
+check_line status.Damaged = []
+check_line status.DoorFault = []
+check_line status.Refused = []
+check_line status.EntropyFault = []

@@ -11,8 +11,9 @@ use Rattle.net_rows.specs.declared.rows.Rows.{Rows}
 use Rattle.settings.specs.declared.fields.SettingsFields.{SettingsFields}
 use Rattle.tail_words.specs.SettingsText.{settings_of}
 use Rattle.tailnet_desk.specs.Opening.{unserved}
-use Rattle.tailnet_commands.specs.Pipe.{Outcome, file_limit}
+use Rattle.tailnet_commands.specs.Pipe.{Outcome}
 use Rattle.tailnet_commands.specs.Run.{World}
+use Rattle.tailnet_commands.specs.declared.limits.TheConstants.{FILE_LIMIT}
 use Rattle.tailnet_commands.specs.declared.status.Status.{Status}
 use Rattle.tailnet_commands.specs.declared.status.Status.TheVariants as status
 
@@ -26,7 +27,7 @@ IsAccepted (wants.Ask ask) = Unit {0}
 pub record IsClear (file : Option (Option (List ℕ))) (before now : ℕ) (old new : World) : Type 0 where
   pub text : List ℕ
   pub file_is : file ≡ Some (Some text)
-  pub small : length text ≤ file_limit
+  pub small : length text ≤ FILE_LIMIT
   pub settings : SettingsFields
   pub settings_are : settings_of text ≡ Ok settings
   pub rows : Rows

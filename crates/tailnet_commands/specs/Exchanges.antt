@@ -20,12 +20,13 @@ use Rattle.tailnet_commands.specs.Pieces.{IsPrefix}
 use Rattle.tailnet_commands.specs.declared.closed.Closed.{Closed}
 use Rattle.tailnet_commands.specs.declared.closed.Closed.TheVariants.{End, Early, ReadFault, WriteFault, NoMemory}
 
--- a served request, its turns, the bytes of its answer, and how it ended the connection, if it did
+-- a served request, its turns, the bytes of its answer, how it ended the connection, if it did, and whether its writing broke off
 pub record Exchange : Type 0 where
   pub request : Request
   pub turns : List Turned
   pub bytes : List ℕ
   pub ended : Option Closed
+  pub broken : Bool
 
 abbrev pub ended_by : Bool → Option Closed
 ended_by close = if close then Some End else None
@@ -50,10 +51,10 @@ IsExchange site last x =
     IsUnanswered (x.request.close || last) x.turns x.bytes x.ended
     ⊎ IsAnswered site (x.request.close || last) (wanted_of site x.request) x.turns x.bytes x.ended
 
--- So many requests are served at most; only the last of them may have ended the connection.
+-- So many requests are served at most; only the last of them may have ended the connection, or have broken off.
 abbrev pub AreExchanges : FrontSettings → ℕ → List Exchange → Type 0
 AreExchanges site limit [] = Unit {0}
-AreExchanges site limit (x ∷ xs) = (0 < limit) × IsExchange site (limit == 1) x × (xs ≢ [] → x.ended ≡ None) × AreExchanges site (limit - 1) xs
+AreExchanges site limit (x ∷ xs) = (0 < limit) × IsExchange site (limit == 1) x × (xs ≢ [] → (x.ended ≡ None) × (x.broken ≡ false)) × AreExchanges site (limit - 1) xs
 
 abbrev pub requests_of : List Exchange → List Request
 requests_of xs = map (λ x. x.request) xs
@@ -78,11 +79,23 @@ IsOutcome (Err ReadFault) ended written bytes before now = ⊥
 IsOutcome (Err WriteFault) ended written bytes before now = Rose before now
 IsOutcome (Err NoMemory) ended written bytes before now = Unit {0}
 
+-- the writing of an answer broke off: a write failed, or memory ran out
+abbrev pub breaks : {T : Type 0} → Result T Closed → Bool
+breaks (Err WriteFault) = true
+breaks (Err NoMemory) = true
+breaks outcome = false
+
+-- no writing broke off
+abbrev pub AreUnbroken : List Exchange → Type 0
+AreUnbroken [] = Unit {0}
+AreUnbroken (x ∷ xs) = (x.broken ≡ false) × AreUnbroken xs
+
 -- One request was served.
 pub record Answered {T S : Type 0} (turn : S → Event → Reply → S → Type 0) (site : FrontSettings) (outcome : Result T Closed) (request : Request) (last : Bool) (old new : Giving) (s t : S) : Type 0 where
   pub exchange : Exchange
   pub request_is : exchange.request ≡ request
   pub is : IsExchange site last exchange
+  pub broken_is : exchange.broken ≡ breaks outcome
   pub chain : Chain turn s exchange.turns t
   pub took : Took old new exchange.turns
   pub written : List ℕ

@@ -1,6 +1,7 @@
 pub mod Outside
 pub mod Pieces
 pub mod Lines
+pub mod Numbers
 pub mod Exchanges
 pub mod Asked
 pub mod Serve

@@ -45,7 +45,11 @@ usage_line = codes "tailnetd: usage\n"
 abbrev pub is_made : Ended → Bool
 is_made (ended.Settings rule key) = true
 is_made (ended.Damaged kind id) = true
-is_made ended = false
+is_made (ended.Closed closing) = false
+is_made ended.TooLarge = false
+is_made ended.FileFault = false
+is_made ended.KeeperFault = false
+is_made ended.NoMemory = false
 
 -- Errors got the line; or, where a write of it failed, a front of it; or nothing, where the line takes memory to make.
 pub record Noted (line : List ℕ) (made : Bool) (old new : Option (List ℕ)) (before now : ℕ) : Type 0 where

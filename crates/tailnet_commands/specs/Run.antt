@@ -1,7 +1,8 @@
 -- A run of `pipe`.
-use Rattle.std.specs.Prelude.{◌≡◌, ◌+◌, ℕ, ℤ, Option, Some, List, [], ◌++◌, length, IfSome}
+use Rattle.std.specs.Prelude.{◌≡◌, ◌+◌, ◌⊎◌, ℕ, ℤ, Option, Some, List, [], ◌++◌, length, IfSome}
 use Rattle.std.specs.Option.{option_map}
 use Rattle.moments.specs.Moments.{clamped}
+use Rattle.io_edge.specs.Asked.{and_asked}
 use Rattle.io_edge.specs.Edge.{Rose, RoseBy, IsWhereTold}
 use Rattle.net_rows.specs.declared.rows.Rows.{Rows}
 use Rattle.settings.specs.declared.fields.SettingsFields.{SettingsFields}
@@ -19,14 +20,15 @@ use Rattle.tailnet_commands.specs.declared.closed.Closed.{Closed}
 use Rattle.tailnet_commands.specs.declared.ended.Ended.{Ended}
 use Rattle.tailnet_commands.specs.declared.ended.Ended.TheVariants as ended
 
--- what the connection's objects tell, the opener's rows, and its count of faults
+-- what the connection's objects tell, the opener's rows, the names that it was asked for, and its count of faults
 pub record World : Type 0 where
   pub told : Told
   pub rows : Option Rows
+  pub asked : Option (List (List ℕ))
   pub keeper_faults : ℕ
 
-abbrev pub world : {P : Type 0} → (P → Option Rows) → (P → ℕ) → P → Told → World
-world rows faults opener told = record { told = told; rows = rows opener; keeper_faults = faults opener }
+abbrev pub world : {P : Type 0} → (P → Option Rows) → (P → Option (List (List ℕ))) → (P → ℕ) → P → Told → World
+world rows asked faults opener told = record { told = told; rows = rows opener; asked = asked opener; keeper_faults = faults opener }
 
 -- nothing was read or written, and the opener's rows are as before
 pub record Untouched (old new : World) : Type 0 where
@@ -36,9 +38,18 @@ pub record Untouched (old new : World) : Type 0 where
   pub write_faults : new.told.giving.write_faults ≡ old.told.giving.write_faults
   pub rows : IfSome old.rows (λ rows. IsWhereTold rows new.rows)
 
+-- the opener was asked for nothing
+abbrev pub IsUnasked : World → World → Type 0
+IsUnasked old new = new.asked ≡ old.asked
+
+-- the opener was asked once, for the database of the settings
+abbrev pub IsAskedFor : SettingsFields → World → World → Type 0
+IsAskedFor settings old new = new.asked ≡ and_asked old.asked settings.database
+
 -- A connection over a desk that was opened at the clock's first answer.
 pub record Conversation (closed : Closed) (settings : SettingsFields) (seed : Option (List ℕ)) (old new : World) : Type 0 where
   pub rows : Rows
+  pub asked : IsAskedFor settings old new
   pub rows_told : IsWhereTold rows old.rows
   pub moment : ℤ
   pub moment_told : IsWhereTold moment (option_map clamped (old.told.giving.answers 0))
@@ -58,11 +69,13 @@ pub record Conversation (closed : Closed) (settings : SettingsFields) (seed : Op
 -- What a run over settings comes to: a connection, or a fault before anything was read.
 abbrev pub Ran : Ended → SettingsFields → Option (List ℕ) → World → World → Type 0
 Ran (ended.Closed closed) settings seed old new = Conversation closed settings seed old new
-Ran ended.KeeperFault settings seed old new = Untouched old new × Rose old.keeper_faults new.keeper_faults
+Ran (ended.Settings rule key) settings seed old new = ⊥
+Ran ended.TooLarge settings seed old new = ⊥
+Ran ended.FileFault settings seed old new = ⊥
+Ran ended.KeeperFault settings seed old new = Untouched old new × IsAskedFor settings old new × Rose old.keeper_faults new.keeper_faults
 Ran (ended.Damaged kind id) settings seed old new =
-    Untouched old new × IfSome old.rows (λ rows. unserved rows ≡ Some (record { kind = kind; id = id }))
-Ran ended.NoMemory settings seed old new = Untouched old new
-Ran ended settings seed old new = ⊥
+    Untouched old new × IsAskedFor settings old new × IfSome old.rows (λ rows. unserved rows ≡ Some (record { kind = kind; id = id }))
+Ran ended.NoMemory settings seed old new = Untouched old new × (IsUnasked old new ⊎ IsAskedFor settings old new)
 
 -- how a run ends whose desk didn't open
 abbrev pub IsFaultOf : OpenFault → Ended → Type 0

@@ -5,6 +5,7 @@ ghost use Rattle.policy_rows.specs.Faults.{fault_text};
 ghost use Rattle.tailnet_commands.specs.Check.{Checked, Said, check_line, untested, verdict_line, verdict_of, verdict_status};
 ghost use Rattle.tailnet_commands.specs.Lines.{Noted};
 
+use crate::limits::FILE_LIMIT;
 use crate::noting::note_line;
 use crate::status::Status;
 use crate::writing::write_all;
@@ -13,9 +14,6 @@ use policy_doc::read_policy;
 use policy_rows::{Policy, PolicyCode, PolicyFault, fault_text, refused};
 use std::alloc::Global;
 use tail_base::{Failure, NoMemory, Text};
-
-/// The most bytes that a policy file may have: 1 MiB.
-const FILE_LIMIT: usize = 1_048_576;
 
 /// Refuses a policy with tests, which aren't run yet.
 fn untested(alloc: Global, policy: &Policy) -> Result<(), Failure<PolicyFault>>
@@ -106,7 +104,14 @@ fn check_line(status: Status) -> &'static str
         Status::Settings => "tailnetd: file too large\n",
         Status::ReadFault => "tailnetd: read fault\n",
         Status::NoMemory => "tailnetd: no memory\n",
-        _ => "",
+        Status::Ok
+        | Status::Early
+        | Status::Usage
+        | Status::KeeperFault
+        | Status::Damaged
+        | Status::DoorFault
+        | Status::Refused
+        | Status::EntropyFault => "",
     }
 }
 

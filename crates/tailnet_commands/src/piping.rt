@@ -7,6 +7,7 @@ ghost use Rattle.tailnet_commands.specs.Serve.{told};
 
 use crate::closed::Closed;
 use crate::ended::Ended;
+use crate::limits::FILE_LIMIT;
 use crate::noting::note;
 use crate::running::run;
 use crate::status::Status;
@@ -16,9 +17,6 @@ use settings::Settings;
 use std::alloc::Global;
 use tail_base::{NoMemory, Text};
 use tail_words::{SettingsFault, read_settings};
-
-/// The most bytes that a settings file may have.
-const FILE_LIMIT: usize = 1_048_576;
 
 /// The settings of a file.
 fn settings_file<F: Files>(alloc: Global, files: &mut F, name: &str) -> Result<Settings, Ended>
@@ -79,8 +77,8 @@ fn pipe_under<I: Source, O: Sink, F: Files, P: Opener, C: Clock, N: Entropy>(
 ) -> Ended
     ensures piped { let at = giving O.holds O.write_faults C.answer N.word N.faults in
         Piped result (F.holds files.old settings.now) (F.faults files.old) (F.faults files.new) seed
-        (world P.told P.faults opener.old (told I.left I.read_faults input.old (at output.old clock.old entropy.old)))
-        (world P.told P.faults opener.new (told I.left I.read_faults input.new (at output.new clock.new entropy.new))) }
+        (world P.told P.asked P.faults opener.old (told I.left I.read_faults input.old (at output.old clock.old entropy.old)))
+        (world P.told P.asked P.faults opener.new (told I.left I.read_faults input.new (at output.new clock.new entropy.new))) }
 {
     match settings_file(alloc, files, settings) {
         Ok(settings) => run(alloc, settings, seed, input, output, opener, clock, entropy),
@@ -102,8 +100,8 @@ fn pipe_seeded<I: Source, O: Sink, F: Files, P: Opener, C: Clock, N: Entropy>(
 ) -> Ended
     ensures piped { let at = giving O.holds O.write_faults C.answer N.word N.faults in
         Piped result (F.holds files.old settings.now) (F.faults files.old) (F.faults files.new) (option_map (λ t. t.now) seed.entry)
-        (world P.told P.faults opener.old (told I.left I.read_faults input.old (at output.old clock.old entropy.old)))
-        (world P.told P.faults opener.new (told I.left I.read_faults input.new (at output.new clock.new entropy.new))) }
+        (world P.told P.asked P.faults opener.old (told I.left I.read_faults input.old (at output.old clock.old entropy.old)))
+        (world P.told P.asked P.faults opener.new (told I.left I.read_faults input.new (at output.new clock.new entropy.new))) }
 {
     match seed_text(alloc, seed) {
         Ok(seed) => pipe_under(
@@ -130,8 +128,8 @@ pub fn pipe_command<I: Source, O: Sink, E: Sink, F: Files, P: Opener, C: Clock, 
 ) -> Status
     ensures outcome { let at = giving O.holds O.write_faults C.answer N.word N.faults in
         Outcome result (F.holds files.old settings.now) (F.faults files.old) (F.faults files.new) (option_map (λ t. t.now) seed.entry)
-        (world P.told P.faults opener.old (told I.left I.read_faults input.old (at output.old clock.old entropy.old)))
-        (world P.told P.faults opener.new (told I.left I.read_faults input.new (at output.new clock.new entropy.new)))
+        (world P.told P.asked P.faults opener.old (told I.left I.read_faults input.old (at output.old clock.old entropy.old)))
+        (world P.told P.asked P.faults opener.new (told I.left I.read_faults input.new (at output.new clock.new entropy.new)))
         (E.holds errors.old) (E.holds errors.new) (E.write_faults errors.old) (E.write_faults errors.new) }
 {
     let ended = pipe_seeded(

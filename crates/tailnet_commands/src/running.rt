@@ -42,12 +42,13 @@ fn run_behind<I: Source, O: Sink, P: Opener, C: Clock, N: Entropy>(
     requires site { front.now ≡ front_settings settings }
     ensures ran { let at = giving O.holds O.write_faults C.answer N.word N.faults in
         Ran result settings seed
-        (world P.told P.faults opener.old (told I.left I.read_faults input.old (at output.old clock.old entropy.old)))
-        (world P.told P.faults opener.new (told I.left I.read_faults input.new (at output.new clock.new entropy.new))) }
+        (world P.told P.asked P.faults opener.old (told I.left I.read_faults input.old (at output.old clock.old entropy.old)))
+        (world P.told P.asked P.faults opener.new (told I.left I.read_faults input.new (at output.new clock.new entropy.new))) }
 {
     let moment = Moment::clamp(clock.seconds());
-    let requests = settings.fields().requests;
-    let keeper = match opener.open(alloc, settings.fields().database.as_str()) {
+    let fields = settings.fields();
+    let requests = fields.requests;
+    let keeper = match opener.open(alloc, fields.database.as_str()) {
         Ok(keeper) => keeper,
         Err(EdgeFault::Failed) => return Ended::KeeperFault,
         Err(EdgeFault::NoMemory) => return Ended::NoMemory,
@@ -80,8 +81,8 @@ pub(crate) fn run<I: Source, O: Sink, P: Opener, C: Clock, N: Entropy>(
 ) -> Ended
     ensures ran { let at = giving O.holds O.write_faults C.answer N.word N.faults in
         Ran result settings seed
-        (world P.told P.faults opener.old (told I.left I.read_faults input.old (at output.old clock.old entropy.old)))
-        (world P.told P.faults opener.new (told I.left I.read_faults input.new (at output.new clock.new entropy.new))) }
+        (world P.told P.asked P.faults opener.old (told I.left I.read_faults input.old (at output.old clock.old entropy.old)))
+        (world P.told P.asked P.faults opener.new (told I.left I.read_faults input.new (at output.new clock.new entropy.new))) }
 {
     match Front::new(alloc, &settings) {
         Ok(front) => run_behind(

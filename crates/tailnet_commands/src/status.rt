@@ -1,26 +1,54 @@
 //! How a run ends.
+ghost use Rattle.std.specs.Prelude.{◌≡◌};
+ghost use Rattle.tailnet_commands.specs.Numbers.{number_of};
 
-/// How a run ended. The program ends with the number of the line, from 0.
+/// How a run ended.
 #[derive(Clone, Copy, Debug, PartialEq, Eq)]
 pub enum Status {
     /// The work is done.
-    Ok = 0,
+    Ok,
     /// The input ended inside a request, or a 400, 411, 413 or 431 ended it.
-    Early = 1,
+    Early,
     /// The words are no command.
-    Usage = 2,
+    Usage,
     /// The settings break a rule, or a named file is too large.
-    Settings = 3,
+    Settings,
     /// A read of the input or of a file failed.
-    ReadFault = 4,
+    ReadFault,
     /// A write failed.
-    WriteFault = 5,
+    WriteFault,
     /// The keeper of the tables failed.
-    KeeperFault = 6,
+    KeeperFault,
     /// The tables break a rule or have a form that isn't served.
-    Damaged = 7,
+    Damaged,
     /// Memory was refused.
-    NoMemory = 8,
+    NoMemory,
+    /// A door failed. No command has doors yet.
+    DoorFault,
     /// A policy has a fault.
-    Refused = 10,
+    Refused,
+    /// The random source failed before a door was asked. No command has doors yet.
+    EntropyFault,
+}
+
+impl Status {
+    /// The number that the program ends with.
+    pub fn number(self) -> u8
+        ensures value { result ≡ number_of self }
+    {
+        match self {
+            Status::Ok => 0,
+            Status::Early => 1,
+            Status::Usage => 2,
+            Status::Settings => 3,
+            Status::ReadFault => 4,
+            Status::WriteFault => 5,
+            Status::KeeperFault => 6,
+            Status::Damaged => 7,
+            Status::NoMemory => 8,
+            Status::DoorFault => 9,
+            Status::Refused => 10,
+            Status::EntropyFault => 11,
+        }
+    }
 }

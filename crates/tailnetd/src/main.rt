@@ -32,7 +32,7 @@ fn main(rt: HostRuntime) -> ExitCode {
         Ok(words) => words,
         Err(error) if error.kind() == ErrorKind::OutOfMemory => {
             let status = end_wordless(alloc, &mut WriteSink::new(rt.stderr()));
-            return ExitCode::from(status as u8);
+            return ExitCode::from(status.number());
         }
         // A word that isn't UTF-8 is no word of a command, and no words are none either.
         Err(_) => Vec::new(alloc),
@@ -58,5 +58,5 @@ fn main(rt: HostRuntime) -> ExitCode {
         &NoPause,
         &mut NoLink::new(),
     );
-    ExitCode::from(status as u8)
+    ExitCode::from(status.number())
 }

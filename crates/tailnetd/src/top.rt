@@ -47,8 +47,8 @@ pub fn tailnetd<
 ) -> Status
     ensures outcome { let at = giving O.holds O.write_faults C.answer N.word N.faults in
         Top (command_of (map string_bytes words.now)) result (F.holds files.old) (F.faults files.old) (F.faults files.new)
-        (world P.told P.faults opener.old (told I.left I.read_faults input.old (at output.old clock.old entropy.old)))
-        (world P.told P.faults opener.new (told I.left I.read_faults input.new (at output.new clock.new entropy.new)))
+        (world P.told P.asked P.faults opener.old (told I.left I.read_faults input.old (at output.old clock.old entropy.old)))
+        (world P.told P.asked P.faults opener.new (told I.left I.read_faults input.new (at output.new clock.new entropy.new)))
         (E.holds errors.old) (E.holds errors.new) (E.write_faults errors.old) (E.write_faults errors.new) }
     ensures doors { doors.new ≡ doors.old }
     ensures link { link.new ≡ link.old }

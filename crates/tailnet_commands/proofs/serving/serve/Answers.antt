@@ -6,7 +6,7 @@ use Rattle.tailnet_commands.specs.declared.closed.Closed.TheVariants.{NoMemory}
 use Rattle.tailnet_commands.proofs.serving.serve.Goals as goal
 
 pub returns-in_default : goal.returns-in_default
-returns-in_default g c = record { serves = serves_none _ c.args.front.now NoMemory _ [] [] _ _ _ refl (left_nothing _) (omega arith) tt }
+returns-in_default g c = record { serves = serves_none _ c.args.front.now NoMemory _ [] [] _ _ _ refl (left_nothing _) (omega arith) ([], refl) }
 
 pub loop-left-preserved : goal.loop-left-preserved
 loop-left-preserved g c =

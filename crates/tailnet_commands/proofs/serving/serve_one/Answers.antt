@@ -1,4 +1,4 @@
-use Rattle.std.proofs.Common.{arith, refl, inl, inr}
+use Rattle.std.proofs.Common.{arith, refl, inl, inr, []}
 use Rattle.tailnet_commands.proofs.ServeLemmas.{serves_none, serves_refused, served_last, goes_one}
 use Rattle.tailnet_commands.specs.declared.closed.Closed.TheVariants.{End, Early, ReadFault, NoMemory}
 use Rattle.tailnet_commands.proofs.serving.serve_one.Goals as goal
@@ -14,12 +14,12 @@ returns-in-Request-clause-ends g c =
 pub returns-in-End-clause-ends : goal.returns-in-End-clause-ends
 returns-in-End-clause-ends g c = λ limit some is_last.
     let took = c.in-End.ensures.taken in
-    serves_none _ c.args.front.now End limit _ took.read _ _ _ refl took.moved c.in-End.ensures.later (refl, inr (refl, took.answers.0, took.answers.2))
+    serves_none _ c.args.front.now End limit _ took.read _ _ _ refl took.moved c.in-End.ensures.later (refl, inr (refl, took.answers.0, took.answers.2), tt)
 
 pub returns-in-Cut-clause-ends : goal.returns-in-Cut-clause-ends
 returns-in-Cut-clause-ends g c = λ limit some is_last.
     let took = c.in-Cut.ensures.taken in
-    serves_none _ c.args.front.now Early limit _ took.read _ _ _ refl took.moved c.in-Cut.ensures.later (refl, inr (refl, inl (took.answers.0, took.answers.2, refl)))
+    serves_none _ c.args.front.now Early limit _ took.read _ _ _ refl took.moved c.in-Cut.ensures.later (refl, inr (refl, inl (took.answers.0, took.answers.2, refl)), tt)
 
 pub returns-in-Bad-clause-ends : goal.returns-in-Bad-clause-ends
 returns-in-Bad-clause-ends g c = λ limit some is_last.
@@ -28,9 +28,9 @@ returns-in-Bad-clause-ends g c = λ limit some is_last.
 pub returns-in-ReadFault-clause-ends : goal.returns-in-ReadFault-clause-ends
 returns-in-ReadFault-clause-ends g c = λ limit some is_last.
     let took = c.in-ReadFault.ensures.taken in
-    serves_none _ c.args.front.now ReadFault limit _ took.read _ _ _ refl took.moved c.in-ReadFault.ensures.later (refl, refl, took.answers.0, c.in-ReadFault.ensures.cause refl)
+    serves_none _ c.args.front.now ReadFault limit _ took.read _ _ _ refl took.moved c.in-ReadFault.ensures.later (refl, refl, took.answers.0, c.in-ReadFault.ensures.cause refl, tt)
 
 pub returns-in-NoMemory-clause-ends : goal.returns-in-NoMemory-clause-ends
 returns-in-NoMemory-clause-ends g c = λ limit some is_last.
     let took = c.in-NoMemory.ensures.taken in
-    serves_none _ c.args.front.now NoMemory limit _ took.read _ _ _ refl took.moved c.in-NoMemory.ensures.later tt
+    serves_none _ c.args.front.now NoMemory limit _ took.read _ _ _ refl took.moved c.in-NoMemory.ensures.later ([], refl)
