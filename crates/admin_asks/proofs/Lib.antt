@@ -1,5 +1,7 @@
-pub mod KeyLaws
-pub mod NamedLaws
-pub mod NodeLaws
-pub mod SweepLaws
-pub mod UserLaws
+pub mod DecisionLaws
+mod Admissions
+mod KeyLaws
+mod NamedLaws
+mod NodeLaws
+mod SweepLaws
+mod UserLaws

@@ -1,5 +1,6 @@
--- Operators make, list and end pre-auth keys.
-use Rattle.std.specs.Prelude.{◌+◌, ℕ, false, List, [], ◌∷◌, Option, Some, Result, Ok, codes, not, if◌then◌else◌}
+-- Operators make and list pre-auth keys, and let them expire.
+use Rattle.std.specs.Prelude.{◌+◌, ℕ, false, List, [], ◌∷◌, map, Option, Some, Result, Ok, codes, not, if◌then◌else◌}
+use Rattle.tail_base.specs.Steps.{◌>>=◌, or_fault, refuse_if}
 use Rattle.net_rows.specs.Room.{has_room}
 use Rattle.net_rows.specs.Rows.{key_with}
 use Rattle.net_rows.specs.declared.change.Change.{Change}
@@ -7,20 +8,19 @@ use Rattle.net_rows.specs.declared.change.Kind.TheVariants as kind
 use Rattle.net_rows.specs.declared.change.Row.TheVariants as row
 use Rattle.net_rows.specs.declared.key.AuthKey.{AuthKey}
 use Rattle.net_rows.specs.declared.rows.Rows.{Rows}
-use Rattle.net_rows.specs.declared.user.User.{User}
+use Rattle.desk_state.specs.Decisions.{only, changing}
 use Rattle.desk_state.specs.Lines.{key_line}
 use Rattle.desk_state.specs.State.{State, is_ahead}
-use Rattle.desk_state.specs.Steps.{◌>>=◌, or_refuse, refuse_if}
 use Rattle.desk_state.specs.Texts.{row_text}
 use Rattle.desk_state.specs.Users.{user_named, tags_defined}
-use Rattle.desk_state.specs.declared.ask.KeyForm.{KeyForm}
+use Rattle.desk_state.specs.declared.key_form.KeyForm.{KeyForm}
 use Rattle.desk_state.specs.declared.decision.Decision.{Decision}
-use Rattle.desk_state.specs.declared.decision.Decision.TheVariants.{Only, Changes}
 use Rattle.desk_state.specs.declared.lines.KeyLine.{KeyLine}
-use Rattle.desk_state.specs.declared.reply.Answer.TheVariants as answer
-use Rattle.desk_state.specs.declared.reply.Refusal.{Refusal}
-use Rattle.desk_state.specs.declared.reply.Refusal.TheVariants.{Full, EntropyFault, KeyUnknown}
-use Rattle.desk_state.specs.declared.reply.Scarce.TheVariants as scarce
+use Rattle.desk_state.specs.declared.refusal.Refusal.{Refusal}
+use Rattle.desk_state.specs.declared.refusal.Refusal.TheVariants.{Full, EntropyFault, KeyUnknown}
+use Rattle.desk_state.specs.declared.refusal.Scarce.TheVariants as scarce
+use Rattle.admin_asks.specs.declared.operator_answer.OperatorAnswer.{OperatorAnswer}
+use Rattle.admin_asks.specs.declared.operator_answer.OperatorAnswer.TheVariants as answer
 
 -- the key as it was asked for, with the next id and a text of its own
 abbrev pub new_key : Rows → KeyForm → ℕ → List ℕ → AuthKey
@@ -43,38 +43,41 @@ key_change t key = record {
   next = record t.next { key = t.next.key + 1 };
 }
 
-abbrev pub added_key : Rows → AuthKey → Decision
-added_key t key = Changes (key_change t key) [] (answer.Key (key_line t.users key))
+-- the key is made, and is the answer
+abbrev pub added_key : Rows → AuthKey → Decision OperatorAnswer
+added_key t key = changing (key_change t key) (answer.Key (key_line t.users key))
 
-abbrev pub add_key : State → KeyForm → Option (List ℕ) → Result Decision Refusal
+-- a key is made for a user who is there, with tags that are defined, if there is room and random words were drawn
+abbrev pub add_key : State → KeyForm → Option (List ℕ) → Result (Decision OperatorAnswer) Refusal
 add_key s form words = do
   user ← user_named s.rows form.login
-  defined ← tags_defined form.tags
+  defined ← tags_defined s form.tags
   room ← refuse_if (not (has_room s.rows kind.Key)) (Full scarce.Key)
-  drawn ← or_refuse words EntropyFault
+  drawn ← or_fault EntropyFault words
   Ok (added_key s.rows (new_key s.rows form user.id drawn))
 
 -- the keys as an operator is shown them
-abbrev pub key_lines : List User → List AuthKey → List KeyLine
-key_lines users [] = []
-key_lines users (k ∷ ks) = key_line users k ∷ key_lines users ks
+abbrev pub key_lines : Rows → List KeyLine
+key_lines t = map (key_line t.users) t.keys
 
-abbrev pub keys : State → Result Decision Refusal
-keys s = Ok (Only (answer.Keys (key_lines s.rows.users s.rows.keys)))
+-- the keys by id
+abbrev pub keys : State → Result (Decision OperatorAnswer) Refusal
+keys s = Ok (only (answer.Keys (key_lines s.rows)))
 
--- the key's life ends now
-abbrev pub ended_key : State → AuthKey → Change
-ended_key s key = record {
+-- the key expires now
+abbrev pub expiry_change : State → AuthKey → Change
+expiry_change s key = record {
   puts = row.Key (record key { expiry = Some s.now }) ∷ [];
   gone = [];
   next = s.rows.next;
 }
 
--- a key whose life has ended stays as it is
-abbrev pub expired_key : State → AuthKey → Decision
-expired_key s key = if is_ahead s.now key.expiry then Changes (ended_key s key) [] answer.Gone else Only answer.Gone
+-- a key that has expired stays as it is
+abbrev pub expired_key : State → AuthKey → Decision OperatorAnswer
+expired_key s key = if is_ahead s.now key.expiry then changing (expiry_change s key) answer.Gone else only answer.Gone
 
-abbrev pub expire_key : State → ℕ → Result Decision Refusal
+-- the key of an id expires now
+abbrev pub expire_key : State → ℕ → Result (Decision OperatorAnswer) Refusal
 expire_key s id = do
-  key ← or_refuse (key_with s.rows.keys id) KeyUnknown
+  key ← or_fault KeyUnknown (key_with s.rows.keys id)
   Ok (expired_key s key)

@@ -1,5 +1,9 @@
+pub mod Admit
+pub mod Decision
+pub mod Draws
 pub mod Keys
 pub mod Nodes
+pub mod Short
 pub mod Sweep
 pub mod Users
 pub mod Waiting

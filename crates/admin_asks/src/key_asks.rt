@@ -1,17 +1,18 @@
-//! Operators make, list and end pre-auth keys.
+//! Operators make and list pre-auth keys, and let them expire.
 ghost use Rattle.std.specs.Prelude.{◌≡◌, IfOk, true};
 ghost use Rattle.net_rows.specs.Room.{has_room};
 ghost use Rattle.net_rows.specs.declared.change.Kind.TheVariants as kind;
-ghost use Rattle.desk_state.specs.Steps.{Gives};
+ghost use Rattle.tail_base.specs.Steps.{Gives};
 ghost use Rattle.admin_asks.specs.Keys as spec;
 
+use crate::operator_answer::OperatorAnswer;
 use desk_state::{
-    Answer, Decision, KeyForm, KeyLine, Refusal, Scarce, Snapshot, Stop, is_ahead, key_line,
-    row_text, tags_defined, user_named,
+    Decision, KeyForm, KeyLine, Refusal, Scarce, Snapshot, is_ahead, key_line, row_text,
+    tags_defined, user_named,
 };
 use net_rows::{AuthKey, Change, Counters, Kind, Row, Tables};
 use std::alloc::Global;
-use tail_base::{Duplicate, Items, NoMemory};
+use tail_base::{Duplicate, Failure, Items, NoMemory};
 
 fn new_key(
     alloc: Global,
@@ -20,7 +21,7 @@ fn new_key(
     user: u32,
     words: &[u64],
 ) -> Result<AuthKey, NoMemory>
-    ensures value { IfOk result (λ key. key ≡ spec.new_key tables.now.rows form.now user words.now) }
+    ensures value { IfOk result (λ k. k ≡ spec.new_key tables.now.rows form.now user words.now) }
 {
     let id = tables.next().key;
     Ok(AuthKey {
@@ -52,16 +53,17 @@ fn key_change(alloc: Global, tables: &Tables, key: AuthKey) -> Result<Change, No
     })
 }
 
-fn added_key(alloc: Global, tables: &Tables, key: AuthKey) -> Result<Decision, NoMemory>
+fn added_key(
+    alloc: Global,
+    tables: &Tables,
+    key: AuthKey,
+) -> Result<Decision<OperatorAnswer>, NoMemory>
     requires room { has_room tables.now.rows kind.Key ≡ true }
     ensures value { IfOk result (λ d. d ≡ spec.added_key tables.now.rows key) }
 {
-    let answer = Answer::Key(key_line(alloc, tables, key.copy(alloc)?)?);
-    Ok(Decision::Changes {
-        change: key_change(alloc, tables, key)?,
-        offline: Items::new(alloc),
-        answer,
-    })
+    let answer = OperatorAnswer::Key(key_line(alloc, tables, key.copy(alloc)?)?);
+    let change = key_change(alloc, tables, key)?;
+    Ok(Decision::changing(alloc, change, answer))
 }
 
 /// A pre-auth key is made for a user as the form asks, with the next id and a text of its own: the
@@ -71,23 +73,23 @@ pub fn add_key(
     at: &Snapshot<'_>,
     form: &KeyForm,
     words: Option<[u64; 4]>,
-) -> Result<Decision, Stop>
+) -> Result<Decision<OperatorAnswer>, Failure<Refusal>>
     ensures value { Gives (λ d. d) result (spec.add_key at.now form.now words) }
 {
     let user = user_named(alloc, at.tables, &form.login)?;
-    tags_defined(form.tags.as_slice())?;
+    tags_defined(at, form.tags.as_slice())?;
     if !at.tables.room(Kind::Key) {
-        return Err(Stop::Refused(Refusal::Full(Scarce::Key)));
+        return Err(Failure::Fault(Refusal::Full(Scarce::Key)));
     }
     let Some(words) = words else {
-        return Err(Stop::Refused(Refusal::EntropyFault));
+        return Err(Failure::Fault(Refusal::EntropyFault));
     };
     let key = new_key(alloc, at.tables, form, user.id, words.as_slice())?;
     Ok(added_key(alloc, at.tables, key)?)
 }
 
 fn key_lines(alloc: Global, tables: &Tables) -> Result<Items<KeyLine>, NoMemory>
-    ensures value { IfOk result (λ lines. lines ≡ spec.key_lines tables.now.rows.users tables.now.rows.keys) }
+    ensures value { IfOk result (λ lines. lines ≡ spec.key_lines tables.now.rows) }
 {
     let mut lines = Items::new(alloc);
     for key in tables.keys() {
@@ -97,20 +99,20 @@ fn key_lines(alloc: Global, tables: &Tables) -> Result<Items<KeyLine>, NoMemory>
 }
 
 /// The pre-auth keys by id, each with the login of its user.
-pub fn keys(alloc: Global, at: &Snapshot<'_>) -> Result<Decision, Stop>
+pub fn keys(alloc: Global, at: &Snapshot<'_>) -> Result<Decision<OperatorAnswer>, Failure<Refusal>>
     ensures value { Gives (λ d. d) result (spec.keys at.now) }
 {
     let lines = key_lines(alloc, at.tables)?;
-    Ok(Decision::Only(Answer::Keys(lines)))
+    Ok(Decision::only(alloc, OperatorAnswer::Keys(lines)))
 }
 
-fn ended_key(alloc: Global, at: &Snapshot<'_>, key: &AuthKey) -> Result<Change, NoMemory>
-    ensures value { IfOk result (λ change. change ≡ spec.ended_key at.now key.now) }
+fn expiry_change(alloc: Global, at: &Snapshot<'_>, key: &AuthKey) -> Result<Change, NoMemory>
+    ensures value { IfOk result (λ change. change ≡ spec.expiry_change at.now key.now) }
 {
-    let mut ended = key.copy(alloc)?;
-    ended.expiry = Some(at.time);
+    let mut expired = key.copy(alloc)?;
+    expired.expiry = Some(at.time);
     let mut puts = Items::new(alloc);
-    puts.push(Row::Key(ended))?;
+    puts.push(Row::Key(expired))?;
     Ok(Change {
         puts,
         gone: Items::new(alloc),
@@ -118,25 +120,30 @@ fn ended_key(alloc: Global, at: &Snapshot<'_>, key: &AuthKey) -> Result<Change, 
     })
 }
 
-fn expired_key(alloc: Global, at: &Snapshot<'_>, key: &AuthKey) -> Result<Decision, NoMemory>
+fn expired_key(
+    alloc: Global,
+    at: &Snapshot<'_>,
+    key: &AuthKey,
+) -> Result<Decision<OperatorAnswer>, NoMemory>
     ensures value { IfOk result (λ d. d ≡ spec.expired_key at.now key.now) }
 {
     if !is_ahead(at.time, key.expiry) {
-        return Ok(Decision::Only(Answer::Gone));
+        return Ok(Decision::only(alloc, OperatorAnswer::Gone));
     }
-    Ok(Decision::Changes {
-        change: ended_key(alloc, at, key)?,
-        offline: Items::new(alloc),
-        answer: Answer::Gone,
-    })
+    let change = expiry_change(alloc, at, key)?;
+    Ok(Decision::changing(alloc, change, OperatorAnswer::Gone))
 }
 
-/// The life of the pre-auth key of an id ends now, unless it has ended already.
-pub fn expire_key(alloc: Global, at: &Snapshot<'_>, id: u32) -> Result<Decision, Stop>
+/// The pre-auth key of an id expires now, unless it has expired already.
+pub fn expire_key(
+    alloc: Global,
+    at: &Snapshot<'_>,
+    id: u32,
+) -> Result<Decision<OperatorAnswer>, Failure<Refusal>>
     ensures value { Gives (λ d. d) result (spec.expire_key at.now id) }
 {
     match at.tables.key(id) {
         Some(key) => Ok(expired_key(alloc, at, key)?),
-        None => Err(Stop::Refused(Refusal::KeyUnknown)),
+        None => Err(Failure::Fault(Refusal::KeyUnknown)),
     }
 }

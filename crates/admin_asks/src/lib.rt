@@ -1,15 +1,19 @@
-//! What the asks of operators come to: users, pre-auth keys, machines, and the sweep.
-//! A decision changes nothing yet, and where it changes rows, it keeps the rules of the tables.
+//! What is decided on the asks of operators: on users, pre-auth keys, machines, admissions, and the
+//! sweep. A decision changes nothing yet.
 #![tactic(auto)]
 
+mod admit_ask;
+mod deciding;
 mod key_asks;
+mod laws;
 mod node_asks;
+mod operator_answer;
+mod operator_ask;
 mod sweeping;
 mod user_asks;
 mod waiting_list;
 
-pub use key_asks::{add_key, expire_key, keys};
-pub use node_asks::{drop_node, expire_node, nodes, rename, set_tags};
-pub use sweeping::sweep;
-pub use user_asks::{add_user, drop_user, users};
-pub use waiting_list::waiting;
+pub use deciding::decide;
+pub use laws::operator_decisions_are_sound;
+pub use operator_answer::OperatorAnswer;
+pub use operator_ask::{OperatorAsk, draws};

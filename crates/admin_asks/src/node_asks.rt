@@ -2,16 +2,16 @@
 ghost use Rattle.std.specs.Prelude.{◌≡◌, IfOk};
 ghost use Rattle.std.specs.Cmp.Lexicographic.{pointwise};
 ghost use Rattle.std.specs.Str.{bytes_eq};
-ghost use Rattle.desk_state.specs.Steps.{Gives};
+ghost use Rattle.tail_base.specs.Steps.{Gives};
 ghost use Rattle.admin_asks.specs.Nodes as spec;
 
-use desk_state::{
-    Answer, Decision, NodeLine, Refusal, Snapshot, Stop, machine_gone, node_line, tags_defined,
-};
+use crate::operator_answer::OperatorAnswer;
+use desk_state::{Decision, NodeLine, Refusal, Snapshot, machine_gone, node_line, tags_defined};
+use machine_rows::row_replaced;
 use moments::Moment;
-use net_rows::{Change, Machine, Row};
+use net_rows::Machine;
 use std::alloc::Global;
-use tail_base::{Duplicate, Items, Label, NoMemory, Tag, Text, sorted_once};
+use tail_base::{Duplicate, Failure, Items, Label, NoMemory, Tag, Text, sorted_once};
 
 fn node_lines(
     alloc: Global,
@@ -28,37 +28,36 @@ fn node_lines(
 }
 
 /// The machines by id, whether they are live or not.
-pub fn nodes(alloc: Global, at: &Snapshot<'_>) -> Result<Decision, Stop>
+pub fn nodes(alloc: Global, at: &Snapshot<'_>) -> Result<Decision<OperatorAnswer>, Failure<Refusal>>
     ensures value { Gives (λ d. d) result (spec.nodes at.now) }
 {
     let lines = node_lines(alloc, at, at.tables.machines())?;
-    Ok(Decision::Only(Answer::Nodes(lines)))
+    Ok(Decision::only(alloc, OperatorAnswer::Nodes(lines)))
 }
 
 /// The machine's row stays as it is.
-fn same_node(alloc: Global, at: &Snapshot<'_>, machine: &Machine) -> Result<Decision, NoMemory>
+fn same_node(
+    alloc: Global,
+    at: &Snapshot<'_>,
+    machine: &Machine,
+) -> Result<Decision<OperatorAnswer>, NoMemory>
     ensures value { IfOk result (λ d. d ≡ spec.same_node at.now machine.now) }
 {
     let line = node_line(alloc, at, machine.copy(alloc)?)?;
-    Ok(Decision::Only(Answer::Node(line)))
+    Ok(Decision::only(alloc, OperatorAnswer::Node(line)))
 }
 
 /// The machine's row is this one from now on.
-fn changed_node(alloc: Global, at: &Snapshot<'_>, machine: Machine) -> Result<Decision, NoMemory>
+fn changed_node(
+    alloc: Global,
+    at: &Snapshot<'_>,
+    machine: Machine,
+) -> Result<Decision<OperatorAnswer>, NoMemory>
     ensures value { IfOk result (λ d. d ≡ spec.changed_node at.now machine) }
 {
     let line = node_line(alloc, at, machine.copy(alloc)?)?;
-    let mut puts = Items::new(alloc);
-    puts.push(Row::Machine(machine))?;
-    Ok(Decision::Changes {
-        change: Change {
-            puts,
-            gone: Items::new(alloc),
-            next: at.tables.next(),
-        },
-        offline: Items::new(alloc),
-        answer: Answer::Node(line),
-    })
+    let change = row_replaced(alloc, at.tables, machine)?;
+    Ok(Decision::changing(alloc, change, OperatorAnswer::Node(line)))
 }
 
 fn ends_at(expiry: Option<Moment>, end: Moment) -> bool
@@ -75,7 +74,7 @@ fn expired_node(
     at: &Snapshot<'_>,
     machine: &Machine,
     end: Moment,
-) -> Result<Decision, NoMemory>
+) -> Result<Decision<OperatorAnswer>, NoMemory>
     ensures value { IfOk result (λ d. d ≡ spec.expired_node at.now machine.now end) }
 {
     if ends_at(machine.expiry, end) {
@@ -92,29 +91,29 @@ pub fn expire_node(
     at: &Snapshot<'_>,
     id: u32,
     expiry: Option<Moment>,
-) -> Result<Decision, Stop>
+) -> Result<Decision<OperatorAnswer>, Failure<Refusal>>
     ensures value { Gives (λ d. d) result (spec.expire_node at.now id expiry) }
 {
     let end = expiry.unwrap_or(at.time);
     match at.tables.machine(id) {
         Some(machine) => Ok(expired_node(alloc, at, machine, end)?),
-        None => Err(Stop::Refused(Refusal::UnknownMachine)),
+        None => Err(Failure::Fault(Refusal::UnknownMachine)),
     }
 }
 
-fn is_taken(machines: &[Machine], id: u32, name: &Label) -> bool
-    ensures value { result ≡ spec.is_taken machines.now id name.now }
+fn is_name_taken(machines: &[Machine], id: u32, name: &Label) -> bool
+    ensures value { result ≡ spec.is_name_taken machines.now id name.now }
 {
     machines.iter().any(|row| row.name.as_slice() == name.as_slice() && row.id != id)
 }
 
-fn renamed(
+fn renamed_node(
     alloc: Global,
     at: &Snapshot<'_>,
     machine: &Machine,
     name: Label,
-) -> Result<Decision, NoMemory>
-    ensures value { IfOk result (λ d. d ≡ spec.renamed at.now machine.now name) }
+) -> Result<Decision<OperatorAnswer>, NoMemory>
+    ensures value { IfOk result (λ d. d ≡ spec.renamed_node at.now machine.now name) }
 {
     if machine.name.as_slice() == name.as_slice() {
         return same_node(alloc, at, machine);
@@ -126,19 +125,24 @@ fn renamed(
 
 /// The machine of an id has this name from now on, which has to be a label that no other machine
 /// has.
-pub fn rename(alloc: Global, at: &Snapshot<'_>, id: u32, name: &Text) -> Result<Decision, Stop>
+pub fn rename(
+    alloc: Global,
+    at: &Snapshot<'_>,
+    id: u32,
+    name: &Text,
+) -> Result<Decision<OperatorAnswer>, Failure<Refusal>>
     ensures value { Gives (λ d. d) result (spec.rename at.now id name.now) }
 {
     let Some(machine) = at.tables.machine(id) else {
-        return Err(Stop::Refused(Refusal::UnknownMachine));
+        return Err(Failure::Fault(Refusal::UnknownMachine));
     };
     let Some(label) = Label::read(alloc, name.as_slice())? else {
-        return Err(Stop::Refused(Refusal::BadName));
+        return Err(Failure::Fault(Refusal::BadName));
     };
-    if is_taken(at.tables.machines(), machine.id, &label) {
-        return Err(Stop::Refused(Refusal::NameTaken));
+    if is_name_taken(at.tables.machines(), machine.id, &label) {
+        return Err(Failure::Fault(Refusal::NameTaken));
     }
-    Ok(renamed(alloc, at, machine, label)?)
+    Ok(renamed_node(alloc, at, machine, label)?)
 }
 
 fn same_tags(held: &[Tag], tags: &[Tag]) -> bool
@@ -155,13 +159,13 @@ fn same_tags(held: &[Tag], tags: &[Tag]) -> bool
     true
 }
 
-fn tagged(
+fn tagged_node(
     alloc: Global,
     at: &Snapshot<'_>,
     machine: &Machine,
     tags: Items<Tag>,
-) -> Result<Decision, NoMemory>
-    ensures value { IfOk result (λ d. d ≡ spec.tagged at.now machine.now tags) }
+) -> Result<Decision<OperatorAnswer>, NoMemory>
+    ensures value { IfOk result (λ d. d ≡ spec.tagged_node at.now machine.now tags) }
 {
     if same_tags(machine.tags.as_slice(), tags.as_slice()) {
         return same_node(alloc, at, machine);
@@ -172,26 +176,32 @@ fn tagged(
 }
 
 /// The machine of an id has these tags from now on, in byte order and each once.
-pub fn set_tags(alloc: Global, at: &Snapshot<'_>, id: u32, tags: &[Tag]) -> Result<Decision, Stop>
+pub fn set_tags(
+    alloc: Global,
+    at: &Snapshot<'_>,
+    id: u32,
+    tags: &[Tag],
+) -> Result<Decision<OperatorAnswer>, Failure<Refusal>>
     ensures value { Gives (λ d. d) result (spec.set_tags at.now id tags.now) }
 {
     let Some(machine) = at.tables.machine(id) else {
-        return Err(Stop::Refused(Refusal::UnknownMachine));
+        return Err(Failure::Fault(Refusal::UnknownMachine));
     };
-    tags_defined(tags)?;
-    Ok(tagged(alloc, at, machine, sorted_once(alloc, tags)?)?)
+    tags_defined(at, tags)?;
+    Ok(tagged_node(alloc, at, machine, sorted_once(alloc, tags)?)?)
 }
 
 /// The machine of an id goes.
-pub fn drop_node(alloc: Global, at: &Snapshot<'_>, id: u32) -> Result<Decision, Stop>
+pub fn drop_node(
+    alloc: Global,
+    at: &Snapshot<'_>,
+    id: u32,
+) -> Result<Decision<OperatorAnswer>, Failure<Refusal>>
     ensures value { Gives (λ d. d) result (spec.drop_node at.now id) }
 {
     let Some(machine) = at.tables.machine(id) else {
-        return Err(Stop::Refused(Refusal::UnknownMachine));
+        return Err(Failure::Fault(Refusal::UnknownMachine));
     };
-    Ok(Decision::Changes {
-        change: machine_gone(alloc, at.tables, machine.id)?,
-        offline: Items::new(alloc),
-        answer: Answer::Gone,
-    })
+    let change = machine_gone(alloc, at.tables, machine.id)?;
+    Ok(Decision::changing(alloc, change, OperatorAnswer::Gone))
 }

@@ -2,13 +2,14 @@
 ghost use Rattle.std.specs.Prelude.{◌≡◌, IfOk, true};
 ghost use Rattle.net_rows.specs.Room.{has_room};
 ghost use Rattle.net_rows.specs.declared.change.Kind.TheVariants as kind;
-ghost use Rattle.desk_state.specs.Steps.{Gives};
+ghost use Rattle.tail_base.specs.Steps.{Gives};
 ghost use Rattle.admin_asks.specs.Users as spec;
 
-use desk_state::{Answer, Decision, Refusal, Scarce, Snapshot, Stop, user_named};
+use crate::operator_answer::OperatorAnswer;
+use desk_state::{Decision, Refusal, Scarce, Snapshot, user_named};
 use net_rows::{AuthKey, Change, Counters, Kind, Machine, Row, RowKey, Tables, User};
 use std::alloc::Global;
-use tail_base::{Duplicate, Items, Login, NoMemory, Text};
+use tail_base::{Duplicate, Failure, Items, Login, NoMemory, Text};
 
 fn has_at(name: &[u8]) -> bool
     ensures value { result ≡ spec.has_at name.now }
@@ -27,8 +28,8 @@ fn with_at(alloc: Global, name: &Text) -> Result<Text, NoMemory>
     Ok(text)
 }
 
-fn has_login(users: &[User], login: &Login) -> bool
-    ensures value { result ≡ spec.has_login users.now login.now }
+fn is_login_taken(users: &[User], login: &Login) -> bool
+    ensures value { result ≡ spec.is_login_taken users.now login.now }
 {
     users
         .iter()
@@ -52,7 +53,11 @@ fn user_change(alloc: Global, tables: &Tables, user: User) -> Result<Change, NoM
     })
 }
 
-fn added_user(alloc: Global, tables: &Tables, login: Login) -> Result<Decision, NoMemory>
+fn added_user(
+    alloc: Global,
+    tables: &Tables,
+    login: Login,
+) -> Result<Decision<OperatorAnswer>, NoMemory>
     requires room { has_room tables.now.rows kind.User ≡ true }
     ensures value { IfOk result (λ d. d ≡ spec.added_user tables.now.rows login) }
 {
@@ -60,37 +65,38 @@ fn added_user(alloc: Global, tables: &Tables, login: Login) -> Result<Decision, 
         id: tables.next().user,
         login,
     };
-    let answer = Answer::User(user.copy(alloc)?);
-    Ok(Decision::Changes {
-        change: user_change(alloc, tables, user)?,
-        offline: Items::new(alloc),
-        answer,
-    })
+    let answer = OperatorAnswer::User(user.copy(alloc)?);
+    let change = user_change(alloc, tables, user)?;
+    Ok(Decision::changing(alloc, change, answer))
 }
 
 /// A user is made, with the next id and this login, to which an `@` is added if it has none. No
 /// other user may have it.
-pub fn add_user(alloc: Global, at: &Snapshot<'_>, name: &Text) -> Result<Decision, Stop>
+pub fn add_user(
+    alloc: Global,
+    at: &Snapshot<'_>,
+    name: &Text,
+) -> Result<Decision<OperatorAnswer>, Failure<Refusal>>
     ensures value { Gives (λ d. d) result (spec.add_user at.now name.now) }
 {
     let Some(login) = Login::read(alloc, with_at(alloc, name)?.as_slice())? else {
-        return Err(Stop::Refused(Refusal::BadName));
+        return Err(Failure::Fault(Refusal::BadName));
     };
-    if has_login(at.tables.users(), &login) {
-        return Err(Stop::Refused(Refusal::NameTaken));
+    if is_login_taken(at.tables.users(), &login) {
+        return Err(Failure::Fault(Refusal::NameTaken));
     }
     if !at.tables.room(Kind::User) {
-        return Err(Stop::Refused(Refusal::Full(Scarce::User)));
+        return Err(Failure::Fault(Refusal::Full(Scarce::User)));
     }
     Ok(added_user(alloc, at.tables, login)?)
 }
 
 /// The users by id.
-pub fn users(alloc: Global, at: &Snapshot<'_>) -> Result<Decision, Stop>
+pub fn users(alloc: Global, at: &Snapshot<'_>) -> Result<Decision<OperatorAnswer>, Failure<Refusal>>
     ensures value { Gives (λ d. d) result (spec.users at.now) }
 {
     let users = Items::from_slice(alloc, at.tables.users())?;
-    Ok(Decision::Only(Answer::Users(users)))
+    Ok(Decision::only(alloc, OperatorAnswer::Users(users)))
 }
 
 fn has_machine(machines: &[Machine], user: u32) -> bool
@@ -125,16 +131,17 @@ fn user_gone(alloc: Global, tables: &Tables, user: &User) -> Result<Change, NoMe
 }
 
 /// A user without machines goes, and all of the user's keys with it.
-pub fn drop_user(alloc: Global, at: &Snapshot<'_>, login: &Text) -> Result<Decision, Stop>
+pub fn drop_user(
+    alloc: Global,
+    at: &Snapshot<'_>,
+    login: &Text,
+) -> Result<Decision<OperatorAnswer>, Failure<Refusal>>
     ensures value { Gives (λ d. d) result (spec.drop_user at.now login.now) }
 {
     let user = user_named(alloc, at.tables, login)?;
     if has_machine(at.tables.machines(), user.id) {
-        return Err(Stop::Refused(Refusal::UserHasMachines));
+        return Err(Failure::Fault(Refusal::UserHasMachines));
     }
-    Ok(Decision::Changes {
-        change: user_gone(alloc, at.tables, user)?,
-        offline: Items::new(alloc),
-        answer: Answer::Gone,
-    })
+    let change = user_gone(alloc, at.tables, user)?;
+    Ok(Decision::changing(alloc, change, OperatorAnswer::Gone))
 }

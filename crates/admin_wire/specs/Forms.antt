@@ -11,7 +11,7 @@ use Rattle.wire_json.specs.declared.admin_field.AdminField.{AdminField}
 use Rattle.wire_json.specs.declared.admin_field.AdminField.TheVariants as admin
 use Rattle.wire_json.specs.declared.field.Field.TheVariants as field
 use Rattle.wire_json.specs.declared.fault.WireFault.{WireFault}
-use Rattle.desk_state.specs.declared.ask.KeyForm.{KeyForm}
+use Rattle.desk_state.specs.declared.key_form.KeyForm.{KeyForm}
 use Rattle.admin_wire.specs.declared.forms.AdmitForm.{AdmitForm}
 
 -- a text that has to be there

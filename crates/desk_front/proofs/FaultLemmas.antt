@@ -1,4 +1,4 @@
--- The answer to what a body gives, where it has a fault.
+-- The answer to what a body gives, if it has a fault.
 use Rattle.std.proofs.Common.{◌≡◌, ◌∙◌, Result, Ok, Err, IfOk, sym, ap, refl}
 use Rattle.std.specs.Prelude.{IsErr}
 use Rattle.std.proofs.lemmas.Result.{IfOk-weaker}
@@ -8,7 +8,7 @@ use Rattle.wire_json.specs.declared.fault.WireFault.TheVariants as fault
 use Rattle.desk_front.specs.Faults.{body_answer, unless_faulty}
 use Rattle.desk_front.specs.declared.want.Wanted.{Wanted}
 
--- where there is no value, whatever is said of one
+-- if there is no value, whatever is said of one
 no_value : {E : Type 0} (out : Result Wanted E) (P : Wanted → Type 0) → IsErr out → IfOk out P
 no_value (Ok w) P h = absurd (cc)
 no_value (Err e) P h = tt

@@ -22,7 +22,7 @@ fault_answer status name = wants.Answer status (error_body name)
 abbrev pub field_answer : List ℕ → List ℕ → Wanted
 field_answer name at = wants.Answer 400 (field_body name at)
 
--- a fault of the body; want of memory is none
+-- a fault of the body; out of memory is none
 abbrev pub body_answer : WireFault → Wanted
 body_answer fault.NotJson = fault_answer 400 (codes "NotJson")
 body_answer fault.Compressed = fault_answer 400 (codes "Compressed")

@@ -1,5 +1,6 @@
 pub mod Actions
 pub mod AdminWants
+pub mod Bodies
 pub mod Faults
 pub mod MachineWants
 pub mod Refusals

@@ -8,10 +8,12 @@ use Rattle.wire_json.specs.Register.{register_of_body}
 use Rattle.wire_json.specs.declared.fault.WireFault.TheVariants as fault
 use Rattle.wire_json.specs.declared.field.Field.TheVariants as field
 use Rattle.tailcfg.specs.declared.map_ask.MapAsk.{MapAsk}
-use Rattle.desk_state.specs.declared.ask.Ask.TheVariants as ask
+use Rattle.machine_asks.specs.declared.ask.MachineAsk.{MachineAsk}
+use Rattle.machine_asks.specs.declared.ask.MachineAsk.TheVariants as ask
+use Rattle.tailnet_desk.specs.declared.ask.Ask.TheVariants.{Machine}
 use Rattle.desk_front.specs.Faults.{body_answer, field_answer, unless_faulty}
-use Rattle.desk_front.specs.declared.action.Action.{Action}
-use Rattle.desk_front.specs.declared.action.Action.TheVariants as action
+use Rattle.desk_front.specs.declared.action.MachineAction.{MachineAction}
+use Rattle.desk_front.specs.declared.action.MachineAction.TheVariants as action
 use Rattle.desk_front.specs.declared.header.HeaderKey.{HeaderKey}
 use Rattle.desk_front.specs.declared.header.HeaderKey.TheVariants as header
 use Rattle.desk_front.specs.declared.want.Wanted.{Wanted}
@@ -30,28 +32,32 @@ abbrev pub header_key : Option (List ℕ) → HeaderKey
 header_key None = header.Absent
 header_key (Some value) = read_key (key_of_text (codes "mkey:") value)
 
+-- a machine's ask
+abbrev pub machine_ask : MachineAsk → Wanted
+machine_ask x = wants.Ask (Machine x)
+
 -- a registration of the machine, or the first fault of its body
 abbrev pub register_wants : MachineKey → List ℕ → Wanted
-register_wants machine body = unless_faulty (λ form. wants.Ask (ask.Register machine form)) (register_of_body body)
+register_wants machine body = unless_faulty (λ form. machine_ask (ask.Register machine form)) (register_of_body body)
 
 -- Polls aren't served yet. A request that omits the peers and isn't read-only is an update alone; any other is answered
 -- with the map, and is an update too unless it is read-only.
 abbrev pub map_wants : MachineKey → MapAsk → Wanted
 map_wants machine m =
     if m.stream then body_answer (fault.BadField field.Stream)
-    else if m.omit_peers && not m.read_only then wants.Ask (ask.Update machine m.node m.update)
-    else wants.Ask (ask.OneMap machine m.node (if m.read_only then None else Some m.update))
+    else if m.omit_peers && not m.read_only then machine_ask (ask.Update machine m.node m.update)
+    else machine_ask (ask.OneMap machine m.node (if m.read_only then None else Some m.update))
 
 abbrev pub map_body_wants : MachineKey → List ℕ → Wanted
 map_body_wants machine body = unless_faulty (map_wants machine) (map_ask_of_body body)
 
 -- what a body of that machine asks
-abbrev pub asked_by : Action → MachineKey → List ℕ → Wanted
-asked_by action.Register machine body = register_wants machine body
-asked_by other machine body = map_body_wants machine body
+abbrev pub action_wants : MachineAction → MachineKey → List ℕ → Wanted
+action_wants action.Register machine body = register_wants machine body
+action_wants action.Map machine body = map_body_wants machine body
 
 -- a machine's key comes before the body
-abbrev pub machine_wants : Action → HeaderKey → List ℕ → Wanted
+abbrev pub machine_wants : MachineAction → HeaderKey → List ℕ → Wanted
 machine_wants a header.Absent body = field_answer (codes "Missing") (codes "Ts-Machine-Key")
 machine_wants a header.Unreadable body = field_answer (codes "BadField") (codes "Ts-Machine-Key")
-machine_wants a (header.Key machine) body = asked_by a machine body
+machine_wants a (header.Key machine) body = action_wants a machine body

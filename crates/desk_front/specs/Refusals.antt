@@ -1,9 +1,11 @@
--- The answers to refusals.
+-- The answers to refusals, and to asks that were lost.
 use Rattle.std.specs.Prelude.{ℕ, List, ◌++◌, Bool, codes, decimal, if◌then◌else◌}
-use Rattle.desk_state.specs.declared.reply.Refusal.{Refusal}
-use Rattle.desk_state.specs.declared.reply.Refusal.TheVariants.{UnknownUser, NameTaken, BadName, UnknownMachine, KeyUnknown, KeyExpired, KeyUsed, TagUndefined, NodeKeyTaken, NotLive, Full, AddressesSpent, UserHasMachines, PendingUnknown, KeeperFault, EntropyFault, NoMemory}
-use Rattle.desk_state.specs.declared.reply.Scarce.{Scarce}
-use Rattle.desk_state.specs.declared.reply.Scarce.TheVariants as scarce
+use Rattle.desk_state.specs.declared.refusal.Refusal.{Refusal}
+use Rattle.desk_state.specs.declared.refusal.Refusal.TheVariants.{UnknownUser, NameTaken, BadName, UnknownMachine, KeyUnknown, KeyExpired, KeyUsed, TagUndefined, NodeKeyTaken, NotLive, Full, AddressesSpent, UserHasMachines, PendingUnknown, EntropyFault}
+use Rattle.desk_state.specs.declared.refusal.Scarce.{Scarce}
+use Rattle.desk_state.specs.declared.refusal.Scarce.TheVariants as scarce
+use Rattle.tailnet_desk.specs.declared.reply.Loss.{Loss}
+use Rattle.tailnet_desk.specs.declared.reply.Loss.TheVariants as loss
 use Rattle.desk_front.specs.Faults.{error_body}
 
 abbrev pub scarce_name : Scarce → List ℕ
@@ -30,9 +32,7 @@ refusal_status is_machine NameTaken = 409
 refusal_status is_machine BadName = 409
 refusal_status is_machine NodeKeyTaken = 409
 refusal_status is_machine UserHasMachines = 409
-refusal_status is_machine KeeperFault = 500
 refusal_status is_machine EntropyFault = 500
-refusal_status is_machine NoMemory = 503
 refusal_status is_machine (Full kind) = 507
 refusal_status is_machine (AddressesSpent family) = 507
 
@@ -52,6 +52,14 @@ refusal_body (Full kind) = codes "{\"error\":\"Full\",\"what\":\"" ++ scarce_nam
 refusal_body (AddressesSpent family) = codes "{\"error\":\"AddressesSpent\",\"family\":" ++ decimal family ++ codes "}"
 refusal_body UserHasMachines = error_body (codes "UserHasMachines")
 refusal_body PendingUnknown = error_body (codes "PendingUnknown")
-refusal_body KeeperFault = error_body (codes "KeeperFault")
 refusal_body EntropyFault = error_body (codes "EntropyFault")
-refusal_body NoMemory = error_body (codes "NoMemory")
+
+-- the status of a loss
+abbrev pub loss_status : Loss → ℕ
+loss_status loss.NoMemory = 503
+loss_status loss.KeeperFault = 500
+
+-- the body that names it
+abbrev pub loss_body : Loss → List ℕ
+loss_body loss.NoMemory = error_body (codes "NoMemory")
+loss_body loss.KeeperFault = error_body (codes "KeeperFault")

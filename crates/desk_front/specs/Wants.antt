@@ -1,6 +1,6 @@
 -- What is owed of what a request wants, beside which it is.
 use Rattle.http.specs.StatusCode.{IsStatusCode}
-use Rattle.desk_state.specs.Asks.{IsShort}
+use Rattle.tailnet_desk.specs.Asks.{IsShort}
 use Rattle.desk_front.specs.declared.want.Wanted.{Wanted}
 use Rattle.desk_front.specs.declared.want.Wanted.TheVariants as wants
 

@@ -1,15 +1,21 @@
 //! What is done by a method at a path.
-ghost use Rattle.std.specs.Prelude.{◌≡◌, if◌then◌else◌, Some, None};
-ghost use Rattle.desk_front.specs.Actions.{action_of, is_machine_route, only};
+ghost use Rattle.std.specs.Prelude.{◌≡◌};
+ghost use Rattle.desk_front.specs.Actions.{action_of, if_method};
+ghost use Rattle.desk_front.specs.declared.action.Action.{Action};
 
 use http::Method;
 use path_routes::Route;
 
-/// What a request does, by its path and its method.
+/// What a machine does.
 #[derive(Clone, Copy, Debug, PartialEq, Eq, Drop)]
-pub enum Action {
+pub enum MachineAction {
     Register,
     Map,
+}
+
+/// What an operator does.
+#[derive(Clone, Copy, Debug, PartialEq, Eq, Drop)]
+pub enum OperatorAction {
     Users,
     AddUser,
     DropUser,
@@ -26,9 +32,16 @@ pub enum Action {
     Sweep,
 }
 
+/// What a request does, by its path and its method.
+#[derive(Clone, Copy, Debug, PartialEq, Eq, Drop)]
+pub enum Action {
+    Machine(MachineAction),
+    Operator(OperatorAction),
+}
+
 /// The action, if the method is that one.
-fn only(method: &Method, name: &str, action: Action) -> Option<Action>
-    ensures value { result ≡ only method.now name.now action }
+fn if_method(method: &Method, name: &str, action: Action) -> Option<Action>
+    ensures value { result ≡ if_method method.now name.now action }
 {
     if method.as_str() == name {
         Some(action)
@@ -37,42 +50,47 @@ fn only(method: &Method, name: &str, action: Action) -> Option<Action>
     }
 }
 
-/// What a method does at a path; None where the path doesn't take it.
+fn if_machine(method: &Method, name: &str, action: MachineAction) -> Option<Action>
+    ensures value { result ≡ if_method method.now name.now (Action.Machine action) }
+{
+    if_method(method, name, Action::Machine(action))
+}
+
+fn if_operator(method: &Method, name: &str, action: OperatorAction) -> Option<Action>
+    ensures value { result ≡ if_method method.now name.now (Action.Operator action) }
+{
+    if_method(method, name, Action::Operator(action))
+}
+
+/// What a method does at a path; None if the path doesn't take it.
 pub(crate) fn action_of(route: Route, method: &Method) -> Option<Action>
     ensures value { result ≡ action_of route method.now }
 {
     match route {
-        Route::Register => only(method, "POST", Action::Register),
-        Route::Map => only(method, "POST", Action::Map),
-        Route::Users => only(method, "GET", Action::Users).or(only(
+        Route::Register => if_machine(method, "POST", MachineAction::Register),
+        Route::Map => if_machine(method, "POST", MachineAction::Map),
+        Route::Users => if_operator(method, "GET", OperatorAction::Users).or(if_operator(
             method,
             "POST",
-            Action::AddUser,
+            OperatorAction::AddUser,
         )),
-        Route::User => only(method, "DELETE", Action::DropUser),
-        Route::Keys => only(method, "GET", Action::Keys).or(only(method, "POST", Action::AddKey)),
-        Route::Key => only(method, "DELETE", Action::ExpireKey),
-        Route::Nodes => only(method, "GET", Action::Nodes),
-        Route::Node => only(method, "DELETE", Action::DropNode),
-        Route::NodeExpire => only(method, "POST", Action::ExpireNode),
-        Route::NodeRename => only(method, "POST", Action::Rename),
-        Route::NodeTags => only(method, "POST", Action::SetTags),
-        Route::Waiting => only(method, "GET", Action::Waiting).or(only(
+        Route::User => if_operator(method, "DELETE", OperatorAction::DropUser),
+        Route::Keys => if_operator(method, "GET", OperatorAction::Keys).or(if_operator(
             method,
             "POST",
-            Action::Admit,
+            OperatorAction::AddKey,
         )),
-        Route::Sweep => only(method, "POST", Action::Sweep),
-    }
-}
-
-/// Whether machines ask at this path, and not operators.
-pub(crate) fn is_machine_route(route: Route) -> bool
-    ensures value { result ≡ is_machine_route route }
-{
-    match route {
-        Route::Register => true,
-        Route::Map => true,
-        _ => false,
+        Route::Key => if_operator(method, "DELETE", OperatorAction::ExpireKey),
+        Route::Nodes => if_operator(method, "GET", OperatorAction::Nodes),
+        Route::Node => if_operator(method, "DELETE", OperatorAction::DropNode),
+        Route::NodeExpire => if_operator(method, "POST", OperatorAction::ExpireNode),
+        Route::NodeRename => if_operator(method, "POST", OperatorAction::Rename),
+        Route::NodeTags => if_operator(method, "POST", OperatorAction::SetTags),
+        Route::Waiting => if_operator(method, "GET", OperatorAction::Waiting).or(if_operator(
+            method,
+            "POST",
+            OperatorAction::Admit,
+        )),
+        Route::Sweep => if_operator(method, "POST", OperatorAction::Sweep),
     }
 }

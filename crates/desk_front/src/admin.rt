@@ -1,24 +1,25 @@
 //! What operators ask.
 ghost use Rattle.std.specs.Prelude.{◌≡◌, IfOk};
-ghost use Rattle.desk_front.specs.AdminWants.{add_key_wants, add_user_wants, admin_wants, admit_wants, drop_user_wants, expire_node_wants, is_authorized, rename_wants, set_tags_wants, sweep_wants};
+ghost use Rattle.desk_front.specs.AdminWants as spec;
 ghost use Rattle.desk_front.specs.Faults.{fault_answer};
 ghost use Rattle.desk_front.specs.Wants.{IsSound};
 
-use crate::action::Action;
+use crate::action::OperatorAction;
 use crate::faults::{body_answer, fault_answer};
 use crate::want::Wanted;
+use admin_asks::OperatorAsk;
 use admin_wire::{
     AdmitForm, read_admit_form, read_empty_form, read_expiry_form, read_key_form, read_rename_form,
     read_tags_form, read_user_form,
 };
-use desk_state::Ask;
 use path_routes::text_of;
 use std::alloc::Global;
 use tail_base::{Bytes, NoMemory, Text};
+use tailnet_desk::Ask;
 
 /// Whether the value of the first `Authorization` line is `Bearer`, a space and the token.
 pub(crate) fn is_authorized(token: &Text, given: &Option<Bytes>) -> bool
-    ensures value { result ≡ is_authorized token.now given.now }
+    ensures value { result ≡ spec.is_authorized token.now given.now }
 {
     match given {
         None => false,
@@ -29,23 +30,30 @@ pub(crate) fn is_authorized(token: &Text, given: &Option<Bytes>) -> bool
     }
 }
 
+/// An operator's ask.
+fn operator_ask(ask: OperatorAsk) -> Wanted
+    ensures value { result ≡ spec.operator_ask ask }
+{
+    Wanted::Ask(Ask::Operator(ask))
+}
+
 #[tactic(auto, using(crate::proofs::FaultLemmas::faulty))]
 fn add_user_wants(alloc: Global, body: &[u8]) -> Result<Wanted, NoMemory>
-    ensures value { IfOk result (λ w. w ≡ add_user_wants body.now) }
+    ensures value { IfOk result (λ w. w ≡ spec.add_user_wants body.now) }
     ensures sound { IfOk result IsSound }
 {
     match read_user_form(alloc, body) {
-        Ok(name) => Ok(Wanted::Ask(Ask::AddUser { name })),
+        Ok(name) => Ok(operator_ask(OperatorAsk::AddUser { name })),
         Err(fault) => body_answer(alloc, fault),
     }
 }
 
 fn drop_user_wants(alloc: Global, owner: &[u8]) -> Result<Wanted, NoMemory>
-    ensures value { IfOk result (λ w. w ≡ drop_user_wants owner.now) }
+    ensures value { IfOk result (λ w. w ≡ spec.drop_user_wants owner.now) }
     ensures sound { IfOk result IsSound }
 {
     match text_of(owner) {
-        Some(login) => Ok(Wanted::Ask(Ask::DropUser {
+        Some(login) => Ok(operator_ask(OperatorAsk::DropUser {
             login: Text::from_str(alloc, login)?,
         })),
         None => fault_answer(alloc, 404, "NoPath"),
@@ -54,66 +62,66 @@ fn drop_user_wants(alloc: Global, owner: &[u8]) -> Result<Wanted, NoMemory>
 
 #[tactic(auto, using(crate::proofs::FaultLemmas::faulty))]
 fn add_key_wants(alloc: Global, body: &[u8]) -> Result<Wanted, NoMemory>
-    ensures value { IfOk result (λ w. w ≡ add_key_wants body.now) }
+    ensures value { IfOk result (λ w. w ≡ spec.add_key_wants body.now) }
     ensures sound { IfOk result IsSound }
 {
     match read_key_form(alloc, body) {
-        Ok(form) => Ok(Wanted::Ask(Ask::AddKey { form })),
+        Ok(form) => Ok(operator_ask(OperatorAsk::AddKey { form })),
         Err(fault) => body_answer(alloc, fault),
     }
 }
 
 #[tactic(auto, using(crate::proofs::FaultLemmas::faulty))]
 fn expire_node_wants(alloc: Global, id: u32, body: &[u8]) -> Result<Wanted, NoMemory>
-    ensures value { IfOk result (λ w. w ≡ expire_node_wants id body.now) }
+    ensures value { IfOk result (λ w. w ≡ spec.expire_node_wants id body.now) }
     ensures sound { IfOk result IsSound }
 {
     match read_expiry_form(alloc, body) {
-        Ok(at) => Ok(Wanted::Ask(Ask::ExpireNode { id, at })),
+        Ok(at) => Ok(operator_ask(OperatorAsk::ExpireNode { id, at })),
         Err(fault) => body_answer(alloc, fault),
     }
 }
 
 #[tactic(auto, using(crate::proofs::FaultLemmas::faulty))]
 fn rename_wants(alloc: Global, id: u32, body: &[u8]) -> Result<Wanted, NoMemory>
-    ensures value { IfOk result (λ w. w ≡ rename_wants id body.now) }
+    ensures value { IfOk result (λ w. w ≡ spec.rename_wants id body.now) }
     ensures sound { IfOk result IsSound }
 {
     match read_rename_form(alloc, body) {
-        Ok(name) => Ok(Wanted::Ask(Ask::Rename { id, name })),
+        Ok(name) => Ok(operator_ask(OperatorAsk::Rename { id, name })),
         Err(fault) => body_answer(alloc, fault),
     }
 }
 
 #[tactic(auto, using(crate::proofs::FaultLemmas::faulty))]
 fn set_tags_wants(alloc: Global, id: u32, body: &[u8]) -> Result<Wanted, NoMemory>
-    ensures value { IfOk result (λ w. w ≡ set_tags_wants id body.now) }
+    ensures value { IfOk result (λ w. w ≡ spec.set_tags_wants id body.now) }
     ensures sound { IfOk result IsSound }
 {
     match read_tags_form(alloc, body) {
-        Ok(tags) => Ok(Wanted::Ask(Ask::SetTags { id, tags })),
+        Ok(tags) => Ok(operator_ask(OperatorAsk::SetTags { id, tags })),
         Err(fault) => body_answer(alloc, fault),
     }
 }
 
 #[tactic(auto, using(crate::proofs::FaultLemmas::faulty))]
 fn admit_wants(alloc: Global, body: &[u8]) -> Result<Wanted, NoMemory>
-    ensures value { IfOk result (λ w. w ≡ admit_wants body.now) }
+    ensures value { IfOk result (λ w. w ≡ spec.admit_wants body.now) }
     ensures sound { IfOk result IsSound }
 {
     match read_admit_form(alloc, body) {
-        Ok(AdmitForm { pending, login }) => Ok(Wanted::Ask(Ask::Admit { pending, login })),
+        Ok(AdmitForm { pending, login }) => Ok(operator_ask(OperatorAsk::Admit { pending, login })),
         Err(fault) => body_answer(alloc, fault),
     }
 }
 
 #[tactic(auto, using(crate::proofs::FaultLemmas::faulty))]
 fn sweep_wants(alloc: Global, body: &[u8]) -> Result<Wanted, NoMemory>
-    ensures value { IfOk result (λ w. w ≡ sweep_wants body.now) }
+    ensures value { IfOk result (λ w. w ≡ spec.sweep_wants body.now) }
     ensures sound { IfOk result IsSound }
 {
     match read_empty_form(alloc, body) {
-        Ok(()) => Ok(Wanted::Ask(Ask::Sweep)),
+        Ok(()) => Ok(operator_ask(OperatorAsk::Sweep)),
         Err(fault) => body_answer(alloc, fault),
     }
 }
@@ -121,28 +129,28 @@ fn sweep_wants(alloc: Global, body: &[u8]) -> Result<Wanted, NoMemory>
 /// What an operator wants, with the id in the path and the segment that names a row.
 pub(crate) fn admin_wants(
     alloc: Global,
-    action: Action,
+    action: OperatorAction,
     id: u32,
     owner: &[u8],
     body: &[u8],
 ) -> Result<Wanted, NoMemory>
-    ensures value { IfOk result (λ w. w ≡ admin_wants action id owner.now body.now) }
+    ensures value { IfOk result (λ w. w ≡ spec.admin_wants action id owner.now body.now) }
     ensures sound { IfOk result IsSound }
 {
     match action {
-        Action::Users => Ok(Wanted::Ask(Ask::Users)),
-        Action::AddUser => add_user_wants(alloc, body),
-        Action::DropUser => drop_user_wants(alloc, owner),
-        Action::Keys => Ok(Wanted::Ask(Ask::Keys)),
-        Action::AddKey => add_key_wants(alloc, body),
-        Action::ExpireKey => Ok(Wanted::Ask(Ask::ExpireKey { id })),
-        Action::Nodes => Ok(Wanted::Ask(Ask::Nodes)),
-        Action::DropNode => Ok(Wanted::Ask(Ask::DropNode { id })),
-        Action::ExpireNode => expire_node_wants(alloc, id, body),
-        Action::Rename => rename_wants(alloc, id, body),
-        Action::SetTags => set_tags_wants(alloc, id, body),
-        Action::Waiting => Ok(Wanted::Ask(Ask::Waiting)),
-        Action::Admit => admit_wants(alloc, body),
-        _ => sweep_wants(alloc, body),
+        OperatorAction::Users => Ok(operator_ask(OperatorAsk::Users)),
+        OperatorAction::AddUser => add_user_wants(alloc, body),
+        OperatorAction::DropUser => drop_user_wants(alloc, owner),
+        OperatorAction::Keys => Ok(operator_ask(OperatorAsk::Keys)),
+        OperatorAction::AddKey => add_key_wants(alloc, body),
+        OperatorAction::ExpireKey => Ok(operator_ask(OperatorAsk::ExpireKey { id })),
+        OperatorAction::Nodes => Ok(operator_ask(OperatorAsk::Nodes)),
+        OperatorAction::DropNode => Ok(operator_ask(OperatorAsk::DropNode { id })),
+        OperatorAction::ExpireNode => expire_node_wants(alloc, id, body),
+        OperatorAction::Rename => rename_wants(alloc, id, body),
+        OperatorAction::SetTags => set_tags_wants(alloc, id, body),
+        OperatorAction::Waiting => Ok(operator_ask(OperatorAsk::Waiting)),
+        OperatorAction::Admit => admit_wants(alloc, body),
+        OperatorAction::Sweep => sweep_wants(alloc, body),
     }
 }

@@ -1,14 +1,16 @@
-//! The bodies of answers that aren't refusals.
-ghost use Rattle.std.specs.Prelude.{◌≡◌, IfOk};
-ghost use Rattle.desk_front.specs.Replies.{answer_body};
+//! The bodies of answers.
+ghost use Rattle.std.specs.Prelude.{◌≡◌, IfOk, codes};
+ghost use Rattle.desk_front.specs.Bodies.{answer_body, machine_body, operator_body};
 
+use admin_asks::OperatorAnswer;
 use admin_wire::{
     key_text, keys_text, node_text, nodes_text, swept_text, user_text, users_text, waiting_text,
 };
-use desk_state::Answer;
+use machine_asks::MachineAnswer;
 use map_delta::frame_bytes;
 use std::alloc::Global;
 use tail_base::{NoMemory, Text};
+use tailnet_desk::Answer;
 use wire_text::{login_at_text, registered_text};
 
 /// The bytes of a text.
@@ -16,6 +18,50 @@ pub(crate) fn bytes_of(alloc: Global, text: &Text) -> Result<Vec<u8>, NoMemory>
     ensures value { IfOk result (λ made. made.items ≡ text.now) }
 {
     Ok(Vec::from_slice(alloc, text.as_slice())?)
+}
+
+/// What a machine is answered, with the URL at which the server is reached.
+fn machine_body(
+    alloc: Global,
+    server_url: &Text,
+    answer: &MachineAnswer,
+) -> Result<Vec<u8>, NoMemory>
+    ensures value { IfOk result (λ made. made.items ≡ machine_body server_url.now answer.now) }
+{
+    match answer {
+        MachineAnswer::Registered { profile, expired } => {
+            bytes_of(alloc, &registered_text(alloc, profile, *expired)?)
+        }
+        MachineAnswer::LoginAt { pending } => {
+            bytes_of(alloc, &login_at_text(alloc, server_url, pending)?)
+        }
+        MachineAnswer::Updated => Ok(Vec::new(alloc)),
+        MachineAnswer::Map(response) => frame_bytes(alloc, response),
+    }
+}
+
+/// The object without members, when there is nothing to say.
+fn empty_object(alloc: Global) -> Result<Text, NoMemory>
+    ensures value { IfOk result (λ text. text ≡ codes "{}") }
+{
+    Text::from_str(alloc, "{}")
+}
+
+/// What an operator is answered.
+fn operator_text(alloc: Global, answer: &OperatorAnswer) -> Result<Text, NoMemory>
+    ensures value { IfOk result (λ text. text ≡ operator_body answer.now) }
+{
+    match answer {
+        OperatorAnswer::User(user) => user_text(alloc, user),
+        OperatorAnswer::Users(users) => users_text(alloc, users),
+        OperatorAnswer::Key(key) => key_text(alloc, key),
+        OperatorAnswer::Keys(keys) => keys_text(alloc, keys),
+        OperatorAnswer::Nodes(nodes) => nodes_text(alloc, nodes),
+        OperatorAnswer::Waiting(waiting) => waiting_text(alloc, waiting),
+        OperatorAnswer::Node(node) => node_text(alloc, node),
+        OperatorAnswer::Swept { machines, pending } => swept_text(alloc, *machines, *pending),
+        OperatorAnswer::Gone => empty_object(alloc),
+    }
 }
 
 /// The body of an answer, with the URL at which the server is reached.
@@ -27,22 +73,8 @@ pub(crate) fn answer_body(
     ensures value { IfOk result (λ made. made.items ≡ answer_body server_url.now answer.now) }
 {
     match answer {
-        Answer::Registered { profile, expired } => {
-            bytes_of(alloc, &registered_text(alloc, profile, *expired)?)
-        }
-        Answer::LoginAt { pending } => bytes_of(alloc, &login_at_text(alloc, server_url, pending)?),
-        Answer::Updated => Ok(Vec::new(alloc)),
-        Answer::Map(response) => frame_bytes(alloc, response),
-        Answer::User(user) => bytes_of(alloc, &user_text(alloc, user)?),
-        Answer::Users(users) => bytes_of(alloc, &users_text(alloc, users)?),
-        Answer::Key(key) => bytes_of(alloc, &key_text(alloc, key)?),
-        Answer::Keys(keys) => bytes_of(alloc, &keys_text(alloc, keys)?),
-        Answer::Nodes(nodes) => bytes_of(alloc, &nodes_text(alloc, nodes)?),
-        Answer::Waiting(waiting) => bytes_of(alloc, &waiting_text(alloc, waiting)?),
-        Answer::Node(node) => bytes_of(alloc, &node_text(alloc, node)?),
-        Answer::Swept { machines, pending } => {
-            bytes_of(alloc, &swept_text(alloc, *machines, *pending)?)
-        }
-        Answer::Gone => bytes_of(alloc, &Text::from_str(alloc, "{}")?),
+        Answer::Seeded => bytes_of(alloc, &empty_object(alloc)?),
+        Answer::Machine(answer) => machine_body(alloc, server_url, answer),
+        Answer::Operator(answer) => bytes_of(alloc, &operator_text(alloc, answer)?),
     }
 }

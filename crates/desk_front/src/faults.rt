@@ -2,7 +2,7 @@
 ghost use Rattle.std.specs.Prelude.{◌≡◌, IfOk, IsErr};
 ghost use Rattle.http.specs.StatusCode.{IsStatusCode};
 ghost use Rattle.wire_json.specs.declared.fault.WireFault.TheVariants as faults;
-ghost use Rattle.desk_front.specs.Faults.{body_answer, error_body, fault_answer, field_answer, field_body};
+ghost use Rattle.desk_front.specs.Faults as spec;
 ghost use Rattle.desk_front.specs.Wants.{IsSound};
 
 use crate::want::Wanted;
@@ -12,7 +12,7 @@ use wire_json::WireFault;
 
 /// The body that names a fault.
 pub(crate) fn error_body(alloc: Global, name: &str) -> Result<Text, NoMemory>
-    ensures value { IfOk result (λ text. text ≡ error_body name.now) }
+    ensures value { IfOk result (λ text. text ≡ spec.error_body name.now) }
 {
     let mut text = Text::from_str(alloc, "{\"error\":\"")?;
     text.push(name)?;
@@ -22,7 +22,7 @@ pub(crate) fn error_body(alloc: Global, name: &str) -> Result<Text, NoMemory>
 
 /// The body that names a fault and its field.
 fn field_body(alloc: Global, name: &str, field: &str) -> Result<Text, NoMemory>
-    ensures value { IfOk result (λ text. text ≡ field_body name.now field.now) }
+    ensures value { IfOk result (λ text. text ≡ spec.field_body name.now field.now) }
 {
     let mut text = Text::from_str(alloc, "{\"error\":\"")?;
     text.push(name)?;
@@ -35,7 +35,7 @@ fn field_body(alloc: Global, name: &str, field: &str) -> Result<Text, NoMemory>
 /// The answer that names a fault.
 pub(crate) fn fault_answer(alloc: Global, status: u16, name: &str) -> Result<Wanted, NoMemory>
     requires status { IsStatusCode status }
-    ensures value { IfOk result (λ w. w ≡ fault_answer status name.now) }
+    ensures value { IfOk result (λ w. w ≡ spec.fault_answer status name.now) }
     ensures sound { IfOk result IsSound }
 {
     Ok(Wanted::Answer {
@@ -46,7 +46,7 @@ pub(crate) fn fault_answer(alloc: Global, status: u16, name: &str) -> Result<Wan
 
 /// The answer that names a fault and its field.
 pub(crate) fn field_answer(alloc: Global, name: &str, field: &str) -> Result<Wanted, NoMemory>
-    ensures value { IfOk result (λ w. w ≡ field_answer name.now field.now) }
+    ensures value { IfOk result (λ w. w ≡ spec.field_answer name.now field.now) }
     ensures sound { IfOk result IsSound }
 {
     Ok(Wanted::Answer {
@@ -57,7 +57,7 @@ pub(crate) fn field_answer(alloc: Global, name: &str, field: &str) -> Result<Wan
 
 /// The answer to a fault of a body.
 pub(crate) fn body_answer(alloc: Global, fault: WireFault) -> Result<Wanted, NoMemory>
-    ensures value { IfOk result (λ w. w ≡ body_answer fault) }
+    ensures value { IfOk result (λ w. w ≡ spec.body_answer fault) }
     ensures memory { fault ≡ faults.NoMemory → IsErr result }
     ensures sound { IfOk result IsSound }
 {

@@ -1,48 +1,48 @@
 //! The front: requests in, answers out.
 ghost use Rattle.std.specs.Prelude.{◌≡◌, IfOk};
 ghost use Rattle.desk_front.specs.Replies.{reply_bytes};
-ghost use Rattle.desk_front.specs.Wanted.{acted, caller_wants, operator_wants, site_of, wanted_of};
+ghost use Rattle.desk_front.specs.Wanted as spec;
 ghost use Rattle.desk_front.specs.Wants.{IsSound};
 
-use crate::action::{Action, action_of, is_machine_route};
+use crate::action::{Action, OperatorAction, action_of};
 use crate::admin::{admin_wants, is_authorized};
 use crate::faults::fault_answer;
+use crate::front_settings::FrontSettings;
 use crate::machine::{header_key, machine_wants};
 use crate::replies::reply_answer;
-use crate::site::Site;
 use crate::want::Wanted;
-use desk_state::{Ask, Reply};
 use http_front::Request;
 use path_routes::{Found, Paths, owner_in};
 use settings::Settings;
 use std::alloc::Global;
 use std::marker::Model;
 use tail_base::{Duplicate, NoMemory};
+use tailnet_desk::{Ask, Reply};
 
-/// The table of paths, and what answers depend on. Contracts see the latter.
+/// The table of paths, and what answers depend on beside the desk. Contracts see the latter.
 #[derive(Drop)]
 pub struct Front {
     paths: Paths,
-    site: Site,
+    settings: FrontSettings,
 }
 
 impl Model for Front {
-    ghost use Rattle.desk_front.specs.declared.site.Site.{Site};
+    ghost use Rattle.desk_front.specs.declared.front_settings.FrontSettings.{FrontSettings};
 
-    ghost Value = { Site };
+    ghost Value = { FrontSettings };
 
-    ghost view = { λ a. a.site };
+    ghost view = { λ a. a.settings };
 }
 
 impl Front {
     /// The front of a server under these settings.
     pub fn new(alloc: Global, settings: &Settings) -> Result<Front, NoMemory>
-        ensures value { IfOk result (λ front. front ≡ site_of settings.now) }
+        ensures value { IfOk result (λ front. front ≡ spec.front_settings settings.now) }
     {
         let fields = settings.fields();
         Ok(Front {
             paths: Paths::new(alloc)?,
-            site: Site {
+            settings: FrontSettings {
                 token: fields.token.copy(alloc)?,
                 server_url: fields.server_url.copy(alloc)?,
             },
@@ -55,15 +55,16 @@ impl Front {
         alloc: Global,
         request: &Request,
         found: Found,
-        action: Action,
+        action: OperatorAction,
     ) -> Result<Wanted, NoMemory>
-        ensures value { IfOk result (λ w. w ≡ operator_wants self.now request.now found action) }
+        ensures value { IfOk result (λ w.
+            w ≡ spec.operator_wants self.now request.now found action) }
         ensures sound { IfOk result IsSound }
     {
-        if !is_authorized(&self.site.token, &request.token) {
+        if !is_authorized(&self.settings.token, &request.token) {
             return fault_answer(alloc, 401, "BadToken");
         }
-        let owner = owner_in(request.path.as_slice(), found.route);
+        let owner = owner_in(request.path.as_slice(), found);
         admin_wants(alloc, action, found.id, owner, request.body.as_slice())
     }
 
@@ -74,14 +75,16 @@ impl Front {
         found: Found,
         action: Action,
     ) -> Result<Wanted, NoMemory>
-        ensures value { IfOk result (λ w. w ≡ caller_wants self.now request.now found action) }
+        ensures value { IfOk result (λ w.
+            w ≡ spec.caller_wants self.now request.now found action) }
         ensures sound { IfOk result IsSound }
     {
-        if is_machine_route(found.route) {
-            let key = header_key(&request.machine);
-            machine_wants(alloc, action, key, request.body.as_slice())
-        } else {
-            self.operator_wants(alloc, request, found, action)
+        match action {
+            Action::Machine(action) => {
+                let key = header_key(&request.machine);
+                machine_wants(alloc, action, key, request.body.as_slice())
+            }
+            Action::Operator(action) => self.operator_wants(alloc, request, found, action),
         }
     }
 
@@ -93,7 +96,7 @@ impl Front {
     /// answer is 401 `BadToken`. Then the body, whose first fault is 400.
     #[tactic(auto, unfolding(crate::specs::Wanted::wanted_of))]
     pub fn wanted(&self, alloc: Global, request: &Request) -> Result<Wanted, NoMemory>
-        ensures value { IfOk result (λ w. w ≡ wanted_of self.now request.now) }
+        ensures value { IfOk result (λ w. w ≡ spec.wanted_of self.now request.now) }
         // An ask is within the limits of rows, and the status of a fixed answer is one of HTTP's.
         ensures sound { IfOk result IsSound }
     {
@@ -114,8 +117,9 @@ impl Front {
         reply: &Reply,
         close: bool,
     ) -> Result<Vec<u8>, NoMemory>
-        ensures value { IfOk result (λ made. made.items ≡ reply_bytes self.now ask.now reply.now close) }
+        ensures value { IfOk result (λ made.
+            made.items ≡ reply_bytes self.now ask.now reply.now close) }
     {
-        reply_answer(alloc, &self.site, ask, reply, close)
+        reply_answer(alloc, &self.settings, ask, reply, close)
     }
 }

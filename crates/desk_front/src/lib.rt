@@ -6,15 +6,15 @@ mod admin;
 mod bodies;
 mod faults;
 mod front;
+mod front_settings;
 mod header;
 mod machine;
 mod refusals;
 mod replies;
-mod site;
 mod want;
 
-pub use action::Action;
+pub use action::{Action, MachineAction, OperatorAction};
 pub use front::Front;
+pub use front_settings::FrontSettings;
 pub use header::HeaderKey;
-pub use site::Site;
 pub use want::Wanted;

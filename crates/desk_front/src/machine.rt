@@ -2,17 +2,18 @@
 ghost use Rattle.std.specs.Prelude.{◌≡◌, IfOk};
 ghost use Rattle.tailcfg.specs.Short.{IsShortForm, IsShortUpdate};
 ghost use Rattle.desk_front.specs.Faults.{field_answer};
-ghost use Rattle.desk_front.specs.MachineWants.{asked_by, header_key, machine_wants, map_body_wants, map_wants, register_wants};
+ghost use Rattle.desk_front.specs.MachineWants as spec;
 ghost use Rattle.desk_front.specs.Wants.{IsSound};
 
-use crate::action::Action;
+use crate::action::MachineAction;
 use crate::faults::{body_answer, field_answer};
 use crate::header::HeaderKey;
 use crate::want::Wanted;
-use desk_state::Ask;
+use machine_asks::MachineAsk;
 use std::alloc::Global;
 use tail_base::{Bytes, MachineKey, NoMemory};
 use tailcfg::MapAsk;
+use tailnet_desk::Ask;
 use wire_json::{Field, WireFault, read_map_request, read_register};
 
 /// The header that names a machine.
@@ -20,7 +21,7 @@ const MACHINE_HEADER: &str = "Ts-Machine-Key";
 
 /// What the value of the first `Ts-Machine-Key` line holds.
 pub(crate) fn header_key(value: &Option<Bytes>) -> HeaderKey
-    ensures value { result ≡ header_key value.now }
+    ensures value { result ≡ spec.header_key value.now }
 {
     let Some(value) = value else {
         return HeaderKey::Absent;
@@ -31,13 +32,20 @@ pub(crate) fn header_key(value: &Option<Bytes>) -> HeaderKey
     }
 }
 
+/// A machine's ask.
+fn machine_ask(ask: MachineAsk) -> Wanted
+    ensures value { result ≡ spec.machine_ask ask }
+{
+    Wanted::Ask(Ask::Machine(ask))
+}
+
 #[tactic(auto, using(crate::proofs::FaultLemmas::faulty))]
 fn register_wants(alloc: Global, machine: MachineKey, body: &[u8]) -> Result<Wanted, NoMemory>
-    ensures value { IfOk result (λ w. w ≡ register_wants machine body.now) }
+    ensures value { IfOk result (λ w. w ≡ spec.register_wants machine body.now) }
     ensures sound { IfOk result IsSound }
 {
     match read_register(alloc, body) {
-        Ok(form) => Ok(Wanted::Ask(Ask::Register { machine, form })),
+        Ok(form) => Ok(machine_ask(MachineAsk::Register { machine, form })),
         Err(fault) => body_answer(alloc, fault),
     }
 }
@@ -46,7 +54,7 @@ fn register_wants(alloc: Global, machine: MachineKey, body: &[u8]) -> Result<Wan
 /// an update alone; any other is answered with the map, and is an update too unless it is read-only.
 fn map_wants(alloc: Global, machine: MachineKey, asked: MapAsk) -> Result<Wanted, NoMemory>
     requires short { IsShortUpdate asked.update }
-    ensures value { IfOk result (λ w. w ≡ map_wants machine asked) }
+    ensures value { IfOk result (λ w. w ≡ spec.map_wants machine asked) }
     ensures sound { IfOk result IsSound }
 {
     let MapAsk {
@@ -62,14 +70,14 @@ fn map_wants(alloc: Global, machine: MachineKey, asked: MapAsk) -> Result<Wanted
         return body_answer(alloc, WireFault::BadField(Field::Stream));
     }
     if omit_peers && !read_only {
-        return Ok(Wanted::Ask(Ask::Update {
+        return Ok(machine_ask(MachineAsk::Update {
             machine,
             node,
             update,
         }));
     }
     let update = if read_only { None } else { Some(update) };
-    Ok(Wanted::Ask(Ask::OneMap {
+    Ok(machine_ask(MachineAsk::OneMap {
         machine,
         node,
         update,
@@ -78,7 +86,7 @@ fn map_wants(alloc: Global, machine: MachineKey, asked: MapAsk) -> Result<Wanted
 
 #[tactic(auto, using(crate::proofs::FaultLemmas::faulty))]
 fn map_body_wants(alloc: Global, machine: MachineKey, body: &[u8]) -> Result<Wanted, NoMemory>
-    ensures value { IfOk result (λ w. w ≡ map_body_wants machine body.now) }
+    ensures value { IfOk result (λ w. w ≡ spec.map_body_wants machine body.now) }
     ensures sound { IfOk result IsSound }
 {
     match read_map_request(alloc, body) {
@@ -87,34 +95,34 @@ fn map_body_wants(alloc: Global, machine: MachineKey, body: &[u8]) -> Result<Wan
     }
 }
 
-fn asked_by(
+fn action_wants(
     alloc: Global,
-    action: Action,
+    action: MachineAction,
     machine: MachineKey,
     body: &[u8],
 ) -> Result<Wanted, NoMemory>
-    ensures value { IfOk result (λ w. w ≡ asked_by action machine body.now) }
+    ensures value { IfOk result (λ w. w ≡ spec.action_wants action machine body.now) }
     ensures sound { IfOk result IsSound }
 {
     match action {
-        Action::Register => register_wants(alloc, machine, body),
-        _ => map_body_wants(alloc, machine, body),
+        MachineAction::Register => register_wants(alloc, machine, body),
+        MachineAction::Map => map_body_wants(alloc, machine, body),
     }
 }
 
 /// What a machine wants: its key in the header comes before the body.
 pub(crate) fn machine_wants(
     alloc: Global,
-    action: Action,
+    action: MachineAction,
     key: HeaderKey,
     body: &[u8],
 ) -> Result<Wanted, NoMemory>
-    ensures value { IfOk result (λ w. w ≡ machine_wants action key body.now) }
+    ensures value { IfOk result (λ w. w ≡ spec.machine_wants action key body.now) }
     ensures sound { IfOk result IsSound }
 {
     match key {
         HeaderKey::Absent => field_answer(alloc, "Missing", MACHINE_HEADER),
         HeaderKey::Unreadable => field_answer(alloc, "BadField", MACHINE_HEADER),
-        HeaderKey::Key(machine) => asked_by(alloc, action, machine, body),
+        HeaderKey::Key(machine) => action_wants(alloc, action, machine, body),
     }
 }

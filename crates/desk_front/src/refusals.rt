@@ -1,16 +1,17 @@
-//! The answers to refusals.
+//! The answers to refusals, and to asks that were lost.
 ghost use Rattle.std.specs.Prelude.{◌≡◌, IfOk};
 ghost use Rattle.http.specs.StatusCode.{IsStatusCode};
-ghost use Rattle.desk_state.specs.declared.reply.Refusal.{Refusal};
-ghost use Rattle.desk_front.specs.Refusals.{missing_status, refusal_body, refusal_status, scarce_name};
+ghost use Rattle.desk_state.specs.declared.refusal.Refusal.{Refusal};
+ghost use Rattle.desk_front.specs.Refusals as spec;
 
 use crate::faults::error_body;
 use desk_state::{Refusal, Scarce};
 use std::alloc::Global;
 use tail_base::{NoMemory, Text};
+use tailnet_desk::Loss;
 
 fn scarce_name(kind: Scarce) -> &'static str
-    ensures value { result.now ≡ scarce_name kind }
+    ensures value { result.now ≡ spec.scarce_name kind }
 {
     match kind {
         Scarce::User => "User",
@@ -21,7 +22,7 @@ fn scarce_name(kind: Scarce) -> &'static str
 }
 
 fn full_body(alloc: Global, kind: Scarce) -> Result<Text, NoMemory>
-    ensures value { IfOk result (λ text. text ≡ refusal_body (Refusal.Full kind)) }
+    ensures value { IfOk result (λ text. text ≡ spec.refusal_body (Refusal.Full kind)) }
 {
     let mut text = Text::from_str(alloc, "{\"error\":\"Full\",\"what\":\"")?;
     text.push(scarce_name(kind))?;
@@ -30,7 +31,7 @@ fn full_body(alloc: Global, kind: Scarce) -> Result<Text, NoMemory>
 }
 
 fn spent_body(alloc: Global, family: u8) -> Result<Text, NoMemory>
-    ensures value { IfOk result (λ text. text ≡ refusal_body (Refusal.AddressesSpent family)) }
+    ensures value { IfOk result (λ text. text ≡ spec.refusal_body (Refusal.AddressesSpent family)) }
 {
     let mut digits = itoa::Buffer::new();
     let mut text = Text::from_str(alloc, "{\"error\":\"AddressesSpent\",\"family\":")?;
@@ -41,7 +42,7 @@ fn spent_body(alloc: Global, family: u8) -> Result<Text, NoMemory>
 
 /// The body that names a refusal.
 pub(crate) fn refusal_body(alloc: Global, refusal: &Refusal) -> Result<Text, NoMemory>
-    ensures value { IfOk result (λ text. text ≡ refusal_body refusal.now) }
+    ensures value { IfOk result (λ text. text ≡ spec.refusal_body refusal.now) }
 {
     match refusal {
         Refusal::UnknownUser => error_body(alloc, "UnknownUser"),
@@ -58,22 +59,20 @@ pub(crate) fn refusal_body(alloc: Global, refusal: &Refusal) -> Result<Text, NoM
         Refusal::AddressesSpent { family } => spent_body(alloc, *family),
         Refusal::UserHasMachines => error_body(alloc, "UserHasMachines"),
         Refusal::PendingUnknown => error_body(alloc, "PendingUnknown"),
-        Refusal::KeeperFault => error_body(alloc, "KeeperFault"),
         Refusal::EntropyFault => error_body(alloc, "EntropyFault"),
-        Refusal::NoMemory => error_body(alloc, "NoMemory"),
     }
 }
 
 /// A machine that isn't known is unauthorized; an operator asks for what isn't there.
 fn missing_status(is_machine: bool) -> u16
-    ensures value { result ≡ missing_status is_machine }
+    ensures value { result ≡ spec.missing_status is_machine }
 {
     if is_machine { 401 } else { 404 }
 }
 
 /// The status of a refusal, to a machine or to an operator.
 pub(crate) fn refusal_status(is_machine: bool, refusal: &Refusal) -> u16
-    ensures value { result ≡ refusal_status is_machine refusal.now }
+    ensures value { result ≡ spec.refusal_status is_machine refusal.now }
     ensures status { IsStatusCode result }
 {
     match refusal {
@@ -89,10 +88,29 @@ pub(crate) fn refusal_status(is_machine: bool, refusal: &Refusal) -> u16
         Refusal::BadName => 409,
         Refusal::NodeKeyTaken => 409,
         Refusal::UserHasMachines => 409,
-        Refusal::KeeperFault => 500,
         Refusal::EntropyFault => 500,
-        Refusal::NoMemory => 503,
         Refusal::Full(_) => 507,
         Refusal::AddressesSpent { .. } => 507,
+    }
+}
+
+/// The status of a loss.
+pub(crate) fn loss_status(loss: Loss) -> u16
+    ensures value { result ≡ spec.loss_status loss }
+    ensures status { IsStatusCode result }
+{
+    match loss {
+        Loss::NoMemory => 503,
+        Loss::KeeperFault => 500,
+    }
+}
+
+/// The body that names a loss.
+pub(crate) fn loss_body(alloc: Global, loss: Loss) -> Result<Text, NoMemory>
+    ensures value { IfOk result (λ text. text ≡ spec.loss_body loss) }
+{
+    match loss {
+        Loss::NoMemory => error_body(alloc, "NoMemory"),
+        Loss::KeeperFault => error_body(alloc, "KeeperFault"),
     }
 }

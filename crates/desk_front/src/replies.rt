@@ -4,22 +4,21 @@ ghost use Rattle.http.specs.StatusCode.{IsStatusCode};
 ghost use Rattle.desk_front.specs.Replies.{is_machine_ask, reply_body, reply_bytes, reply_status};
 
 use crate::bodies::{answer_body, bytes_of};
-use crate::refusals::{refusal_body, refusal_status};
-use crate::site::Site;
-use desk_state::{Ask, Reply};
+use crate::front_settings::FrontSettings;
+use crate::refusals::{loss_body, loss_status, refusal_body, refusal_status};
 use http_front::plain_answer;
 use std::alloc::Global;
 use tail_base::{NoMemory, Text};
+use tailnet_desk::{Ask, Reply};
 
-/// Whether a machine asks it, and not an operator.
+/// Whether a machine asks it, and not an operator or the program.
 fn is_machine_ask(ask: &Ask) -> bool
     ensures value { result ≡ is_machine_ask ask.now }
 {
     match ask {
-        Ask::Register { .. } => true,
-        Ask::Update { .. } => true,
-        Ask::OneMap { .. } => true,
-        _ => false,
+        Ask::Seed { .. } => false,
+        Ask::Machine(_) => true,
+        Ask::Operator(_) => false,
     }
 }
 
@@ -30,6 +29,7 @@ fn reply_status(is_machine: bool, reply: &Reply) -> u16
     match reply {
         Reply::Done(_) => 200,
         Reply::Refused(refusal) => refusal_status(is_machine, refusal),
+        Reply::Lost(loss) => loss_status(*loss),
     }
 }
 
@@ -39,6 +39,7 @@ fn reply_body(alloc: Global, server_url: &Text, reply: &Reply) -> Result<Vec<u8>
     match reply {
         Reply::Done(answer) => answer_body(alloc, server_url, answer),
         Reply::Refused(refusal) => bytes_of(alloc, &refusal_body(alloc, refusal)?),
+        Reply::Lost(loss) => bytes_of(alloc, &loss_body(alloc, *loss)?),
     }
 }
 
@@ -46,14 +47,15 @@ fn reply_body(alloc: Global, server_url: &Text, reply: &Reply) -> Result<Vec<u8>
 #[tactic(auto, unfolding(crate::specs::Replies::reply_bytes))]
 pub(crate) fn reply_answer(
     alloc: Global,
-    site: &Site,
+    settings: &FrontSettings,
     ask: &Ask,
     reply: &Reply,
     close: bool,
 ) -> Result<Vec<u8>, NoMemory>
-    ensures value { IfOk result (λ made. made.items ≡ reply_bytes site.now ask.now reply.now close) }
+    ensures value { IfOk result (λ made.
+        made.items ≡ reply_bytes settings.now ask.now reply.now close) }
 {
-    let body = reply_body(alloc, &site.server_url, reply)?;
+    let body = reply_body(alloc, &settings.server_url, reply)?;
     let status = reply_status(is_machine_ask(ask), reply);
     plain_answer(alloc, status, &body, close)
 }

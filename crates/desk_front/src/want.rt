@@ -1,6 +1,6 @@
 //! What requests want.
-use desk_state::Ask;
 use tail_base::Text;
+use tailnet_desk::Ask;
 
 /// What a request wants: something of the desk, or a fixed answer.
 #[derive(Drop)]

@@ -1,2 +1,2 @@
-pub mod StepLemmas
 pub mod TextLemmas
+pub mod Proper

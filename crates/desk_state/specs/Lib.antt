@@ -1,8 +1,6 @@
-pub mod Asks
 pub mod Changes
+pub mod Decisions
 pub mod Lines
-pub mod Rulings
 pub mod State
-pub mod Steps
 pub mod Texts
 pub mod Users

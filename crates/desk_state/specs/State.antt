@@ -1,5 +1,5 @@
 -- The state of a tailnet.
-use Rattle.std.specs.Prelude.{ℕ, ℤ, pos, ◌+ℤ◌, int_lt, Bool, true, false, List, [], ◌∷◌, map, Option, Some, None, not, ◌&&◌, ◌||◌}
+use Rattle.std.specs.Prelude.{ℕ, ℤ, pos, ◌+ℤ◌, int_lt, Bool, true, false, List, [], ◌∷◌, map, Option, Some, None, if◌then◌else◌, not, ◌&&◌, ◌||◌}
 use Rattle.std.specs.Int.{int_min}
 use Rattle.std.specs.Option.{option_map}
 use Rattle.moments.specs.Moments.{later_of, last_moment}
@@ -49,7 +49,8 @@ stays_with settings now (Some presence) = stays settings now presence
 
 abbrev pub is_online : Option Presence → Bool
 is_online (Some Online) = true
-is_online presence = false
+is_online (Some (OfflineSince since)) = false
+is_online None = false
 
 -- the presence of the machine of an id
 abbrev pub presence_of : List MachinePresence → ℕ → Option Presence
@@ -71,11 +72,19 @@ abbrev pub all_offline : ℤ → List MachinePresence → List ℕ → List Mach
 all_offline moment presence [] = presence
 all_offline moment presence (id ∷ ids) = all_offline moment (put_row (λ p. p.id) presence (offline_at moment id)) ids
 
+-- these machines are offline from this moment on, if they were online
+abbrev pub all_ended : ℤ → List MachinePresence → List ℕ → List MachinePresence
+all_ended moment presence [] = presence
+all_ended moment presence (id ∷ ids) =
+    all_ended moment (if is_online (presence_of presence id) then put_row (λ p. p.id) presence (offline_at moment id) else presence) ids
+
 -- a machine whose row goes has no presence
 abbrev pub forgotten : List MachinePresence → List RowKey → List MachinePresence
 forgotten presence [] = presence
 forgotten presence (gone.Machine id ∷ keys) = forgotten (without (λ p. p.id) presence id) keys
-forgotten presence (key ∷ keys) = forgotten presence keys
+forgotten presence (gone.User id ∷ keys) = forgotten presence keys
+forgotten presence (gone.Key id ∷ keys) = forgotten presence keys
+forgotten presence (gone.Pending id ∷ keys) = forgotten presence keys
 
 -- the state of tables when they are opened: no machine is online
 abbrev pub opening : SettingsFields → Rows → ℤ → State

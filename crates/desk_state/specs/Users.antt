@@ -1,13 +1,14 @@
 -- Users by login, and tags that a policy defines.
-use Rattle.std.specs.Prelude.{ℕ, List, Option, Result, length, nat_lt}
+use Rattle.std.specs.Prelude.{ℕ, List, [], ◌∷◌, Option, Result, Ok, Err}
 use Rattle.std.specs.List.{find}
 use Rattle.std.specs.Str.{bytes_eq}
 use Rattle.tail_base.specs.Logins.{login_of}
 use Rattle.net_rows.specs.declared.rows.Rows.{Rows}
 use Rattle.net_rows.specs.declared.user.User.{User}
-use Rattle.desk_state.specs.Steps.{◌>>=◌, or_refuse, refuse_if}
-use Rattle.desk_state.specs.declared.reply.Refusal.{Refusal}
-use Rattle.desk_state.specs.declared.reply.Refusal.TheVariants.{UnknownUser, TagUndefined}
+use Rattle.tail_base.specs.Steps.{◌>>=◌, or_fault}
+use Rattle.desk_state.specs.State.{State}
+use Rattle.desk_state.specs.declared.refusal.Refusal.{Refusal}
+use Rattle.desk_state.specs.declared.refusal.Refusal.TheVariants.{UnknownUser, TagUndefined}
 
 -- the user of a login
 abbrev pub user_of : List User → List ℕ → Option User
@@ -16,9 +17,23 @@ user_of users login = find (λ u. bytes_eq u.login login) users
 -- the user whose login a text spells, in either case
 abbrev pub user_named : Rows → List ℕ → Result User Refusal
 user_named rows text = do
-  login ← or_refuse (login_of text) UnknownUser
-  or_refuse (user_of rows.users login) UnknownUser
+  login ← or_fault UnknownUser (login_of text)
+  or_fault UnknownUser (user_of rows.users login)
 
--- As long as no policy can be kept, each tag is undefined.
-abbrev pub tags_defined : List (List ℕ) → Result (Unit {0}) Refusal
-tags_defined tags = refuse_if (nat_lt 0 (length tags)) TagUndefined
+-- As long as no policy can be kept, no tag is defined.
+abbrev pub tag_defined : State → List ℕ → Result (Unit {0}) Refusal
+tag_defined s tag = Err TagUndefined
+
+-- each of the tags is defined, tried in order
+abbrev pub tags_defined : State → List (List ℕ) → Result (Unit {0}) Refusal
+tags_defined s [] = Ok tt
+tags_defined s (tag ∷ tags) = tag_defined s tag >>= (λ _. tags_defined s tags)
+
+-- a tag is defined, and the user of this id may request it
+abbrev pub tag_granted : State → ℕ → List ℕ → Result (Unit {0}) Refusal
+tag_granted s user tag = tag_defined s tag
+
+-- each of the tags may be requested by the user of this id, tried in order
+abbrev pub tags_granted : State → ℕ → List (List ℕ) → Result (Unit {0}) Refusal
+tags_granted s user [] = Ok tt
+tags_granted s user (tag ∷ tags) = tag_granted s user tag >>= (λ _. tags_granted s user tags)

@@ -1,36 +1,47 @@
-//! What an ask comes to, before anything is kept.
+//! What an ask results in, before anything is kept.
 ghost use Rattle.std.specs.Prelude.{◌≡◌};
+ghost use Rattle.desk_state.specs.Decisions.{answered, changing, only};
 
-use crate::reply::{Answer, Refusal};
 use net_rows::Change;
-use tail_base::{Items, NoMemory};
+use std::alloc::Global;
+use tail_base::Items;
 
-/// What an ask that isn't refused comes to.
+/// What an ask that isn't refused results in: a change of rows or none, the machines that it touches,
+/// also if no row changes, and the answer.
 #[derive(Drop)]
-pub enum Decision {
-    /// An answer, and no change of a row.
-    Only(Answer),
-    /// A change of rows, the machines that are offline from now on, and the answer.
-    Changes {
-        change: Change,
-        offline: Items<u32>,
-        answer: Answer,
-    },
+pub struct Decision<A> {
+    /// The change; None if each row stays as it is.
+    pub change: Option<Change>,
+    /// The machines that are offline from now on in any case: those made or renewed.
+    pub offline: Items<u32>,
+    /// The machines that are offline from now on if they were online: those that log out or take
+    /// another node key.
+    pub ended: Items<u32>,
+    pub answer: A,
 }
 
-/// Why there is no decision.
-#[derive(Clone, Copy, Debug, PartialEq, Eq, Drop)]
-pub enum Stop {
-    Memory,
-    Refused(Refusal),
-}
+impl<A> Decision<A> {
+    /// An answer alone.
+    pub fn only(alloc: Global, answer: A) -> Self
+        ensures value { result ≡ only answer }
+    {
+        Decision {
+            change: None,
+            offline: Items::new(alloc),
+            ended: Items::new(alloc),
+            answer,
+        }
+    }
 
-impl From<NoMemory> for Stop {
-    ghost use Rattle.desk_state.specs.declared.decision.Stop.TheVariants.{Memory};
-
-    ghost from_gives = { λ _ e. e ≡ Memory };
-
-    fn from(_: NoMemory) -> Self {
-        Stop::Memory
+    /// A change of rows and an answer, and no machine that goes offline.
+    pub fn changing(alloc: Global, change: Change, answer: A) -> Self
+        ensures value { result ≡ changing change answer }
+    {
+        Decision {
+            change: Some(change),
+            offline: Items::new(alloc),
+            ended: Items::new(alloc),
+            answer,
+        }
     }
 }

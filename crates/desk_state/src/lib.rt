@@ -1,23 +1,24 @@
-//! What the Tailnet machine speaks of: the state of a tailnet, what is asked of it, what it answers,
-//! and what an ask comes to before anything is kept.
+//! What all asks speak of: the state of a tailnet, decisions, and why an ask is refused.
 #![tactic(auto)]
 
-mod ask;
 mod changes;
 mod decision;
+mod key_form;
 mod life;
 mod lines;
 mod presence;
-mod reply;
+mod refusal;
+mod rules;
 mod texts;
 mod users;
 
-pub use ask::{Ask, KeyForm, needs_words};
 pub use changes::machine_gone;
-pub use decision::{Decision, Stop};
+pub use decision::Decision;
+pub use key_form::KeyForm;
 pub use life::{Snapshot, is_ahead, is_live, is_live_with, is_online, is_overdue, presence_of};
 pub use lines::{KeyLine, NodeLine, key_line, login_of, node_line, offline_line};
 pub use presence::{MachinePresence, Presence};
-pub use reply::{Answer, Refusal, Reply, Scarce};
+pub use refusal::{Refusal, Scarce};
+pub use rules::keep_rules;
 pub use texts::row_text;
-pub use users::{tags_defined, user_named};
+pub use users::{tags_defined, tags_granted, user_named};

@@ -4,7 +4,7 @@ ghost use Rattle.desk_state.specs.State.{State, is_ahead, is_live, is_live_with,
 
 use crate::presence::{MachinePresence, Presence};
 use moments::Moment;
-use net_rows::{Machine, Pending, Tables};
+use net_rows::{Machine, Pending, Shelf, Tables};
 use settings::{Settings, SettingsFields};
 use std::marker::Model;
 
@@ -13,7 +13,7 @@ use std::marker::Model;
 pub struct Snapshot<'a> {
     pub settings: &'a Settings,
     pub tables: &'a Tables,
-    pub presence: &'a [MachinePresence],
+    pub presence: &'a Shelf<MachinePresence>,
     pub time: Moment,
 }
 
@@ -22,7 +22,7 @@ impl<'a> Model for Snapshot<'a> {
 
     ghost Value = { State };
 
-    ghost view = { λ a. record { settings = a.settings.now; rows = a.tables.now.rows; presence = a.presence.now; now = a.time } };
+    ghost view = { λ a. record { settings = a.settings.now; rows = a.tables.now.rows; presence = a.presence.now.0; now = a.time } };
 }
 
 /// Whether there is no end, or it is still to come.
@@ -68,13 +68,10 @@ fn stays_with(settings: &SettingsFields, now: Moment, presence: Option<Presence>
 }
 
 /// The presence of the machine of an id.
-pub fn presence_of(presence: &[MachinePresence], id: u32) -> Option<Presence>
-    ensures value { result ≡ presence_of presence.now id }
+pub fn presence_of(presence: &Shelf<MachinePresence>, id: u32) -> Option<Presence>
+    ensures value { result ≡ presence_of presence.now.0 id }
 {
-    presence
-        .iter()
-        .find(|held| held.id == id)
-        .map(|held| held.presence)
+    presence.get(id).map(|held| held.presence)
 }
 
 /// Whether a machine with this presence is live.
@@ -98,6 +95,6 @@ pub fn is_online(presence: Option<Presence>) -> bool
 {
     match presence {
         Some(Presence::Online) => true,
-        _ => false,
+        Some(Presence::OfflineSince(_)) | None => false,
     }
 }

@@ -1,10 +1,7 @@
-pub mod Proper
-pub mod RowLemmas
-pub mod Keyed
-pub mod Waits
-pub mod Registrations
-pub mod Seeds
-pub mod Updates
-pub mod Admissions
-pub mod Repeats
-pub mod Sameness
+pub mod DecisionLaws
+mod Keyed
+mod Registrations
+mod Repeats
+mod Seeds
+mod Updates
+mod Waits

@@ -14,11 +14,16 @@ use Rattle.net_rows.proofs.Members.{find_none}
 use Rattle.net_rows.proofs.RowAt.{row_at_is}
 use Rattle.net_rows.proofs.Sounds.{sound_of}
 use Rattle.tailcfg.specs.declared.register.Register.{Register}
+use Rattle.desk_state.specs.Decisions.{rows_after}
 use Rattle.desk_state.specs.State.{State, is_live}
-use Rattle.machine_asks.specs.Laws.{IsRepeat, rows_after}
+use Rattle.desk_state.specs.declared.decision.Decision.{Decision}
+use Rattle.machine_rows.proofs.RowLemmas.{machine_found}
+use Rattle.machine_asks.specs.Decision.{decision}
+use Rattle.machine_asks.specs.Laws.{IsRepeat}
 use Rattle.machine_asks.specs.Logout.{is_logout}
-use Rattle.machine_asks.specs.Register.{register, register_as, repeated, repeats}
-use Rattle.machine_asks.proofs.RowLemmas.{machine_found}
+use Rattle.machine_asks.specs.Register.{register_as, registered_again, repeats}
+use Rattle.machine_asks.specs.declared.answer.MachineAnswer.{MachineAnswer}
+use Rattle.machine_asks.specs.declared.ask.MachineAsk.TheVariants as ask
 
 first_of_two : {A : Type 0} (b : Bool) (x y : A) → b ≡ true → (if b then x else y) ≡ x
 first_of_two true x y h = refl
@@ -42,14 +47,18 @@ own_row t m (Some r) sound inside e =
     sym found ∙ ap (λ (n : ℕ). row_at (λ x. x.id) t.machines n) ids ∙ own
 
 -- the steps of a registration with this row come to a repeat
-steps_repeat : (s : State) (m : Machine) (form : Register) (words : Option (List ℕ)) → IsRepeat s m form → register_as s m.machine form words (Some m) ≡ Ok (repeated s m)
+steps_repeat : (s : State) (m : Machine) (form : Register) (words : Option (List ℕ)) → IsRepeat s m form → register_as s m.machine form words (Some m) ≡ Ok (registered_again s m)
 steps_repeat s m form words h =
     second_of_two (is_logout s form.expiry) _ _ (ap not h.stays)
     ∙ first_of_two (repeats s form.node m) _ _ (and_from (is_live s m) (bytes_eq m.node.0 form.node.0) h.live (bytes_eq-from m.node.0 form.node.0 (ap (λ (n : NodeKey). n.0) h.node)))
 
-pub repeat_is : (s : State) (m : Machine) (form : Register) (words : Option (List ℕ)) → IsRepeat s m form → register s m.machine form words ≡ Ok (repeated s m)
+pub repeat_is : (s : State) (m : Machine) (form : Register) (words : Option (List ℕ)) → IsRepeat s m form → decision s (ask.Register m.machine form) words ≡ Ok (registered_again s m)
 repeat_is s m form words h =
     ap (λ (held : Option Machine). register_as s m.machine form words held) (own_row s.rows m _ (sound_of s.rows h.sound) h.row refl) ∙ steps_repeat s m form words h
 
-pub repeat_keeps : (s : State) (m : Machine) (form : Register) (words : Option (List ℕ)) → IsRepeat s m form → rows_after s.rows (register s m.machine form words) ≡ s.rows
-repeat_keeps s m form words h = ap (rows_after s.rows) (repeat_is s m form words h)
+pub repeat_keeps : (s : State) (m : Machine) (form : Register) (words : Option (List ℕ)) (d : Decision MachineAnswer) → IsRepeat s m form
+    → decision s (ask.Register m.machine form) words ≡ Ok d → rows_after s.rows d.change ≡ s.rows
+repeat_keeps s m form words d h is =
+    let both : Ok (registered_again s m) ≡ Ok d = sym (repeat_is s m form words h) ∙ is in
+    let same : registered_again s m ≡ d = cc in
+    ap (λ (x : Decision MachineAnswer). rows_after s.rows x.change) (sym same)

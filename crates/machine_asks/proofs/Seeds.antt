@@ -1,5 +1,5 @@
--- A seed keeps the rules of the tables.
-use Rattle.std.proofs.Common.{◌≡◌, ◌+◌, ◌||◌, ℕ, Bool, true, false, not, List, [], ◌∷◌, inl, refl, nat_lt, arith, length, codes, nat_eq}
+-- A seed is sound.
+use Rattle.std.proofs.Common.{◌≡◌, ◌≢◌, ◌+◌, ◌||◌, ℕ, Bool, true, false, not, List, [], ◌∷◌, inl, refl, ap, nat_lt, arith, length, codes, nat_eq}
 use Rattle.std.specs.Prelude.{Contains}
 use Rattle.std.specs.List.{starts_with}
 use Rattle.net_rows.specs.Damage.{names_key}
@@ -9,18 +9,19 @@ use Rattle.net_rows.specs.Rows.{after}
 use Rattle.net_rows.specs.Shelf.{put_row}
 use Rattle.net_rows.specs.Sound.{AreSound}
 use Rattle.net_rows.specs.declared.change.Kind.TheVariants as kind
+use Rattle.net_rows.specs.declared.change.Counters.{Counters}
 use Rattle.net_rows.specs.declared.rows.Rows.{Rows}
 use Rattle.net_rows.specs.declared.user.User.{User}
-use Rattle.std.proofs.lemmas.Bool.{and_parts, ltb-true}
+use Rattle.std.proofs.lemmas.Bool.{and_parts, not-false, ltb-true}
 use Rattle.net_rows.proofs.Members.{no_member}
 use Rattle.net_rows.proofs.PutLemmas.{put_there}
 use Rattle.net_rows.proofs.SoundPut.{sound_user, sound_key}
+use Rattle.desk_state.specs.Decisions.{IsNoLess, IsSound, changing, only}
 use Rattle.desk_state.specs.State.{State}
-use Rattle.desk_state.specs.declared.reply.Answer.TheVariants.{Gone}
-use Rattle.desk_state.specs.declared.reply.Refusal.TheVariants.{Full}
-use Rattle.desk_state.specs.declared.reply.Scarce.TheVariants as scarce
+use Rattle.desk_state.specs.declared.refusal.Refusal.TheVariants.{Full}
+use Rattle.desk_state.specs.declared.refusal.Scarce.TheVariants as scarce
 use Rattle.machine_asks.specs.Seed.{seed, is_past_seed, seed_change, seed_user, seed_key}
-use Rattle.machine_asks.proofs.Proper.{IsProper, passed, proper_changes, proper_if, proper_only, proper_refuse}
+use Rattle.desk_state.proofs.Proper.{proper_if, proper_none, proper_refuse, proper_some, sound_change}
 
 no_users : (t : Rows) (text : List ℕ) → is_past_seed t text ≡ false → (t.users ≡ []) × (starts_with nat_eq text (codes "tnkey-") ≡ false)
 no_users t text h = (empty t.users (neither _ _ h).0, (neither _ _ h).1) where
@@ -60,9 +61,17 @@ seeded t text sound first user_room key_room =
       };
     }) (omega arith) (omega arith) (let b = ltb-true _ _ kr.1 in omega arith)
 
-pub seed_proper : (s : State) (text : List ℕ) → AreSound s.rows → IsProper s (seed s text)
+-- the counter of users rises
+seeded_differs : (t : Rows) (text : List ℕ) → after t (seed_change t text) ≢ t
+seeded_differs t text e = let n : t.next.user + 1 ≡ t.next.user = ap (λ (u : Rows). u.next.user) e in absurd (omega (arith, n))
+
+counters_rise : (next : Counters) → IsNoLess next (record next { user = next.user + 1; key = next.key + 1 })
+counters_rise next = record { user = omega arith; key = omega arith; pending = omega arith; machine = omega arith }
+
+pub seed_proper : (s : State) (text : List ℕ) → AreSound s.rows → IsSound s.rows (seed s text)
 seed_proper s text sound =
-    proper_if s (is_past_seed s.rows text) _ _ (λ _. proper_only s Gone) (λ first.
-    proper_refuse s (not (has_room s.rows kind.User)) (Full scarce.User) _ tt (λ user.
-    proper_refuse s (not (has_room s.rows kind.Key)) (Full scarce.Key) _ tt (λ key.
-    proper_changes s (seed_change s.rows text) [] Gone (seeded s.rows text sound first (passed _ user) (passed _ key)))))
+    proper_if s.rows (is_past_seed s.rows text) _ _ (λ _. proper_none s.rows (only tt) refl) (λ first.
+    proper_refuse s.rows (not (has_room s.rows kind.User)) (Full scarce.User) _ (λ user.
+    proper_refuse s.rows (not (has_room s.rows kind.Key)) (Full scarce.Key) _ (λ key.
+    proper_some s.rows (changing (seed_change s.rows text) tt) (seed_change s.rows text) refl
+    (sound_change s.rows (seed_change s.rows text) (seeded s.rows text sound first (not-false _ user) (not-false _ key)) (seeded_differs s.rows text) (counters_rise s.rows.next)))))

@@ -1,9 +1,11 @@
--- What a machine tells of itself keeps the rules of the tables.
-use Rattle.std.proofs.Common.{◌≡◌, ◌≤◌, ℕ, not, List, Option, Some, None, Ok, refl, length}
+-- What a machine tells of itself, and its map, are sound.
+use Rattle.std.proofs.Common.{◌≡◌, ◌≢◌, ◌≤◌, ℕ, true, false, not, List, Option, Some, None, Ok, refl, sym, ◌∙◌, length}
 use Rattle.std.specs.Prelude.{Contains, IfSome}
 use Rattle.std.specs.Str.{bytes_eq}
 use Rattle.tail_base.specs.declared.key.MachineKey.{MachineKey}
 use Rattle.tail_base.specs.declared.key.NodeKey.{NodeKey}
+use Rattle.tail_base.specs.Steps.{or_fault, refuse_if}
+use Rattle.tail_base.proofs.StepLemmas.{bind_parts, fault_parts}
 use Rattle.net_addr.specs.Bits.{Block}
 use Rattle.net_rows.specs.Rows.{after, machine_of}
 use Rattle.net_rows.specs.Sound.{AreSound}
@@ -13,31 +15,27 @@ use Rattle.tailcfg.specs.declared.host_update.HostUpdate.{HostUpdate}
 use Rattle.tailcfg.specs.declared.limits.TheConstants.{HOST_LIMIT, ROUTE_LIMIT}
 use Rattle.tailcfg.specs.declared.update.Update.{Update}
 use Rattle.desk_state.specs.State.{State, is_live}
-use Rattle.desk_state.specs.Steps.{or_refuse, refuse_if}
-use Rattle.desk_state.specs.declared.reply.Answer.TheVariants.{Updated}
-use Rattle.desk_state.specs.declared.reply.Refusal.TheVariants.{NotLive, UnknownMachine}
-use Rattle.desk_state.proofs.StepLemmas.{AreRuled, bind_ok, bind_ruled, ok_ruled, or_refuse_ok, or_ruled, refuse_ruled}
+use Rattle.desk_state.specs.Decisions.{IsSound, IsSoundChange, changing, only}
+use Rattle.desk_state.specs.declared.refusal.Refusal.TheVariants.{NotLive, UnknownMachine}
+use Rattle.desk_state.proofs.Proper.{proper_bind, proper_choice, proper_none, proper_some, same_counters, sound_change}
+use Rattle.machine_rows.specs.Rows.{row_replaced}
+use Rattle.machine_rows.specs.Same.{KeepsPlace, KeepsRegistration, same_told}
+use Rattle.machine_rows.proofs.RowLemmas.{machine_found, replaced_sound}
+use Rattle.machine_rows.proofs.Rests.{replaced_differs}
+use Rattle.machine_rows.proofs.Sameness.{told_kept}
 use Rattle.machine_asks.specs.Asking.{asking}
-use Rattle.machine_asks.specs.OneMap.{map_for, mapped, one_map}
-use Rattle.machine_asks.specs.Rows.{row_replaced}
-use Rattle.machine_asks.specs.Update.{given_or, same_told, told_host, told_row, told_routes, update, updated}
-use Rattle.machine_asks.proofs.Proper.{IsProper, proper_bind, proper_changes, proper_choice, proper_only}
-use Rattle.machine_asks.proofs.RowLemmas.{machine_found, replaced_sound}
-
-asking_ruled : (s : State) (mk : MachineKey) (node : NodeKey) → AreRuled (asking s mk node)
-asking_ruled s mk node =
-    bind_ruled (or_refuse (machine_of s.rows.machines mk.0) UnknownMachine) _ (or_ruled (machine_of s.rows.machines mk.0) UnknownMachine tt) (λ (row : Machine).
-    bind_ruled (refuse_if (not (bytes_eq row.node.0 node.0)) UnknownMachine) _ (refuse_ruled (not (bytes_eq row.node.0 node.0)) UnknownMachine tt) (λ _.
-    bind_ruled (refuse_if (not (is_live s row)) NotLive) _ (refuse_ruled (not (is_live s row)) NotLive tt) (λ _. ok_ruled _)))
+use Rattle.machine_asks.specs.OneMap.{after_change, map_decision, map_for, one_map}
+use Rattle.machine_asks.specs.Update.{given_or, told_host, told_row, told_routes, update, updated}
+use Rattle.machine_asks.specs.declared.answer.MachineAnswer.TheVariants.{Updated}
 
 -- the machine that asks is one of the tables
 pub asking_is : (s : State) (mk : MachineKey) (node : NodeKey) (m : Machine) → asking s mk node ≡ Ok m → Contains s.rows.machines m
 asking_is s mk node m h =
-    let row = bind_ok (or_refuse (machine_of s.rows.machines mk.0) UnknownMachine) _ m h in
-    let same = bind_ok (refuse_if (not (bytes_eq row.0.node.0 node.0)) UnknownMachine) _ m row.2 in
-    let live = bind_ok (refuse_if (not (is_live s row.0)) NotLive) _ m same.2 in
+    let row = bind_parts (or_fault UnknownMachine (machine_of s.rows.machines mk.0)) _ m h in
+    let same = bind_parts (refuse_if (not (bytes_eq row.0.node.0 node.0)) UnknownMachine) _ m row.2 in
+    let live = bind_parts (refuse_if (not (is_live s row.0)) NotLive) _ m same.2 in
     let is : row.0 ≡ m = cc in
-    rw is at (machine_found s.rows.machines mk row.0 (or_refuse_ok _ UnknownMachine row.0 row.1)).0
+    rw is at (machine_found s.rows.machines mk row.0 (fault_parts UnknownMachine _ row.0 row.1)).0
 
 given_short : (given : Option (List ℕ)) (was : List ℕ) → IfSome given (λ text. length text ≤ HOST_LIMIT) → length was ≤ HOST_LIMIT → length (given_or given was) ≤ HOST_LIMIT
 given_short None was h k = k
@@ -68,23 +66,39 @@ told_sound s m u sound inside short =
       tags = row.tags;
     })
 
-updated_proper : (s : State) (m : Machine) (u : Update) → AreSound s.rows → Contains s.rows.machines m → IsShortUpdate u → IsProper s (Ok (updated s m (told_row m u)))
-updated_proper s m u sound inside short =
-    proper_choice s (same_told m (told_row m u)) _ _ (λ _. proper_only s Updated)
-    (λ _. proper_changes s (row_replaced s.rows (told_row m u)) _ _ (told_sound s m u sound inside short))
+-- a row that isn't as it was is replaced
+told_change : (s : State) (m : Machine) (u : Update) → AreSound s.rows → Contains s.rows.machines m → IsShortUpdate u → same_told m (told_row m u) ≡ false
+    → IsSoundChange s.rows (row_replaced s.rows (told_row m u))
+told_change s m u sound inside short other =
+    let apart : told_row m u ≢ m = λ e. let clash : true ≡ false = sym (told_kept m (told_row m u) e) ∙ other in absurd (cc) in
+    sound_change s.rows (row_replaced s.rows (told_row m u)) (told_sound s m u sound inside short) (replaced_differs s.rows m (told_row m u) sound inside refl apart) (same_counters s.rows.next)
 
-pub update_proper : (s : State) (mk : MachineKey) (node : NodeKey) (u : Update) → AreSound s.rows → IsShortUpdate u → IsProper s (update s mk node u)
+updated_proper : (s : State) (m : Machine) (u : Update) → AreSound s.rows → Contains s.rows.machines m → IsShortUpdate u → IsSound s.rows (Ok (updated s m (told_row m u)))
+updated_proper s m u sound inside short =
+    let change = row_replaced s.rows (told_row m u) in
+    proper_choice s.rows (same_told m (told_row m u)) (only Updated) (changing change Updated) (λ _. proper_none s.rows (only Updated) refl)
+    (λ other. proper_some s.rows (changing change Updated) change refl (told_change s m u sound inside short other))
+
+pub update_proper : (s : State) (mk : MachineKey) (node : NodeKey) (u : Update) → AreSound s.rows → IsShortUpdate u → IsSound s.rows (update s mk node u)
 update_proper s mk node u sound short =
-    proper_bind s (asking s mk node) (λ m. Ok (updated s m (told_row m u))) (asking_ruled s mk node)
+    proper_bind s.rows (asking s mk node) (λ m. Ok (updated s m (told_row m u)))
     (λ m is. updated_proper s m u sound (asking_is s mk node m is) short)
 
-mapped_proper : (s : State) (m : Machine) (told : Option Update) → AreSound s.rows → Contains s.rows.machines m → IfSome told IsShortUpdate → IsProper s (Ok (mapped s m told))
-mapped_proper s m None sound inside short = proper_only s (map_for s m)
-mapped_proper s m (Some u) sound inside short =
-    proper_choice s (same_told m (told_row m u)) _ _ (λ _. proper_only s (map_for s m))
-    (λ _. proper_changes s (row_replaced s.rows (told_row m u)) _ _ (told_sound s m u sound inside short))
+map_proper : (s : State) (m : Machine) (told : Option Update) → AreSound s.rows → Contains s.rows.machines m → IfSome told IsShortUpdate → IsSound s.rows (Ok (map_decision s m told))
+map_proper s m None sound inside short = proper_none s.rows (only (map_for s m)) refl
+map_proper s m (Some u) sound inside short =
+    let change = row_replaced s.rows (told_row m u) in
+    let later = map_for (after_change s change) (told_row m u) in
+    proper_choice s.rows (same_told m (told_row m u)) (only (map_for s m)) (changing change later) (λ _. proper_none s.rows (only (map_for s m)) refl)
+    (λ other. proper_some s.rows (changing change later) change refl (told_change s m u sound inside short other))
 
-pub one_map_proper : (s : State) (mk : MachineKey) (node : NodeKey) (told : Option Update) → AreSound s.rows → IfSome told IsShortUpdate → IsProper s (one_map s mk node told)
+pub one_map_proper : (s : State) (mk : MachineKey) (node : NodeKey) (told : Option Update) → AreSound s.rows → IfSome told IsShortUpdate → IsSound s.rows (one_map s mk node told)
 one_map_proper s mk node told sound short =
-    proper_bind s (asking s mk node) (λ m. Ok (mapped s m told)) (asking_ruled s mk node)
-    (λ m is. mapped_proper s m told sound (asking_is s mk node m is) short)
+    proper_bind s.rows (asking s mk node) (λ m. Ok (map_decision s m told))
+    (λ m is. map_proper s m told sound (asking_is s mk node m is) short)
+
+pub told_place : (m : Machine) (u : Update) → KeepsPlace m (told_row m u)
+told_place m u = record { id = refl; machine = refl; name = refl; v4 = refl; v6 = refl; approved = refl; created = refl }
+
+pub told_registration : (m : Machine) (u : Update) → KeepsRegistration m (told_row m u)
+told_registration m u = record { user = refl; node = refl; ephemeral = refl; expiry = refl; tags = refl }

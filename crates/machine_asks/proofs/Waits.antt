@@ -1,14 +1,15 @@
--- A pending entry that is made keeps the rules of the tables.
-use Rattle.std.proofs.Common.{◌≡◌, ◌≢◌, ◌<◌, ◌+◌, ℕ, true, false, not, List, Option, Some, None, Ok, inl, sym, ◌∙◌, refl, nat_lt, arith, length, codes, take}
+-- That a machine waits is sound: a pending entry that is made keeps the rules of the tables.
+use Rattle.std.proofs.Common.{◌≡◌, ◌≢◌, ◌<◌, ◌+◌, ℕ, true, false, not, List, Option, Some, None, Ok, inl, sym, ◌∙◌, ap, refl, nat_lt, arith, length, codes, take}
 use Rattle.std.specs.Prelude.{Contains}
 use Rattle.std.specs.Str.{bytes_eq}
 use Rattle.tail_base.specs.declared.key.MachineKey.{MachineKey}
 use Rattle.net_rows.specs.declared.limits.TheConstants.{COUNTER_LIMIT, PENDING_LIMIT}
 use Rattle.net_rows.specs.Rows.{after, pending_of}
 use Rattle.net_rows.specs.Sound.{AreSound, FitsPending}
+use Rattle.net_rows.specs.declared.change.Counters.{Counters}
 use Rattle.net_rows.specs.declared.pending.Pending.{Pending}
 use Rattle.net_rows.specs.declared.rows.Rows.{Rows}
-use Rattle.std.proofs.lemmas.Bool.{and_parts, ltb-true}
+use Rattle.std.proofs.lemmas.Bool.{and_parts, not-false, ltb-true}
 use Rattle.tail_base.proofs.Bools.{bytes_eq-true, bytes_eq-from}
 use Rattle.net_rows.proofs.Members.{find_member, find_none}
 use Rattle.net_rows.proofs.RemoveLemmas.{without_member}
@@ -16,12 +17,13 @@ use Rattle.net_rows.proofs.SoundPut.{sound_pending}
 use Rattle.net_rows.proofs.SoundRemove.{sound_without_pending}
 use Rattle.tailcfg.specs.Short.{IsShortForm}
 use Rattle.tailcfg.specs.declared.register.Register.{Register}
+use Rattle.desk_state.specs.Decisions.{IsNoLess, IsSound}
 use Rattle.desk_state.specs.State.{State}
-use Rattle.desk_state.specs.declared.reply.Refusal.TheVariants.{EntropyFault, Full}
-use Rattle.desk_state.specs.declared.reply.Scarce.TheVariants as scarce
+use Rattle.desk_state.specs.declared.refusal.Refusal.TheVariants.{EntropyFault, Full}
+use Rattle.desk_state.specs.declared.refusal.Scarce.TheVariants as scarce
+use Rattle.desk_state.proofs.Proper.{proper_if, proper_none, proper_or, proper_refuse, proper_some, sound_change}
 use Rattle.desk_state.proofs.TextLemmas.{fresh_pending_text, row_text_names}
-use Rattle.machine_asks.specs.Waiting.{entry_change, has_place, new_entry, pending_left, wait, wait_anew, wait_as, waits, waits_on}
-use Rattle.machine_asks.proofs.Proper.{IsProper, passed, proper_changes, proper_if, proper_only, proper_or, proper_refuse}
+use Rattle.machine_asks.specs.Waiting.{entry_change, has_place, new_entry, pending_left, wait, wait_anew, wait_as, waiting_entered, waits, waits_on}
 
 -- the tables without the entry that goes
 abbrev left : Rows → Option Pending → Rows
@@ -67,21 +69,33 @@ entry_sound t p None sound fits is below = sound_pending t p (t.next.pending + 1
 entry_sound t p (Some o) sound fits is below =
     sound_pending (left t (Some o)) p (t.next.pending + 1) (left_sound t (Some o) sound) fits (omega (arith, is)) (omega arith) (omega arith)
 
+-- the counter of pending entries rises
+entry_differs : (t : Rows) (p : Pending) (old : Option Pending) → after t (entry_change t p old) ≢ t
+entry_differs t p None e = let n : t.next.pending + 1 ≡ t.next.pending = ap (λ (u : Rows). u.next.pending) e in absurd (omega (arith, n))
+entry_differs t p (Some q) e = let n : t.next.pending + 1 ≡ t.next.pending = ap (λ (u : Rows). u.next.pending) e in absurd (omega (arith, n))
+
+entries_rise : (next : Counters) → IsNoLess next (record next { pending = next.pending + 1 })
+entries_rise next = record { user = omega arith; key = omega arith; pending = omega arith; machine = omega arith }
+
 anew_proper : (s : State) (mk : MachineKey) (form : Register) (words : Option (List ℕ)) (old : Option Pending) → AreSound s.rows → IsShortForm form
-    → pending_of s.rows.pending mk.0 ≡ old → IsProper s (wait_anew s mk form words old)
+    → pending_of s.rows.pending mk.0 ≡ old → IsSound s.rows (wait_anew s mk form words old)
 anew_proper s mk form words old sound short found =
-    proper_refuse s (not (has_place s.rows old)) (Full scarce.Pending) _ tt (λ free.
-    let place = passed (has_place s.rows old) free in
+    proper_refuse s.rows (not (has_place s.rows old)) (Full scarce.Pending) _ (λ free.
+    let place = not-false (has_place s.rows old) free in
     let room = and_parts (nat_lt (length (pending_left s.rows.pending old)) PENDING_LIMIT) (nat_lt s.rows.next.pending COUNTER_LIMIT) place in
-    proper_or s words EntropyFault _ tt (λ (drawn : List ℕ) _.
-    proper_changes s _ _ _ (entry_sound s.rows (new_entry s mk form drawn) old sound (fits_entry s mk form drawn old sound short found place) refl (ltb-true _ _ room.1))))
+    proper_or s.rows EntropyFault words _ (λ (drawn : List ℕ) _.
+    let p = new_entry s mk form drawn in
+    proper_some s.rows (waiting_entered s.rows p old) (entry_change s.rows p old) refl
+    (sound_change s.rows (entry_change s.rows p old)
+    (entry_sound s.rows p old sound (fits_entry s mk form drawn old sound short found place) refl (ltb-true _ _ room.1))
+    (entry_differs s.rows p old) (entries_rise s.rows.next))))
 
 as_proper : (s : State) (mk : MachineKey) (form : Register) (words : Option (List ℕ)) (old : Option Pending) → AreSound s.rows → IsShortForm form
-    → pending_of s.rows.pending mk.0 ≡ old → IsProper s (wait_as s mk form words old)
+    → pending_of s.rows.pending mk.0 ≡ old → IsSound s.rows (wait_as s mk form words old)
 as_proper s mk form words None sound short found = anew_proper s mk form words None sound short found
 as_proper s mk form words (Some p) sound short found =
-    proper_if s (waits s form.node p) (Ok (waits_on p)) (wait_anew s mk form words (Some p))
-    (λ _. proper_only s _) (λ _. anew_proper s mk form words (Some p) sound short found)
+    proper_if s.rows (waits s form.node p) (Ok (waits_on p)) (wait_anew s mk form words (Some p))
+    (λ _. proper_none s.rows (waits_on p) refl) (λ _. anew_proper s mk form words (Some p) sound short found)
 
-pub wait_proper : (s : State) (mk : MachineKey) (form : Register) (words : Option (List ℕ)) → AreSound s.rows → IsShortForm form → IsProper s (wait s mk form words)
+pub wait_proper : (s : State) (mk : MachineKey) (form : Register) (words : Option (List ℕ)) → AreSound s.rows → IsShortForm form → IsSound s.rows (wait s mk form words)
 wait_proper s mk form words sound short = as_proper s mk form words (pending_of s.rows.pending mk.0) sound short refl

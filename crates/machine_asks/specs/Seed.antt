@@ -9,21 +9,22 @@ use Rattle.net_rows.specs.declared.key.AuthKey.{AuthKey}
 use Rattle.net_rows.specs.declared.change.Change.{Change}
 use Rattle.net_rows.specs.declared.change.Row.TheVariants as row
 use Rattle.desk_state.specs.State.{State}
-use Rattle.desk_state.specs.Steps.{◌>>=◌, refuse_if}
-use Rattle.desk_state.specs.declared.reply.Refusal.{Refusal}
-use Rattle.desk_state.specs.declared.reply.Refusal.TheVariants.{Full}
-use Rattle.desk_state.specs.declared.reply.Scarce.TheVariants as scarce
-use Rattle.desk_state.specs.declared.reply.Answer.TheVariants.{Gone}
+use Rattle.tail_base.specs.Steps.{◌>>=◌, refuse_if}
+use Rattle.desk_state.specs.Decisions.{changing, only}
+use Rattle.desk_state.specs.declared.refusal.Refusal.{Refusal}
+use Rattle.desk_state.specs.declared.refusal.Refusal.TheVariants.{Full}
+use Rattle.desk_state.specs.declared.refusal.Scarce.TheVariants as scarce
 use Rattle.desk_state.specs.declared.decision.Decision.{Decision}
-use Rattle.desk_state.specs.declared.decision.Decision.TheVariants.{Only, Changes}
 
 -- tables with users, and texts of the server's own keys, stay as they are
 abbrev pub is_past_seed : Rows → List ℕ → Bool
 is_past_seed rows text = nat_lt 0 (length rows.users) || starts_with nat_eq text (codes "tnkey-")
 
+-- the first user
 abbrev pub seed_user : Rows → User
 seed_user rows = record { id = rows.next.user; login = codes "seed@" }
 
+-- a reusable key of that user with this text
 abbrev pub seed_key : Rows → List ℕ → AuthKey
 seed_key rows text = record {
   id = rows.next.key;
@@ -36,6 +37,7 @@ seed_key rows text = record {
   tags = [];
 }
 
+-- both are put, under the next ids
 abbrev pub seed_change : Rows → List ℕ → Change
 seed_change rows text = record {
   puts = row.User (seed_user rows) ∷ row.Key (seed_key rows text) ∷ [];
@@ -43,10 +45,11 @@ seed_change rows text = record {
   next = record rows.next { user = rows.next.user + 1; key = rows.next.key + 1 };
 }
 
-abbrev pub seed : State → List ℕ → Result Decision Refusal
+-- what a seed with this text results in
+abbrev pub seed : State → List ℕ → Result (Decision (Unit {0})) Refusal
 seed s text =
-    if is_past_seed s.rows text then Ok (Only Gone)
+    if is_past_seed s.rows text then Ok (only tt)
     else do
       user ← refuse_if (not (has_room s.rows kind.User)) (Full scarce.User)
       key ← refuse_if (not (has_room s.rows kind.Key)) (Full scarce.Key)
-      Ok (Changes (seed_change s.rows text) [] Gone)
+      Ok (changing (seed_change s.rows text) tt)

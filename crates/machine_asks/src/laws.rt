@@ -1,36 +1,58 @@
-//! What holds of registrations and updates in any state. None of these functions does anything: each states a
+//! What holds of machines' asks in any state. None of these functions does anything: each states a
 //! law.
-ghost use Rattle.std.specs.Prelude.{◌≡◌, ℕ, List, Option, Ok, false, true};
+ghost use Rattle.std.specs.Prelude.{◌≡◌, ℕ, List, Option, None, Ok, false};
+ghost use Rattle.settings.specs.Settings.{AreSettings};
+ghost use Rattle.net_rows.specs.Damage.{damage};
 ghost use Rattle.net_rows.specs.declared.machine.Machine.{Machine};
-ghost use Rattle.tailcfg.specs.declared.register.Register.{Register};
-ghost use Rattle.tailcfg.specs.declared.update.Update.{Update};
+ghost use Rattle.tailcfg.specs.declared.register.Register as form;
+ghost use Rattle.tailcfg.specs.declared.update.Update as update;
 ghost use Rattle.map_delta.specs.Profiles.{profile_of};
+ghost use Rattle.desk_state.specs.Decisions.{IsSound, only, rows_after};
 ghost use Rattle.desk_state.specs.State.{State};
-ghost use Rattle.desk_state.specs.declared.decision.Decision.TheVariants.{Only};
-ghost use Rattle.desk_state.specs.declared.reply.Answer.TheVariants.{Registered};
-ghost use Rattle.machine_asks.specs.Laws.{IsRepeat, rows_after};
-ghost use Rattle.machine_asks.specs.Register.{register};
-ghost use Rattle.machine_asks.specs.Update.{same_told, told_row};
+ghost use Rattle.desk_state.specs.declared.decision.Decision.{Decision};
+ghost use Rattle.machine_rows.specs.Same.{KeepsPlace, KeepsRegistration};
+ghost use Rattle.machine_asks.specs.Decision.{decision};
+ghost use Rattle.machine_asks.specs.Laws.{IsRepeat};
+ghost use Rattle.machine_asks.specs.Seed.{seed};
+ghost use Rattle.machine_asks.specs.Short.{IsShortMachineAsk};
+ghost use Rattle.machine_asks.specs.Update.{told_row};
+ghost use Rattle.machine_asks.specs.declared.answer.MachineAnswer.{MachineAnswer};
+ghost use Rattle.machine_asks.specs.declared.answer.MachineAnswer.TheVariants.{Registered};
+ghost use Rattle.machine_asks.specs.declared.ask.MachineAsk.{MachineAsk};
+ghost use Rattle.machine_asks.specs.declared.ask.MachineAsk.TheVariants.{Register};
+
+/// What is decided of a machine's ask has no change, or one that changes rows, lets no counter fall,
+/// and keeps the rules of the tables.
+pub fn machine_decisions_are_sound()
+    ensures decided { (s : State) (x : MachineAsk) (words : Option (List ℕ))
+        → AreSettings s.settings → damage s.rows ≡ None → IsShortMachineAsk x
+        → IsSound s.rows (decision s x words) }
+{}
+
+/// And so with a seed.
+pub fn seeds_are_sound()
+    ensures seeded { (s : State) (text : List ℕ) → damage s.rows ≡ None
+        → IsSound s.rows (seed s text) }
+{}
 
 /// A live machine that registers again with the node key that it has is answered for its user, and
 /// no key is looked at.
 pub fn repeats_are_answered()
-    ensures answer { (s : State) (m : Machine) (form : Register) (words : Option (List ℕ)) → IsRepeat s m form
-        → register s m.machine form words ≡ Ok (Only (Registered (profile_of s.rows.users m.user) false)) }
+    ensures answer { (s : State) (m : Machine) (x : form.Register) (words : Option (List ℕ))
+        → IsRepeat s m x
+        → decision s (Register m.machine x) words
+        ≡ Ok (only (Registered (profile_of s.rows.users m.user) false)) }
 {}
 
 /// A live machine that registers again with the node key that it has changes nothing.
 pub fn repeats_change_nothing()
-    ensures rows { (s : State) (m : Machine) (form : Register) (words : Option (List ℕ)) → IsRepeat s m form
-        → rows_after s.rows (register s m.machine form words) ≡ s.rows }
+    ensures rows { (s : State) (m : Machine) (x : form.Register) (words : Option (List ℕ))
+        (d : Decision MachineAnswer) → IsRepeat s m x
+        → decision s (Register m.machine x) words ≡ Ok d → rows_after s.rows d.change ≡ s.rows }
 {}
 
-/// Where an update changes no row, the row would have stayed as it was.
-pub fn kept_rows_stay()
-    ensures stays { (m : Machine) (u : Update) → same_told m (told_row m u) ≡ true → told_row m u ≡ m }
-{}
-
-/// Where the row stays as it was, an update changes no row.
-pub fn rows_that_stay_are_kept()
-    ensures kept { (m : Machine) (u : Update) → told_row m u ≡ m → same_told m (told_row m u) ≡ true }
+/// What a machine tells of itself leaves its place and its registration as they were.
+pub fn told_rows_keep_the_rest()
+    ensures place { (m : Machine) (u : update.Update) → KeepsPlace m (told_row m u) }
+    ensures registration { (m : Machine) (u : update.Update) → KeepsRegistration m (told_row m u) }
 {}

@@ -1,16 +1,17 @@
 //! A machine logs out, or takes another node key.
 ghost use Rattle.std.specs.Prelude.{◌≡◌, IfOk};
 ghost use Rattle.std.specs.Option.{option_copied};
-ghost use Rattle.desk_state.specs.Steps.{Gives};
+ghost use Rattle.tail_base.specs.Steps.{Gives};
 ghost use Rattle.machine_asks.specs.Logout as spec;
 
-use crate::rows::{online_ids, row_replaced};
-use desk_state::{Answer, Decision, Refusal, Snapshot, Stop, is_ahead, is_live, machine_gone};
+use crate::answer::MachineAnswer;
+use desk_state::{Decision, Refusal, Snapshot, is_ahead, is_live, machine_gone};
+use machine_rows::row_replaced;
 use map_delta::profile_of;
 use moments::Moment;
-use net_rows::Machine;
+use net_rows::{Change, Machine};
 use std::alloc::Global;
-use tail_base::{Duplicate, Items, NoMemory, NodeKey};
+use tail_base::{Duplicate, Failure, Items, NoMemory, NodeKey};
 
 /// Whether an expiry that has passed is asked for.
 pub(crate) fn is_logout(at: &Snapshot<'_>, expiry: Option<Moment>) -> bool
@@ -19,67 +20,105 @@ pub(crate) fn is_logout(at: &Snapshot<'_>, expiry: Option<Moment>) -> bool
     !is_ahead(at.time, expiry)
 }
 
-fn ended(alloc: Global, at: &Snapshot<'_>, row: &Machine) -> Result<Machine, NoMemory>
-    ensures value { IfOk result (λ m. m ≡ spec.ended at.now row.now) }
+/// The machine is offline from now on if it was online, and this changes of its row.
+fn session_ended(
+    alloc: Global,
+    row: &Machine,
+    change: Option<Change>,
+    answer: MachineAnswer,
+) -> Result<Decision<MachineAnswer>, NoMemory>
+    ensures value { IfOk result (λ d. d ≡ spec.session_ended row.now change answer) }
 {
-    let mut ended = row.copy(alloc)?;
-    ended.expiry = Some(at.time);
-    Ok(ended)
+    let mut ended = Items::new(alloc);
+    ended.push(row.id)?;
+    Ok(Decision {
+        change,
+        offline: Items::new(alloc),
+        ended,
+        answer,
+    })
 }
 
-fn logged_out(alloc: Global, at: &Snapshot<'_>, row: &Machine) -> Result<Answer, NoMemory>
+fn expired_row(alloc: Global, at: &Snapshot<'_>, row: &Machine) -> Result<Machine, NoMemory>
+    ensures value { IfOk result (λ m. m ≡ spec.expired_row at.now row.now) }
+{
+    let mut expired = row.copy(alloc)?;
+    expired.expiry = Some(at.time);
+    Ok(expired)
+}
+
+fn logged_out(alloc: Global, at: &Snapshot<'_>, row: &Machine) -> Result<MachineAnswer, NoMemory>
     ensures value { IfOk result (λ a. a ≡ spec.logged_out at.now row.now) }
 {
-    Ok(Answer::Registered {
+    Ok(MachineAnswer::Registered {
         profile: profile_of(alloc, at.tables, row.user)?,
         expired: true,
     })
 }
 
-fn removed(alloc: Global, at: &Snapshot<'_>, row: &Machine) -> Result<Decision, NoMemory>
-    ensures value { IfOk result (λ d. d ≡ spec.removed at.now row.now) }
+/// An ephemeral machine logs out: its row goes.
+fn machine_removed(
+    alloc: Global,
+    at: &Snapshot<'_>,
+    row: &Machine,
+) -> Result<Decision<MachineAnswer>, NoMemory>
+    ensures value { IfOk result (λ d. d ≡ spec.machine_removed at.now row.now) }
 {
-    Ok(Decision::Changes {
-        change: machine_gone(alloc, at.tables, row.id)?,
-        offline: Items::new(alloc),
-        answer: logged_out(alloc, at, row)?,
-    })
+    let answer = logged_out(alloc, at, row)?;
+    let change = machine_gone(alloc, at.tables, row.id)?;
+    Ok(Decision::changing(alloc, change, answer))
 }
 
-fn closed(alloc: Global, at: &Snapshot<'_>, row: &Machine) -> Result<Decision, NoMemory>
-    ensures value { IfOk result (λ d. d ≡ spec.closed at.now row.now) }
+/// A machine logs out that has expired already: no row changes.
+fn logout_again(
+    alloc: Global,
+    at: &Snapshot<'_>,
+    row: &Machine,
+) -> Result<Decision<MachineAnswer>, NoMemory>
+    ensures value { IfOk result (λ d. d ≡ spec.logout_again at.now row.now) }
 {
-    let ended = ended(alloc, at, row)?;
-    Ok(Decision::Changes {
-        change: row_replaced(alloc, at.tables, ended)?,
-        offline: online_ids(alloc, at, row)?,
-        answer: logged_out(alloc, at, row)?,
-    })
+    let answer = logged_out(alloc, at, row)?;
+    session_ended(alloc, row, None, answer)
 }
 
-/// A machine logs out. The row of an ephemeral machine goes; the life of another one ends now, unless
-/// it has ended already.
+/// A machine logs out: it expires now.
+fn logout_now(
+    alloc: Global,
+    at: &Snapshot<'_>,
+    row: &Machine,
+) -> Result<Decision<MachineAnswer>, NoMemory>
+    ensures value { IfOk result (λ d. d ≡ spec.logout_now at.now row.now) }
+{
+    let expired = expired_row(alloc, at, row)?;
+    let change = row_replaced(alloc, at.tables, expired)?;
+    let answer = logged_out(alloc, at, row)?;
+    session_ended(alloc, row, Some(change), answer)
+}
+
+/// A machine logs out. The row of an ephemeral machine goes; another one expires now, unless it has
+/// expired already.
 pub(crate) fn logout(
     alloc: Global,
     at: &Snapshot<'_>,
     node: &NodeKey,
     row: Option<&Machine>,
-) -> Result<Decision, Stop>
-    ensures value { Gives (λ d. d) result (spec.logout at.now node.now (option_copied row.entry)) }
+) -> Result<Decision<MachineAnswer>, Failure<Refusal>>
+    ensures value { Gives (λ d. d) result
+        (spec.logout at.now node.now (option_copied row.entry)) }
 {
     let Some(row) = row else {
-        return Err(Stop::Refused(Refusal::UnknownMachine));
+        return Err(Failure::Fault(Refusal::UnknownMachine));
     };
     if row.node != *node {
-        return Err(Stop::Refused(Refusal::UnknownMachine));
+        return Err(Failure::Fault(Refusal::UnknownMachine));
     }
     if row.ephemeral {
-        return Ok(removed(alloc, at, row)?);
+        return Ok(machine_removed(alloc, at, row)?);
     }
     if !is_ahead(at.time, row.expiry) {
-        return Ok(Decision::Only(logged_out(alloc, at, row)?));
+        return Ok(logout_again(alloc, at, row)?);
     }
-    Ok(closed(alloc, at, row)?)
+    Ok(logout_now(alloc, at, row)?)
 }
 
 fn is_old(old: Option<NodeKey>, node: &NodeKey) -> bool
@@ -107,21 +146,19 @@ fn with_node(alloc: Global, row: &Machine, node: &NodeKey) -> Result<Machine, No
 }
 
 /// The machine takes another node key in place of the one that it has.
-pub(crate) fn rotated(
+pub(crate) fn node_key_replaced(
     alloc: Global,
     at: &Snapshot<'_>,
     node: &NodeKey,
     row: &Machine,
-) -> Result<Decision, NoMemory>
-    ensures value { IfOk result (λ d. d ≡ spec.rotated at.now node.now row.now) }
+) -> Result<Decision<MachineAnswer>, NoMemory>
+    ensures value { IfOk result (λ d. d ≡ spec.node_key_replaced at.now node.now row.now) }
 {
     let changed = with_node(alloc, row, node)?;
-    Ok(Decision::Changes {
-        change: row_replaced(alloc, at.tables, changed)?,
-        offline: online_ids(alloc, at, row)?,
-        answer: Answer::Registered {
-            profile: profile_of(alloc, at.tables, row.user)?,
-            expired: false,
-        },
-    })
+    let change = row_replaced(alloc, at.tables, changed)?;
+    let answer = MachineAnswer::Registered {
+        profile: profile_of(alloc, at.tables, row.user)?,
+        expired: false,
+    };
+    session_ended(alloc, row, Some(change), answer)
 }

@@ -2,27 +2,28 @@
 ghost use Rattle.std.specs.Prelude.{◌≡◌, ◌∷◌, ◌++◌, [], IfOk, IfSome, Contains, None, OnOk, if◌then◌else◌};
 ghost use Rattle.std.specs.Option.{option_copied};
 ghost use Rattle.desk_state.specs.State.{is_live};
-ghost use Rattle.desk_state.specs.Steps.{Gives};
+ghost use Rattle.tail_base.specs.Steps.{Gives};
 ghost use Rattle.net_rows.specs.Damage.{damage};
 ghost use Rattle.net_rows.specs.Rows.{after};
 ghost use Rattle.tailcfg.specs.Short.{IsShortUpdate};
 ghost use Rattle.machine_asks.specs.OneMap as spec;
-ghost use Rattle.machine_asks.specs.Rows.{row_replaced};
+ghost use Rattle.machine_rows.specs.Rows.{row_replaced};
 
-use crate::holds::keep_rules;
-use crate::rows::row_replaced;
-use crate::told::{same_told, told_row};
+use crate::answer::MachineAnswer;
+use crate::told::told_row;
 use crate::who_asks::asking;
-use desk_state::{Answer, Decision, Snapshot, Stop, is_live};
+use desk_state::{Decision, Refusal, Snapshot, is_live, keep_rules};
+use machine_rows::{row_replaced, same_told};
 use map_delta::{first_response, plain_map};
 use net_rows::{Change, Machine, Tables};
 use std::alloc::Global;
-use tail_base::{Duplicate, Items, MachineKey, NoMemory, NodeKey};
+use tail_base::{Duplicate, Failure, Items, MachineKey, NoMemory, NodeKey};
 use tailcfg::Update;
 
 /// Adds the machine's id, if it is live.
 fn add_live(at: &Snapshot<'_>, ids: &mut Items<u32>, machine: &Machine) -> Result<(), NoMemory>
-    ensures ok { OnOk result (ids.new ≡ ids.old ++ (if is_live at.now machine.now then machine.now.id ∷ [] else [])) }
+    ensures ok { OnOk result (ids.new
+        ≡ ids.old ++ (if is_live at.now machine.now then machine.now.id ∷ [] else [])) }
 {
     if is_live(at, machine) {
         ids.push(machine.id)
@@ -43,12 +44,12 @@ fn live_ids(alloc: Global, at: &Snapshot<'_>) -> Result<Items<u32>, NoMemory>
 }
 
 /// The whole map of a machine, computed afresh.
-fn map_for(alloc: Global, at: &Snapshot<'_>, row: &Machine) -> Result<Answer, NoMemory>
+fn map_for(alloc: Global, at: &Snapshot<'_>, row: &Machine) -> Result<MachineAnswer, NoMemory>
     ensures value { IfOk result (λ a. a ≡ spec.map_for at.now row.now) }
 {
     let live = live_ids(alloc, at)?;
     let view = plain_map(alloc, at.settings, at.tables, live.as_slice(), row)?;
-    Ok(Answer::Map(first_response(alloc, view, None, None)))
+    Ok(MachineAnswer::Map(first_response(alloc, view, None, None)))
 }
 
 /// The map of a machine in other tables.
@@ -57,8 +58,9 @@ fn map_in(
     at: &Snapshot<'_>,
     tables: &Tables,
     row: &Machine,
-) -> Result<Answer, NoMemory>
-    ensures value { IfOk result (λ a. a ≡ spec.map_for (record at.now { rows = tables.now.rows }) row.now) }
+) -> Result<MachineAnswer, NoMemory>
+    ensures value { IfOk result (λ a. a
+        ≡ spec.map_for (record at.now { rows = tables.now.rows }) row.now) }
 {
     let changed = Snapshot {
         settings: at.settings,
@@ -75,67 +77,66 @@ fn changed_map(
     at: &Snapshot<'_>,
     change: &Change,
     row: &Machine,
-) -> Result<Answer, NoMemory>
+) -> Result<MachineAnswer, NoMemory>
     requires sound { damage (after at.now.rows change.now) ≡ None }
-    ensures value { IfOk result (λ a. a ≡ spec.map_for (spec.after_change at.now change.now) row.now) }
+    ensures value { IfOk result (λ a. a
+        ≡ spec.map_for (spec.after_change at.now change.now) row.now) }
 {
     let tables = at.tables.after(alloc, change)?;
     map_in(alloc, at, &tables, row)
 }
 
-fn mapped_after(
+fn map_after_update(
     alloc: Global,
     at: &Snapshot<'_>,
     was: &Machine,
     told: Machine,
-) -> Result<Decision, NoMemory>
+) -> Result<Decision<MachineAnswer>, NoMemory>
     requires sound { damage (after at.now.rows (row_replaced at.now.rows told)) ≡ None }
-    ensures value { IfOk result (λ d. d ≡ spec.mapped_after at.now was.now told) }
+    ensures value { IfOk result (λ d. d ≡ spec.map_after_update at.now was.now told) }
 {
     if same_told(was, &told) {
-        return Ok(Decision::Only(map_for(alloc, at, was)?));
+        return Ok(Decision::only(alloc, map_for(alloc, at, was)?));
     }
     let change = row_replaced(alloc, at.tables, told.copy(alloc)?)?;
     let answer = changed_map(alloc, at, &change, &told)?;
-    Ok(Decision::Changes {
-        change,
-        offline: Items::new(alloc),
-        answer,
-    })
+    Ok(Decision::changing(alloc, change, answer))
 }
 
-fn mapped(
+fn map_decision(
     alloc: Global,
     at: &Snapshot<'_>,
     row: &Machine,
     update: Option<&Update>,
-) -> Result<Decision, NoMemory>
+) -> Result<Decision<MachineAnswer>, NoMemory>
     requires inside { Contains at.now.rows.machines row.now }
     requires short { IfSome (option_copied update) IsShortUpdate }
-    ensures value { IfOk result (λ d. d ≡ spec.mapped at.now row.now (option_copied update.entry)) }
+    ensures value { IfOk result (λ d. d
+        ≡ spec.map_decision at.now row.now (option_copied update.entry)) }
 {
     keep_rules(at);
     match update {
-        None => Ok(Decision::Only(map_for(alloc, at, row)?)),
+        None => Ok(Decision::only(alloc, map_for(alloc, at, row)?)),
         Some(update) => {
             let told = told_row(alloc, row, update)?;
-            mapped_after(alloc, at, row, told)
+            map_after_update(alloc, at, row, told)
         }
     }
 }
 
-/// What comes of a machine's wish for its map: the whole map, computed afresh, after what it tells of
-/// itself. The machine has to be one with these keys, and live.
-pub fn one_map(
+/// What a machine's ask for its map results in: the whole map, computed afresh, after what it tells
+/// of itself. The machine has to be one with these keys, and live.
+pub(crate) fn one_map(
     alloc: Global,
     at: &Snapshot<'_>,
     machine: &MachineKey,
     node: &NodeKey,
     update: Option<&Update>,
-) -> Result<Decision, Stop>
+) -> Result<Decision<MachineAnswer>, Failure<Refusal>>
     requires short { IfSome (option_copied update) IsShortUpdate }
-    ensures value { Gives (λ d. d) result (spec.one_map at.now machine.now node.now (option_copied update.entry)) }
+    ensures value { Gives (λ d. d) result
+        (spec.one_map at.now machine.now node.now (option_copied update.entry)) }
 {
     let row = asking(at, machine, node)?;
-    Ok(mapped(alloc, at, row, update)?)
+    Ok(map_decision(alloc, at, row, update)?)
 }

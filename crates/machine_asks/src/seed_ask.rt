@@ -1,14 +1,14 @@
 //! The first user and key.
-ghost use Rattle.std.specs.Prelude.{◌≡◌, Ok, IfOk, true};
+ghost use Rattle.std.specs.Prelude.{◌≡◌, IfOk, true};
 ghost use Rattle.net_rows.specs.Room.{has_room};
 ghost use Rattle.net_rows.specs.declared.change.Kind.TheVariants as kind;
-ghost use Rattle.desk_state.specs.Steps.{Gives};
+ghost use Rattle.tail_base.specs.Steps.{Gives};
 ghost use Rattle.machine_asks.specs.Seed.{is_past_seed, seed, seed_change, seed_key, seed_user};
 
-use desk_state::{Answer, Decision, Refusal, Scarce, Snapshot, Stop};
+use desk_state::{Decision, Refusal, Scarce, Snapshot};
 use net_rows::{AuthKey, Change, Counters, Kind, Row, Tables, User};
 use std::alloc::Global;
-use tail_base::{Duplicate, Items, Login, NoMemory, Text};
+use tail_base::{Duplicate, Failure, Items, Login, NoMemory, Text};
 
 fn is_past_seed(tables: &Tables, text: &Text) -> bool
     ensures value { result ≡ is_past_seed tables.now.rows text.now }
@@ -16,8 +16,8 @@ fn is_past_seed(tables: &Tables, text: &Text) -> bool
     tables.users().len() > 0 || text.as_slice().starts_with(b"tnkey-")
 }
 
-fn seed_user(alloc: Global, tables: &Tables) -> Result<User, Stop>
-    ensures value { Gives (λ u. u) result (Ok (seed_user tables.now.rows)) }
+fn seed_user(alloc: Global, tables: &Tables) -> Result<User, NoMemory>
+    ensures value { IfOk result (λ user. user ≡ seed_user tables.now.rows) }
 {
     match Login::read(alloc, b"seed@")? {
         Some(login) => Ok(User {
@@ -43,10 +43,10 @@ fn seed_key(alloc: Global, tables: &Tables, text: &Text) -> Result<AuthKey, NoMe
     })
 }
 
-fn seed_change(alloc: Global, tables: &Tables, text: &Text) -> Result<Change, Stop>
+fn seed_change(alloc: Global, tables: &Tables, text: &Text) -> Result<Change, NoMemory>
     requires user { has_room tables.now.rows kind.User ≡ true }
     requires key { has_room tables.now.rows kind.Key ≡ true }
-    ensures value { Gives (λ c. c) result (Ok (seed_change tables.now.rows text.now)) }
+    ensures value { IfOk result (λ c. c ≡ seed_change tables.now.rows text.now) }
 {
     let next = tables.next();
     let mut puts = Items::new(alloc);
@@ -63,25 +63,22 @@ fn seed_change(alloc: Global, tables: &Tables, text: &Text) -> Result<Change, St
     })
 }
 
-/// What a seed comes to: in tables without users a user `seed@` and a reusable key of that user
+/// What a seed results in: in tables without users a user `seed@` and a reusable key of that user
 /// with this text. In other tables, and with a text that begins as the server's own keys do
 /// (`tnkey-`), it changes nothing.
-pub fn seed(alloc: Global, at: &Snapshot<'_>, text: &Text) -> Result<Decision, Stop>
+pub fn seed(alloc: Global, at: &Snapshot<'_>, text: &Text) -> Result<Decision<()>, Failure<Refusal>>
     ensures value { Gives (λ d. d) result (seed at.now text.now) }
 {
     let tables = at.tables;
     if is_past_seed(tables, text) {
-        return Ok(Decision::Only(Answer::Gone));
+        return Ok(Decision::only(alloc, ()));
     }
     if !tables.room(Kind::User) {
-        return Err(Stop::Refused(Refusal::Full(Scarce::User)));
+        return Err(Failure::Fault(Refusal::Full(Scarce::User)));
     }
     if !tables.room(Kind::Key) {
-        return Err(Stop::Refused(Refusal::Full(Scarce::Key)));
+        return Err(Failure::Fault(Refusal::Full(Scarce::Key)));
     }
-    Ok(Decision::Changes {
-        change: seed_change(alloc, tables, text)?,
-        offline: Items::new(alloc),
-        answer: Answer::Gone,
-    })
+    let change = seed_change(alloc, tables, text)?;
+    Ok(Decision::changing(alloc, change, ()))
 }

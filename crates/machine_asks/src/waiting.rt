@@ -1,16 +1,17 @@
 //! A machine waits for an operator.
 ghost use Rattle.std.specs.Prelude.{◌≡◌, ◌<◌, IfOk, length};
 ghost use Rattle.std.specs.Option.{option_copied};
-ghost use Rattle.desk_state.specs.Steps.{Gives};
+ghost use Rattle.tail_base.specs.Steps.{Gives};
 ghost use Rattle.net_rows.specs.Shelf.{without};
 ghost use Rattle.net_rows.specs.declared.pending.Pending.{Pending};
 ghost use Rattle.machine_asks.specs.Waiting as spec;
 
-use crate::rows::pending_gone;
-use desk_state::{Answer, Decision, Refusal, Scarce, Snapshot, Stop, is_overdue, row_text};
+use crate::answer::MachineAnswer;
+use desk_state::{Decision, Refusal, Scarce, Snapshot, is_overdue, row_text};
+use machine_rows::pending_gone;
 use net_rows::{COUNTER_LIMIT, Change, Counters, PENDING_LIMIT, Pending, Row, Tables};
 use std::alloc::Global;
-use tail_base::{Duplicate, Items, MachineKey, NoMemory, NodeKey};
+use tail_base::{Duplicate, Failure, Items, MachineKey, NoMemory, NodeKey};
 use tailcfg::Register;
 
 fn waits(at: &Snapshot<'_>, node: &NodeKey, entry: &Pending) -> bool
@@ -79,7 +80,8 @@ fn entry_change(
     old: Option<&Pending>,
 ) -> Result<Change, NoMemory>
     requires counter { tables.now.rows.next.pending < 2147483647 }
-    ensures value { IfOk result (λ c. c ≡ spec.entry_change tables.now.rows entry (option_copied old.entry)) }
+    ensures value { IfOk result (λ c. c
+        ≡ spec.entry_change tables.now.rows entry (option_copied old.entry)) }
 {
     let next = tables.next();
     let mut puts = Items::new(alloc);
@@ -94,29 +96,30 @@ fn entry_change(
     })
 }
 
-fn entered(
+fn waiting_entered(
     alloc: Global,
     tables: &Tables,
     entry: Pending,
     old: Option<&Pending>,
-) -> Result<Decision, NoMemory>
+) -> Result<Decision<MachineAnswer>, NoMemory>
     requires counter { tables.now.rows.next.pending < 2147483647 }
-    ensures value { IfOk result (λ d. d ≡ spec.entered tables.now.rows entry (option_copied old.entry)) }
+    ensures value { IfOk result (λ d. d
+        ≡ spec.waiting_entered tables.now.rows entry (option_copied old.entry)) }
 {
-    let text = entry.text.copy(alloc)?;
-    Ok(Decision::Changes {
-        change: entry_change(alloc, tables, entry, old)?,
-        offline: Items::new(alloc),
-        answer: Answer::LoginAt { pending: text },
-    })
+    let answer = MachineAnswer::LoginAt {
+        pending: entry.text.copy(alloc)?,
+    };
+    let change = entry_change(alloc, tables, entry, old)?;
+    Ok(Decision::changing(alloc, change, answer))
 }
 
-fn repeated(alloc: Global, entry: &Pending) -> Result<Decision, NoMemory>
+fn waits_on(alloc: Global, entry: &Pending) -> Result<Decision<MachineAnswer>, NoMemory>
     ensures value { IfOk result (λ d. d ≡ spec.waits_on entry.now) }
 {
-    Ok(Decision::Only(Answer::LoginAt {
+    let answer = MachineAnswer::LoginAt {
         pending: entry.text.copy(alloc)?,
-    }))
+    };
+    Ok(Decision::only(alloc, answer))
 }
 
 /// A machine waits for an operator: under its entry, where that is for this node key and its time
@@ -127,21 +130,21 @@ pub(crate) fn wait(
     machine: &MachineKey,
     form: &Register,
     words: Option<[u64; 4]>,
-) -> Result<Decision, Stop>
+) -> Result<Decision<MachineAnswer>, Failure<Refusal>>
     ensures value { Gives (λ d. d) result (spec.wait at.now machine.now form.now words) }
 {
     let old = at.tables.pending_of(machine);
     if let Some(entry) = old
         && waits(at, &form.node, entry)
     {
-        return Ok(repeated(alloc, entry)?);
+        return Ok(waits_on(alloc, entry)?);
     }
     if !has_place(at.tables, old) {
-        return Err(Stop::Refused(Refusal::Full(Scarce::Pending)));
+        return Err(Failure::Fault(Refusal::Full(Scarce::Pending)));
     }
     let Some(words) = words else {
-        return Err(Stop::Refused(Refusal::EntropyFault));
+        return Err(Failure::Fault(Refusal::EntropyFault));
     };
     let entry = new_entry(alloc, at, machine, form, &words)?;
-    Ok(entered(alloc, at.tables, entry, old)?)
+    Ok(waiting_entered(alloc, at.tables, entry, old)?)
 }

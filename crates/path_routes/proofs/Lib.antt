@@ -1,1 +1,3 @@
+pub mod LeadLemmas
+pub mod SeekLemmas
 pub mod TableLemmas

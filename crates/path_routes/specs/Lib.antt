@@ -1,3 +1,4 @@
 pub mod Finds
+pub mod Leads
 pub mod Segments
 pub mod Table

@@ -2,13 +2,17 @@
 #![tactic(auto)]
 
 mod found;
+mod laws;
 mod paths;
 mod route;
 mod segments;
+mod table;
 
 pub use found::Found;
+pub use laws::paths_lead;
 pub use paths::{Paths, owner_in, text_of};
 pub use route::Route;
+pub use table::PATHS;
 
 #[cfg(test)]
 mod tests;

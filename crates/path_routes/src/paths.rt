@@ -1,11 +1,11 @@
-//! The table of paths.
-ghost use Rattle.std.specs.Prelude.{◌≡◌, OnOk, IfOk, option_map};
+//! What a path leads to.
+ghost use Rattle.std.specs.Prelude.{◌≡◌, option_map};
 ghost use Rattle.path_routes.specs.Finds.{found_in, owner_in, text_of, with_id};
-ghost use Rattle.path_routes.specs.Table.{machine_table, node_table, owner_table, route_of, table, with_path};
+ghost use Rattle.path_routes.specs.Table.{entry_in};
 
 use crate::found::Found;
-use crate::route::Route;
 use crate::segments::{id_of, segment_from};
+use crate::table::{Entry, all_paths};
 use matchit::Router;
 use std::alloc::Global;
 use std::marker::Model;
@@ -14,7 +14,7 @@ use tail_base::NoMemory;
 /// All paths, by which a request's is looked up.
 #[derive(Drop)]
 pub struct Paths {
-    router: Router<Route>,
+    router: Router<Entry>,
 }
 
 impl Model for Paths {
@@ -28,62 +28,16 @@ impl Model for Paths {
     ghost invariant = { λ a. a.router ≡ table };
 }
 
-/// Enters a path. The router refuses no path of the table, so that only memory can be wanting.
-fn enter(router: &mut Router<Route>, text: &str, route: Route) -> Result<(), NoMemory>
-    ensures ok { OnOk result (router.new ≡ with_path router.old text.now route) }
-{
-    if router.insert(text, route).is_ok() {
-        Ok(())
-    } else {
-        Err(NoMemory)
-    }
-}
-
-fn owner_paths(alloc: Global) -> Result<Router<Route>, NoMemory>
-    ensures value { IfOk result (λ router. router ≡ owner_table) }
-{
-    let mut router = Router::new(alloc);
-    enter(&mut router, "/machine/register", Route::Register)?;
-    enter(&mut router, "/machine/map", Route::Map)?;
-    enter(&mut router, "/api/v1/user", Route::Users)?;
-    enter(&mut router, "/api/v1/user/{login}", Route::User)?;
-    enter(&mut router, "/api/v1/preauthkey", Route::Keys)?;
-    enter(&mut router, "/api/v1/preauthkey/{id}", Route::Key)?;
-    Ok(router)
-}
-
-fn node_paths(alloc: Global) -> Result<Router<Route>, NoMemory>
-    ensures value { IfOk result (λ router. router ≡ node_table) }
-{
-    let mut router = owner_paths(alloc)?;
-    enter(&mut router, "/api/v1/node", Route::Nodes)?;
-    enter(&mut router, "/api/v1/node/{id}", Route::Node)?;
-    enter(&mut router, "/api/v1/node/{id}/expire", Route::NodeExpire)?;
-    enter(&mut router, "/api/v1/node/{id}/rename", Route::NodeRename)?;
-    enter(&mut router, "/api/v1/node/{id}/tags", Route::NodeTags)?;
-    Ok(router)
-}
-
-#[tactic(auto, unfolding(crate::specs::Table::table))]
-fn all_paths(alloc: Global) -> Result<Router<Route>, NoMemory>
-    ensures value { IfOk result (λ router. router ≡ table) }
-{
-    let mut router = node_paths(alloc)?;
-    enter(&mut router, "/api/v1/register", Route::Waiting)?;
-    enter(&mut router, "/api/v1/sweep", Route::Sweep)?;
-    Ok(router)
-}
-
 impl Paths {
-    /// The table of all paths.
+    /// The table of all paths. Only memory can be missing: the router takes each path of the table.
     pub fn new(alloc: Global) -> Result<Paths, NoMemory> {
         Ok(Paths {
             router: all_paths(alloc)?,
         })
     }
 
-    fn route_of(&self, path: &str) -> Option<Route>
-        ensures value { result ≡ route_of path.now }
+    fn entry_in(&self, path: &str) -> Option<Entry>
+        ensures value { result ≡ entry_in path.now }
     {
         match self.router.at(path) {
             Ok(found) => Some(*found.value),
@@ -91,13 +45,13 @@ impl Paths {
         }
     }
 
-    /// What a path leads to, if it leads anywhere: it has to be UTF-8 and one of the table, and where
-    /// it has an id, that is a number from 1 to 2147483647 without leading zeros.
+    /// What a path leads to, if it leads anywhere: it has to be UTF-8 and one of the table, and if it
+    /// has an id, that is a number from 1 to the greatest counter without leading zeros.
     pub fn found(&self, path: &[u8]) -> Option<Found>
         ensures value { result ≡ found_in path.now }
     {
         let text = text_of(path)?;
-        with_id(path, self.route_of(text)?)
+        with_id(path, self.entry_in(text)?)
     }
 }
 
@@ -111,19 +65,28 @@ pub fn text_of(path: &[u8]) -> Option<&str>
     }
 }
 
-fn with_id(path: &[u8], route: Route) -> Option<Found>
-    ensures value { result ≡ with_id path.now route }
+fn with_id(path: &[u8], entry: Entry) -> Option<Found>
+    ensures value { result ≡ with_id path.now entry }
 {
-    if route.has_id() {
-        id_of(segment_from(path, route.owner_start())).map(|id| Found { route, id })
+    let Entry {
+        route,
+        start,
+        has_id,
+    } = entry;
+    if has_id {
+        id_of(segment_from(path, start)).map(|id| Found { route, id, start })
     } else {
-        Some(Found { route, id: 0 })
+        Some(Found {
+            route,
+            id: 0,
+            start,
+        })
     }
 }
 
-/// The segment of a path that names a row.
-pub fn owner_in(path: &[u8], route: Route) -> &[u8]
-    ensures value { result.now ≡ owner_in path.now route }
+/// The segment of a path that names a row, if one does, and else nothing.
+pub fn owner_in(path: &[u8], found: Found) -> &[u8]
+    ensures value { result.now ≡ owner_in path.now found }
 {
-    segment_from(path, route.owner_start())
+    segment_from(path, found.start)
 }

@@ -1,6 +1,9 @@
 //! Segments of paths.
-ghost use Rattle.std.specs.Prelude.{◌≡◌, ◌≤◌, length, drop};
-ghost use Rattle.path_routes.specs.Segments.{before_slash, digits_after, id_of, in_range, leads_with_zero, segment_from};
+ghost use Rattle.std.specs.Prelude.{◌≡◌};
+ghost use Rattle.path_routes.specs.Segments.{before_slash, id_of, segment_from};
+
+use net_rows::COUNTER_LIMIT;
+use tail_base::number_in;
 
 /// The bytes before the first slash, or all.
 fn before_slash(text: &[u8]) -> &[u8]
@@ -25,34 +28,12 @@ pub(crate) fn segment_from(path: &[u8], start: usize) -> &[u8]
     }
 }
 
-/// The number of these digits, if all are digits.
-fn digits(text: &[u8]) -> Option<u64>
-    requires short { length text.now ≤ 10 }
-    ensures value { result ≡ digits_after 0 text.now }
-{
-    let mut n: u64 = 0;
-    for byte in text {
-        n = n * 10 + u64::from(char::from(*byte).to_digit(10)?);
-    }
-    Some(n)
-}
-
-fn in_range(n: u64) -> Option<u32>
-    ensures value { result ≡ in_range n }
-{
-    if 1 <= n && n <= 2_147_483_647 {
-        Some(n as u32)
-    } else {
-        None
-    }
-}
-
-/// The id that a segment spells: 1 to 2147483647 in decimal digits, without leading zeros.
+/// The id that a segment spells in decimal digits without leading zeros, from 1 to the greatest.
 pub(crate) fn id_of(text: &[u8]) -> Option<u32>
     ensures value { result ≡ id_of text.now }
 {
-    if text.starts_with(b"0") || text.len() > 10 || text.len() == 0 {
-        return None;
+    match number_in(text, 10, 1, u64::from(COUNTER_LIMIT)) {
+        Some(id) => Some(id as u32),
+        None => None,
     }
-    in_range(digits(text)?)
 }

@@ -15,7 +15,7 @@ use Rattle.desk_state.specs.declared.reply.Reply.{Reply}
 use Rattle.desk_front.specs.Replies.{reply_bytes}
 use Rattle.desk_front.specs.Wanted.{wanted_of}
 use Rattle.desk_front.specs.declared.want.Wanted.TheVariants as wants
-use Rattle.desk_front.specs.declared.site.Site.{Site}
+use Rattle.desk_front.specs.declared.front_settings.FrontSettings.{FrontSettings}
 use Rattle.tailnet_commands.specs.Outside.{Giving, Took, Drew}
 use Rattle.tailnet_commands.specs.Asked.{IsAsked, IsClosing, Follows}
 use Rattle.tailnet_commands.specs.Exchanges.{Answered, IsExchange, IsOutcome, breaks, ended_by}
@@ -70,7 +70,7 @@ drew_none false (Some word) old new n m d e = absurd d
 drew_none true words old new n m d e = absurd (cc)
 
 -- an ask was one turn
-pub asked_once : {T S : Type 0} (turn : S → Event → Reply → S → Type 0) (site : Site) (outcome : Result T Closed) (ask : Ask) (close : Bool) (m moment : ℤ) (words : Option (List ℕ)) (reply : Reply) (old new : Giving) (s t : S)
+pub asked_once : {T S : Type 0} (turn : S → Event → Reply → S → Type 0) (site : FrontSettings) (outcome : Result T Closed) (ask : Ask) (close : Bool) (m moment : ℤ) (words : Option (List ℕ)) (reply : Reply) (old new : Giving) (s t : S)
     → moment ≡ clamped m → Drew (needs_words ask) words old.words new.words old.word_faults new.word_faults → stream.Took old.answers new.answers m
     → turn s (event.Ask ask moment words) reply t
     → Sent outcome old.held new.held old.write_faults new.write_faults (reply_bytes site ask reply close) → IsAsked turn site outcome ask close old new s t
@@ -110,7 +110,7 @@ pub follows_early : (T : Type 0) (done : T) → Follows {T = T} (Ok done) (Err E
 follows_early T done = record { is = λ written bytes before now h. (h, refl) }
 
 -- an exchange without a turn
-pub answered_fixed : {T S : Type 0} (turn : S → Event → Reply → S → Type 0) (site : Site) (sent outcome : Result T Closed) (request : Request) (last : Bool) (bytes : List ℕ) (ended : Option Closed) (old new : Giving) (s : S)
+pub answered_fixed : {T S : Type 0} (turn : S → Event → Reply → S → Type 0) (site : FrontSettings) (sent outcome : Result T Closed) (request : Request) (last : Bool) (bytes : List ℕ) (ended : Option Closed) (old new : Giving) (s : S)
     → IsExchange site last (record { request = request; turns = []; bytes = bytes; ended = ended; broken = breaks outcome })
     → ((k : ℕ) → new.answers k ≡ old.answers k) → ((k : ℕ) → new.words k ≡ old.words k) → old.word_faults ≤ new.word_faults
     → Sent sent old.held new.held old.write_faults new.write_faults bytes → Follows sent outcome ended → Answered turn site outcome request last old new s s
@@ -129,7 +129,7 @@ answered_fixed turn site sent outcome request last bytes ended old new s is a w 
 }
 
 -- an exchange of one turn
-pub answered_ask : {T S : Type 0} (turn : S → Event → Reply → S → Type 0) (site : Site) (sent outcome : Result T Closed) (request : Request) (last : Bool) (ask : Ask) (old new : Giving) (s t : S)
+pub answered_ask : {T S : Type 0} (turn : S → Event → Reply → S → Type 0) (site : FrontSettings) (sent outcome : Result T Closed) (request : Request) (last : Bool) (ask : Ask) (old new : Giving) (s t : S)
     → wanted_of site request ≡ wants.Ask ask → IsAsked turn site sent ask (request.close || last) old new s t → Follows sent outcome (ended_by (request.close || last)) → Answered turn site outcome request last old new s t
 answered_ask turn site sent outcome request last ask old new s t wants_it asked follows =
     let close = request.close || last in
@@ -156,12 +156,12 @@ or_true true = refl
 or_true false = refl
 
 -- want of memory before any event
-pub exchange_unanswered : (site : Site) (request : Request) (last close : Bool) (bytes : List ℕ) → close ≡ (request.close || last) → bytes ≡ answer 503 (codes "{\"error\":\"NoMemory\"}") close
+pub exchange_unanswered : (site : FrontSettings) (request : Request) (last close : Bool) (bytes : List ℕ) → close ≡ (request.close || last) → bytes ≡ answer 503 (codes "{\"error\":\"NoMemory\"}") close
     → IsExchange site last (record { request = request; turns = []; bytes = bytes; ended = ended_by close; broken = false })
 exchange_unanswered site request last close bytes e is = inl (refl, is ∙ ap (λ (b : Bool). answer 503 (codes "{\"error\":\"NoMemory\"}") b) e, ap ended_by e)
 
 -- a fixed answer that leaves the connection as the request wants it
-pub exchange_fixed : (site : Site) (request : Request) (last close : Bool) (status : ℕ) (body : List ℕ) → close ≡ (request.close || last) → wants.Answer status body ≡ wanted_of site request → (status == 400) ≡ false
+pub exchange_fixed : (site : FrontSettings) (request : Request) (last close : Bool) (status : ℕ) (body : List ℕ) → close ≡ (request.close || last) → wants.Answer status body ≡ wanted_of site request → (status == 400) ≡ false
     → IsExchange site last (record { request = request; turns = []; bytes = answer status body close; ended = ended_by close; broken = false })
 exchange_fixed site request last close status body e w test =
     let closing : close ≡ ((request.close || last) || (status == 400)) = e ∙ sym (ap (λ (b : Bool). (request.close || last) || b) test ∙ or_false (request.close || last)) in
@@ -169,7 +169,7 @@ exchange_fixed site request last close status body e w test =
     inr (rw (← w) (refl, ap (λ (b : Bool). answer status body b) closing, ending))
 
 -- the answer to a faulty request ends the connection
-pub exchange_faulty : (site : Site) (request : Request) (last : Bool) (status : ℕ) (body : List ℕ) → status ≡ 400 → wants.Answer status body ≡ wanted_of site request
+pub exchange_faulty : (site : FrontSettings) (request : Request) (last : Bool) (status : ℕ) (body : List ℕ) → status ≡ 400 → wants.Answer status body ≡ wanted_of site request
     → IsExchange site last (record { request = request; turns = []; bytes = answer 400 body true; ended = Some Early; broken = false })
 exchange_faulty site request last status body is w =
     let w400 : wants.Answer 400 body ≡ wanted_of site request = rw is at w in

@@ -10,14 +10,14 @@ use Rattle.http_front.specs.Requests.{Leads, Splits, at_end, cut, bad}
 use Rattle.http_front.specs.declared.request.Request.{Request}
 use Rattle.http_front.proofs.Streams.{Leads-append, Leads_first, Splits_unique}
 use Rattle.http_front.proofs.Refusals.{Splits-append_bad}
-use Rattle.desk_front.specs.Wanted.{site_of, wanted_of}
+use Rattle.desk_front.specs.Wanted.{front_settings, wanted_of}
 use Rattle.settings.specs.declared.fields.SettingsFields.{SettingsFields}
 use Rattle.tail_words.specs.SettingsText.{settings_of}
 use Rattle.desk_front.specs.declared.want.Wanted.{Wanted}
 use Rattle.desk_front.specs.declared.want.Wanted.TheVariants as wants
 use Rattle.tailnet_desk.specs.declared.entry.Event.{Event}
 use Rattle.desk_state.specs.declared.reply.Reply.{Reply}
-use Rattle.desk_front.specs.declared.site.Site.{Site}
+use Rattle.desk_front.specs.declared.front_settings.FrontSettings.{FrontSettings}
 use Rattle.tailnet_commands.specs.Complete.{IsAccepted, IsClear, IsComplete}
 use Rattle.tailnet_commands.specs.Exchanges.{Exchange, IsExchange, AreExchanges, IsAnswered, requests_of, end_of, ended_by}
 use Rattle.tailnet_commands.specs.Pipe.{Piped, status_of}
@@ -36,7 +36,7 @@ not_early true e = cc
 not_early false e = cc
 
 -- only a 400 ends a connection early
-pub answered_late : (site : Site) (close : Bool) (w : Wanted) (x : Exchange) → IsAccepted w → IsAnswered site close w x.turns x.bytes x.ended → x.ended ≡ Some closed.Early → ⊥
+pub answered_late : (site : FrontSettings) (close : Bool) (w : Wanted) (x : Exchange) → IsAccepted w → IsAnswered site close w x.turns x.bytes x.ended → x.ended ≡ Some closed.Early → ⊥
 answered_late site close (wants.Ask ask) x ok a e = not_early close (sym a.5 ∙ e)
 answered_late site close (wants.Answer status body) x ok a e = elim (cases_Bool (status == 400)) [
   | inl t ↦ ok (grind (arith, nat_tests, t))
@@ -44,7 +44,7 @@ answered_late site close (wants.Answer status body) x ok a e = elim (cases_Bool 
 ]
 
 -- one exchange of an accepted request doesn't end its connection early
-pub late_one : (site : Site) (last : Bool) (x : Exchange) → IsAccepted (wanted_of site x.request) → IsExchange site last x → x.ended ≡ Some closed.Early → ⊥
+pub late_one : (site : FrontSettings) (last : Bool) (x : Exchange) → IsAccepted (wanted_of site x.request) → IsExchange site last x → x.ended ≡ Some closed.Early → ⊥
 late_one site last x ok (inl u) e = not_early (x.request.close || last) (sym u.2 ∙ e)
 late_one site last x ok (inr a) e = answered_late site (x.request.close || last) (wanted_of site x.request) x ok a e
 
@@ -53,7 +53,7 @@ or_early None b e = inr e
 or_early (Some c) b e = inl e
 
 -- accepted requests don't end a connection early
-pub late : (site : Site) (limit : ℕ) (xs : List Exchange) (more : List Request) → AllByRecursion (λ r. IsAccepted (wanted_of site r)) (requests_of xs ++ more) → AreExchanges site limit xs → end_of xs ≡ Some closed.Early → ⊥
+pub late : (site : FrontSettings) (limit : ℕ) (xs : List Exchange) (more : List Request) → AllByRecursion (λ r. IsAccepted (wanted_of site r)) (requests_of xs ++ more) → AreExchanges site limit xs → end_of xs ≡ Some closed.Early → ⊥
 late site limit [] more ok each e = cc
 late site limit (x ∷ xs) more ok each e = elim (or_early x.ended (end_of xs) e) [
   | inl h ↦ late_one site (limit == 1) x ok.0 each.1 h
@@ -77,7 +77,7 @@ tail_never rest left others extra told is splits (inr (status, tail, answered)) 
     let clash : at_end ≡ bad status = same.1 in cc
 
 -- a connection over accepted whole requests doesn't end early
-pub never_early : {S : Type 0} (turn : S → Event → Reply → S → Type 0) (site : Site) (limit : ℕ) (old new : Told) (s t : S) (input : List ℕ) (requests : List Request)
+pub never_early : {S : Type 0} (turn : S → Event → Reply → S → Type 0) (site : FrontSettings) (limit : ℕ) (old new : Told) (s t : S) (input : List ℕ) (requests : List Request)
     → Leads input requests [] → AllByRecursion (λ r. IsAccepted (wanted_of site r)) requests → old.left ≡ Some input → Serves turn site closed.Early limit [] old new s t → ⊥
 never_early turn site limit old new s t input requests whole ok is serves =
     let r = rest_of old.left new.left serves.read input serves.from_source is in
@@ -95,8 +95,8 @@ complete_of (ended.Closed closed.Early) file before now seed old new p c = absur
     let told : settings_of c.text ≡ Ok p.settings = (rw c.file_is at p.settings_are).1 in
     let is = c.settings_are in
     let same : c.settings ≡ p.settings = cc in
-    never_early _ (site_of p.settings) _ _ new.told _ _ c.input c.requests c.whole
-    (subst (λ (f : SettingsFields). AllByRecursion (λ r. IsAccepted (wanted_of (site_of f) r)) c.requests) same c.accepted) c.input_is p.talk.serves)
+    never_early _ (front_settings p.settings) _ _ new.told _ _ c.input c.requests c.whole
+    (subst (λ (f : SettingsFields). AllByRecursion (λ r. IsAccepted (wanted_of (front_settings f) r)) c.requests) same c.accepted) c.input_is p.talk.serves)
 complete_of (ended.Closed closed.ReadFault) file before now seed old new p c = absurd (c.no_read_fault p.talk.serves.ending.3)
 complete_of (ended.Closed closed.WriteFault) file before now seed old new p c = absurd (c.no_write_fault p.talk.serves.ending.1)
 complete_of (ended.Closed closed.NoMemory) file before now seed old new p c = inr refl

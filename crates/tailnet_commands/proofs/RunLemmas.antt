@@ -11,7 +11,7 @@ use Rattle.tailnet_desk.specs.Opening.{unserved}
 use Rattle.tailnet_desk.specs.declared.desk.OpenFault.{OpenFault}
 use Rattle.tailnet_desk.specs.declared.desk.OpenFault.TheVariants as fault
 use Rattle.tailnet_desk.proofs.Histories.{history_of}
-use Rattle.desk_front.specs.Wanted.{site_of}
+use Rattle.desk_front.specs.Wanted.{front_settings}
 use Rattle.tailnet_commands.specs.Exchanges.{turns_of}
 use Rattle.tailnet_commands.specs.Outside.{from_number}
 use Rattle.tailnet_commands.specs.Run.{Conversation, IsAskedFor, World, Ran, Untouched, IsFaultOf}
@@ -55,11 +55,11 @@ still_still {A} a (Some z) (Some y) h k = let e : Some z ≡ Some y = k in h ∙
 
 pub talked_run : (closed : Closed) (settings : SettingsFields) (seed : Option (List ℕ)) (moment : ℤ) (old new : World) (f : ℕ → Option ℤ) (d : State) (count : ℕ) (final : Point)
     → IsWhereTold moment (option_map clamped (old.told.giving.answers 0)) → ((k : ℕ) → f k ≡ old.told.giving.answers (k + 1))
-    → d ≡ opening settings d.rows moment → IsWhereTold d.rows old.rows → Talked (site_of settings) closed settings.requests seed (with_answers old.told f) new.told (record { state = d; count = count }) final
+    → d ≡ opening settings d.rows moment → IsWhereTold d.rows old.rows → Talked (front_settings settings) closed settings.requests seed (with_answers old.told f) new.told (record { state = d; count = count }) final
     → IsWhereTold final.state.rows new.rows → RoseBy final.count old.keeper_faults new.keeper_faults → IsAskedFor settings old new → Conversation closed settings seed old new
 talked_run closed settings seed moment old new f d count final at shifted is rows_told talked last rose asked =
     let n = length talked.seeding in
-    let served = serves_from Deals (site_of settings) closed settings.requests [] (after_answers n (with_answers old.told f)) new.told talked.seeded final (from_number (1 + n) old.told.giving.answers)
+    let served = serves_from Deals (front_settings settings) closed settings.requests [] (after_answers n (with_answers old.told f)) new.told talked.seeded final (from_number (1 + n) old.told.giving.answers)
     (λ k. shifted (k + n) ∙ ap old.told.giving.answers (omega arith)) talked.serves in
     let start : Point = record { state = opening settings d.rows moment; count = count } in
     let chain : Chain Deals start (talked.seeding ++ turns_of talked.serves.exchanges) final =

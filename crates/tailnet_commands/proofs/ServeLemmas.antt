@@ -13,7 +13,7 @@ use Rattle.tailnet_desk.specs.Chains.{Chain}
 use Rattle.tailnet_desk.proofs.Histories.{Chain-append}
 use Rattle.tailnet_desk.specs.declared.entry.Event.{Event}
 use Rattle.desk_state.specs.declared.reply.Reply.{Reply}
-use Rattle.desk_front.specs.declared.site.Site.{Site}
+use Rattle.desk_front.specs.declared.front_settings.FrontSettings.{FrontSettings}
 use Rattle.tailnet_commands.specs.Outside.{Giving, Took}
 use Rattle.tailnet_commands.specs.Asked.{IsRefused, IsRefusedBy}
 use Rattle.tailnet_commands.specs.Exchanges.{Exchange, IsExchange, AreExchanges, Answered, IsOutcome, breaks, turns_of, answers_of, end_of, bad_answer}
@@ -26,7 +26,7 @@ use Rattle.tailnet_commands.specs.declared.closed.Closed.{Closed}
 use Rattle.tailnet_commands.specs.declared.closed.Closed.TheVariants.{End, Early, ReadFault, WriteFault, NoMemory}
 
 -- nothing was served, and nothing written
-pub serves_none : {S : Type 0} (turn : S → Event → Reply → S → Type 0) (site : Site) (closed : Closed) (limit : ℕ) (held read : List ℕ) (old new : Told) (s : S) → new.giving ≡ old.giving → old.left ≡ and_then_left read new.left → old.read_faults ≤ new.read_faults
+pub serves_none : {S : Type 0} (turn : S → Event → Reply → S → Type 0) (site : FrontSettings) (closed : Closed) (limit : ℕ) (held read : List ℕ) (old new : Told) (s : S) → new.giving ≡ old.giving → old.left ≡ and_then_left read new.left → old.read_faults ≤ new.read_faults
     → Ends closed [] (held ++ read) [] [] old new → Serves turn site closed limit held old new s s
 serves_none turn site closed limit held read old new s same came later ends =
     let quiet : (f : Giving) → f ≡ old.giving → Took old.giving f [] = λ f e. subst (λ (x : Giving). Took old.giving x []) (sym e) (took_none old.giving old.giving (λ k. refl) (λ k. refl) (omega arith)) in
@@ -58,7 +58,7 @@ refused_ends WriteFault rest status written old new tail h front = (front, h)
 refused_ends NoMemory rest status written old new tail h front = front
 
 -- nothing was served, and a refused head was answered
-pub serves_refused : {S : Type 0} (turn : S → Event → Reply → S → Type 0) (site : Site) (closed : Closed) (limit : ℕ) (held new_held : List ℕ) (status : ℕ) (old new : Told) (s : S)
+pub serves_refused : {S : Type 0} (turn : S → Event → Reply → S → Type 0) (site : FrontSettings) (closed : Closed) (limit : ℕ) (held new_held : List ℕ) (status : ℕ) (old new : Told) (s : S)
     → Takes old.left new.left held new_held (taken.Bad status) → old.read_faults ≤ new.read_faults
     → ((k : ℕ) → new.giving.answers k ≡ old.giving.answers k) → ((k : ℕ) → new.giving.words k ≡ old.giving.words k) → old.giving.word_faults ≤ new.giving.word_faults
     → IsRefused old.giving.held new.giving.held old.giving.write_faults new.giving.write_faults (bad_answer status) closed → Serves turn site closed limit held old new s s
@@ -94,7 +94,7 @@ last_ends T WriteFault x rest written old new h front b = (inl (b, refl, refl, f
 last_ends T NoMemory x rest written old new h front b = inl (b, refl, refl, front)
 
 -- the last request was served
-pub served_last : {T S : Type 0} (turn : S → Event → Reply → S → Type 0) (site : Site) (outcome : Result T Closed) (request : Request) (last : Bool) (held new_held : List ℕ) (old new : Told) (s t : S)
+pub served_last : {T S : Type 0} (turn : S → Event → Reply → S → Type 0) (site : FrontSettings) (outcome : Result T Closed) (request : Request) (last : Bool) (held new_held : List ℕ) (old new : Told) (s t : S)
     → Takes old.left new.left held new_held (taken.Request request) → old.read_faults ≤ new.read_faults → Answered turn site outcome request last old.giving new.giving s t
     → IfErr outcome (λ closed. (limit : ℕ) → 0 < limit → last ≡ (limit == 1) → Serves turn site closed limit held old new s t)
 served_last turn site (Ok done) request last held new_held old new s t took later answered = tt
@@ -121,7 +121,7 @@ served_last {T} turn site (Err closed) request last held new_held old new s t to
     }
 
 -- a request was served, and the connection goes on
-pub goes_one : {T S : Type 0} (turn : S → Event → Reply → S → Type 0) (site : Site) (outcome : Result T Closed) (request : Request) (last : Bool) (held new_held : List ℕ) (old new : Told) (s t : S)
+pub goes_one : {T S : Type 0} (turn : S → Event → Reply → S → Type 0) (site : FrontSettings) (outcome : Result T Closed) (request : Request) (last : Bool) (held new_held : List ℕ) (old new : Told) (s t : S)
     → Takes old.left new.left held new_held (taken.Request request) → old.read_faults ≤ new.read_faults → Answered turn site outcome request last old.giving new.giving s t → OnOk outcome (last ≡ false)
     → OnOk outcome (Goes turn site last held new_held old new s t)
 goes_one turn site (Ok done) request last held new_held old new s t took later answered more = record {
@@ -153,7 +153,7 @@ extra_more : (x : Exchange) (xs : List Exchange) (rest extra : List ℕ) → x.e
 extra_more x xs rest extra still e = rw still e
 
 -- one exchange, and then the rest of the connection
-pub serves_more : {S : Type 0} (turn : S → Event → Reply → S → Type 0) (site : Site) (closed : Closed) (limit more : ℕ) (last : Bool) (held mid_held : List ℕ) (old mid new : Told) (s u t : S) → limit ≡ more - 1 → 0 < more → last ≡ (more == 1)
+pub serves_more : {S : Type 0} (turn : S → Event → Reply → S → Type 0) (site : FrontSettings) (closed : Closed) (limit more : ℕ) (last : Bool) (held mid_held : List ℕ) (old mid new : Told) (s u t : S) → limit ≡ more - 1 → 0 < more → last ≡ (more == 1)
     → Goes turn site last held mid_held old mid s u → Serves turn site closed limit mid_held mid new u t → Serves turn site closed more held old new s t
 serves_more turn site closed limit more last held mid_held old mid new s u t is some is_last goes serves =
     let x = goes.exchange in

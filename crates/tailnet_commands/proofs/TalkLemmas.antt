@@ -4,7 +4,7 @@ use Rattle.tailnet_desk.specs.Chains.{Chain, Point, Deals}
 use Rattle.tailnet_desk.proofs.Histories.{Chain-map}
 use Rattle.tailnet_desk.specs.declared.entry.Event.{Event}
 use Rattle.desk_state.specs.declared.reply.Reply.{Reply}
-use Rattle.desk_front.specs.declared.site.Site.{Site}
+use Rattle.desk_front.specs.declared.front_settings.FrontSettings.{FrontSettings}
 use Rattle.tailnet_commands.specs.Exchanges.{turns_of}
 use Rattle.tailnet_commands.specs.Outside.{from_number}
 use Rattle.tailnet_commands.specs.Serve.{Serves, Told, Ends}
@@ -24,7 +24,7 @@ ends_from WriteFault xs rest extra written mid new f e = e
 ends_from NoMemory xs rest extra written mid new f e = e
 
 -- the same answers of the clock, told otherwise
-abbrev pub serves_from : {S : Type 0} (turn : S → Event → Reply → S → Type 0) (site : Site) (closed : Closed) (limit : ℕ) (held : List ℕ) (mid new : Told) (s t : S) (f : ℕ → Option ℤ) → ((k : ℕ) → mid.giving.answers k ≡ f k) → Serves turn site closed limit held mid new s t
+abbrev pub serves_from : {S : Type 0} (turn : S → Event → Reply → S → Type 0) (site : FrontSettings) (closed : Closed) (limit : ℕ) (held : List ℕ) (mid new : Told) (s t : S) (f : ℕ → Option ℤ) → ((k : ℕ) → mid.giving.answers k ≡ f k) → Serves turn site closed limit held mid new s t
     → Serves turn site closed limit held (with_answers mid f) new s t
 serves_from turn site closed limit held mid new s t f same serves =
     let ts = turns_of serves.exchanges in
@@ -48,7 +48,7 @@ serves_from turn site closed limit held mid new s t f same serves =
     }
 
 -- the same connection, its turns seen otherwise
-pub serves_map : {S R : Type 0} (turn : S → Event → Reply → S → Type 0) (turn' : R → Event → Reply → R → Type 0) (site : Site) (f : S → R) → ((s : S) (e : Event) (reply : Reply) (t : S) → turn s e reply t → turn' (f s) e reply (f t))
+pub serves_map : {S R : Type 0} (turn : S → Event → Reply → S → Type 0) (turn' : R → Event → Reply → R → Type 0) (site : FrontSettings) (f : S → R) → ((s : S) (e : Event) (reply : Reply) (t : S) → turn s e reply t → turn' (f s) e reply (f t))
     → (closed : Closed) (limit : ℕ) (held : List ℕ) (old new : Told) (s t : S) → Serves turn site closed limit held old new s t → Serves turn' site closed limit held old new (f s) (f t)
 serves_map turn turn' site f each closed limit held old new s t serves = record {
   exchanges = serves.exchanges;
@@ -70,7 +70,7 @@ serves_map turn turn' site f each closed limit held old new s t serves = record 
 }
 
 -- a connection without a seed
-pub talked_unseeded : (site : Site) (closed : Closed) (requests : ℕ) (old new : Told) (p q : Point) → Serves Deals site closed requests [] old new p q → Talked site closed requests None old new p q
+pub talked_unseeded : (site : FrontSettings) (closed : Closed) (requests : ℕ) (old new : Told) (p q : Point) → Serves Deals site closed requests [] old new p q → Talked site closed requests None old new p q
 talked_unseeded site closed requests old new p q serves =
     let served = serves_from Deals site closed requests [] old new p q (from_number 0 old.giving.answers) (λ k. ap old.giving.answers (sym (add-zero k))) serves in
     record {
@@ -83,7 +83,7 @@ talked_unseeded site closed requests old new p q serves =
     }
 
 -- a seed, and then a connection
-pub talked_seeded : (site : Site) (closed : Closed) (requests : ℕ) (text : List ℕ) (old mid new : Told) (p r q : Point) → mid ≡ with_answers old mid.giving.answers → IsSeedTurn text old.giving.answers mid.giving.answers p r → Serves Deals site closed requests [] mid new r q
+pub talked_seeded : (site : FrontSettings) (closed : Closed) (requests : ℕ) (text : List ℕ) (old mid new : Told) (p r q : Point) → mid ≡ with_answers old mid.giving.answers → IsSeedTurn text old.giving.answers mid.giving.answers p r → Serves Deals site closed requests [] mid new r q
     → Talked site closed requests (Some text) old new p q
 talked_seeded site closed requests text old mid new p r q same seed serves =
     let from = serves_from Deals site closed requests [] mid new r q (from_number 1 old.giving.answers) seed.rest serves in

@@ -7,7 +7,7 @@ use Rattle.desk_state.specs.declared.ask.Ask.{Ask}
 use Rattle.tailnet_desk.specs.declared.entry.Event.{Event}
 use Rattle.desk_state.specs.declared.reply.Reply.{Reply}
 use Rattle.desk_front.specs.Replies.{reply_bytes}
-use Rattle.desk_front.specs.declared.site.Site.{Site}
+use Rattle.desk_front.specs.declared.front_settings.FrontSettings.{FrontSettings}
 use Rattle.tailnet_commands.specs.Exchanges.{IsOutcome}
 use Rattle.tailnet_commands.specs.Outside.{Giving, Took, ask_of, words_of}
 use Rattle.tailnet_commands.specs.Pieces.{IsPrefix, Sent, IsSent}
@@ -15,7 +15,7 @@ use Rattle.tailnet_commands.specs.declared.closed.Closed.{Closed}
 use Rattle.tailnet_commands.specs.declared.closed.Closed.TheVariants.{End, Early, WriteFault, NoMemory}
 
 -- the ask was one turn, and the answer to its reply was written
-pub record IsAsked {T S : Type 0} (turn : S → Event → Reply → S → Type 0) (site : Site) (outcome : Result T Closed) (ask : Ask) (close : Bool) (old new : Giving) (s t : S) : Type 0 where
+pub record IsAsked {T S : Type 0} (turn : S → Event → Reply → S → Type 0) (site : FrontSettings) (outcome : Result T Closed) (ask : Ask) (close : Bool) (old new : Giving) (s t : S) : Type 0 where
   pub turned : Turned
   pub ask_is : ask_of turned.event ≡ ask
   pub words_are : needs_words ask ≡ false → words_of turned.event ≡ None

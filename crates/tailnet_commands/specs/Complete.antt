@@ -4,7 +4,7 @@ use Rattle.std.specs.List.{AllByRecursion}
 use Rattle.io_edge.specs.Edge.{Rose}
 use Rattle.http_front.specs.Requests.{Leads}
 use Rattle.http_front.specs.declared.request.Request.{Request}
-use Rattle.desk_front.specs.Wanted.{site_of, wanted_of}
+use Rattle.desk_front.specs.Wanted.{front_settings, wanted_of}
 use Rattle.desk_front.specs.declared.want.Wanted.{Wanted}
 use Rattle.desk_front.specs.declared.want.Wanted.TheVariants as wants
 use Rattle.net_rows.specs.declared.rows.Rows.{Rows}
@@ -37,7 +37,7 @@ pub record IsClear (file : Option (Option (List ℕ))) (before now : ℕ) (old n
   pub input_is : old.told.left ≡ Some input
   pub requests : List Request
   pub whole : Leads input requests []
-  pub accepted : AllByRecursion (λ r. IsAccepted (wanted_of (site_of settings) r)) requests
+  pub accepted : AllByRecursion (λ r. IsAccepted (wanted_of (front_settings settings) r)) requests
   pub no_file_fault : Rose before now → ⊥
   pub no_read_fault : Rose old.told.read_faults new.told.read_faults → ⊥
   pub no_write_fault : Rose old.told.giving.write_faults new.told.giving.write_faults → ⊥

@@ -14,7 +14,7 @@ use Rattle.desk_front.specs.Replies.{reply_bytes}
 use Rattle.desk_front.specs.Wanted.{wanted_of}
 use Rattle.desk_front.specs.declared.want.Wanted.{Wanted}
 use Rattle.desk_front.specs.declared.want.Wanted.TheVariants as wants
-use Rattle.desk_front.specs.declared.site.Site.{Site}
+use Rattle.desk_front.specs.declared.front_settings.FrontSettings.{FrontSettings}
 use Rattle.tailnet_commands.specs.Outside.{Giving, Took, ask_of, words_of}
 use Rattle.tailnet_commands.specs.Pieces.{IsPrefix}
 use Rattle.tailnet_commands.specs.declared.closed.Closed.{Closed}
@@ -37,7 +37,7 @@ IsUnanswered close turns bytes ended =
     (turns ≡ []) × (bytes ≡ answer 503 (codes "{\"error\":\"NoMemory\"}") close) × (ended ≡ ended_by close)
 
 -- A fixed answer has no turn; a 400 ends the connection. What is asked is one turn, and its reply is answered.
-abbrev pub IsAnswered : Site → Bool → Wanted → List Turned → List ℕ → Option Closed → Type 0
+abbrev pub IsAnswered : FrontSettings → Bool → Wanted → List Turned → List ℕ → Option Closed → Type 0
 IsAnswered site close (wants.Answer status body) turns bytes ended =
     (turns ≡ []) × (bytes ≡ answer status body (close || status == 400))
     × (ended ≡ (if status == 400 then Some Early else ended_by close))
@@ -46,13 +46,13 @@ IsAnswered site close (wants.Ask ask) turns bytes ended =
     × (bytes ≡ reply_bytes site ask t.reply close) × (ended ≡ ended_by close)
 
 -- The turns and the bytes are those of the request, which is the last that is served or not.
-abbrev pub IsExchange : Site → Bool → Exchange → Type 0
+abbrev pub IsExchange : FrontSettings → Bool → Exchange → Type 0
 IsExchange site last x =
     IsUnanswered (x.request.close || last) x.turns x.bytes x.ended
     ⊎ IsAnswered site (x.request.close || last) (wanted_of site x.request) x.turns x.bytes x.ended
 
 -- So many requests are served at most; only the last of them may have ended the connection, or have broken off.
-abbrev pub AreExchanges : Site → ℕ → List Exchange → Type 0
+abbrev pub AreExchanges : FrontSettings → ℕ → List Exchange → Type 0
 AreExchanges site limit [] = Unit {0}
 AreExchanges site limit (x ∷ xs) = (0 < limit) × IsExchange site (limit == 1) x × (xs ≢ [] → (x.ended ≡ None) × (x.broken ≡ false)) × AreExchanges site (limit - 1) xs
 
@@ -91,7 +91,7 @@ AreUnbroken [] = Unit {0}
 AreUnbroken (x ∷ xs) = (x.broken ≡ false) × AreUnbroken xs
 
 -- One request was served.
-pub record Answered {T S : Type 0} (turn : S → Event → Reply → S → Type 0) (site : Site) (outcome : Result T Closed) (request : Request) (last : Bool) (old new : Giving) (s t : S) : Type 0 where
+pub record Answered {T S : Type 0} (turn : S → Event → Reply → S → Type 0) (site : FrontSettings) (outcome : Result T Closed) (request : Request) (last : Bool) (old new : Giving) (s t : S) : Type 0 where
   pub exchange : Exchange
   pub request_is : exchange.request ≡ request
   pub is : IsExchange site last exchange

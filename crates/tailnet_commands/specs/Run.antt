@@ -11,7 +11,7 @@ use Rattle.tailnet_desk.specs.Opening.{unserved}
 use Rattle.desk_state.specs.State.{opening}
 use Rattle.tailnet_desk.specs.declared.desk.OpenFault.{OpenFault}
 use Rattle.tailnet_desk.specs.declared.desk.OpenFault.TheVariants as fault
-use Rattle.desk_front.specs.Wanted.{site_of}
+use Rattle.desk_front.specs.Wanted.{front_settings}
 use Rattle.tailnet_commands.specs.Exchanges.{turns_of}
 use Rattle.tailnet_commands.specs.Outside.{MomentsTold, from_number}
 use Rattle.tailnet_commands.specs.Talk.{IsSeeding, after_answers}
@@ -60,7 +60,7 @@ pub record Conversation (closed : Closed) (settings : SettingsFields) (seed : Op
   pub seeding_is : IsSeeding seed seeding
   pub seeding_moments : MomentsTold (from_number 1 old.told.giving.answers) seeding
   pub seeded : Point
-  pub serves : Serves Deals (site_of settings) closed settings.requests [] (after_answers (1 + length seeding) old.told) new.told seeded final
+  pub serves : Serves Deals (front_settings settings) closed settings.requests [] (after_answers (1 + length seeding) old.told) new.told seeded final
   -- a legal history from the opening state: the seed, and the turns of the served requests
   pub history : IsHistory (record { state = opening settings rows moment; count = count }) (seeding ++ turns_of serves.exchanges) final
   pub final_rows : IsWhereTold final.state.rows new.rows

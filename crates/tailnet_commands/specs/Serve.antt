@@ -5,7 +5,7 @@ use Rattle.http_front.specs.Requests.{IsWhole, Leads, IsTail, IsUnfinished, cut,
 use Rattle.tailnet_desk.specs.Chains.{Chain}
 use Rattle.tailnet_desk.specs.declared.entry.Event.{Event}
 use Rattle.desk_state.specs.declared.reply.Reply.{Reply}
-use Rattle.desk_front.specs.declared.site.Site.{Site}
+use Rattle.desk_front.specs.declared.front_settings.FrontSettings.{FrontSettings}
 use Rattle.tailnet_commands.specs.Outside.{Giving, Took}
 use Rattle.tailnet_commands.specs.Pieces.{IsPrefix}
 use Rattle.tailnet_commands.specs.Exchanges.{Exchange, IsExchange, AreExchanges, AreUnbroken, requests_of, turns_of, answers_of, end_of, bad_answer}
@@ -52,7 +52,7 @@ Ends WriteFault xs rest extra written old new = IsBrokenOff xs extra written × 
 Ends NoMemory xs rest extra written old new = IsBrokenOff xs extra written
 
 -- A connection over turns, with what was held back of the bytes before it.
-pub record Serves {S : Type 0} (turn : S → Event → Reply → S → Type 0) (site : Site) (closed : Closed) (limit : ℕ) (held : List ℕ) (old new : Told) (s t : S) : Type 0 where
+pub record Serves {S : Type 0} (turn : S → Event → Reply → S → Type 0) (site : FrontSettings) (closed : Closed) (limit : ℕ) (held : List ℕ) (old new : Told) (s t : S) : Type 0 where
   pub exchanges : List Exchange
   pub read : List ℕ
   pub rest : List ℕ
@@ -71,7 +71,7 @@ pub record Serves {S : Type 0} (turn : S → Event → Reply → S → Type 0) (
   pub ending : Ends closed exchanges rest extra written old new
 
 -- One whole exchange, after which the connection goes on; it wasn't the last that may be served.
-pub record Goes {S : Type 0} (turn : S → Event → Reply → S → Type 0) (site : Site) (last : Bool) (held new_held : List ℕ) (old new : Told) (s t : S) : Type 0 where
+pub record Goes {S : Type 0} (turn : S → Event → Reply → S → Type 0) (site : FrontSettings) (last : Bool) (held new_held : List ℕ) (old new : Told) (s t : S) : Type 0 where
   pub more : last ≡ false
   pub exchange : Exchange
   pub read : List ℕ

@@ -7,7 +7,7 @@ use Rattle.tailnet_desk.specs.Chains.{Turned, Chain, Point, Deals}
 use Rattle.tailnet_desk.specs.Seated.{Seated}
 use Rattle.tailnet_desk.specs.Step.{moment_of}
 use Rattle.desk_state.specs.declared.ask.Ask.TheVariants as ask
-use Rattle.desk_front.specs.declared.site.Site.{Site}
+use Rattle.desk_front.specs.declared.front_settings.FrontSettings.{FrontSettings}
 use Rattle.tailnet_commands.specs.Exchanges.{turns_of}
 use Rattle.tailnet_commands.specs.Outside.{MomentsTold, from_number, ask_of, words_of}
 use Rattle.tailnet_commands.specs.Serve.{Serves, Told}
@@ -46,7 +46,7 @@ pub record IsSeedTurn (text : List ℕ) (answers after : ℕ → Option ℤ) (p 
   pub rest : (k : ℕ) → after k ≡ answers (k + 1)
 
 -- The seed was handed in, and then a connection was served.
-pub record Talked (site : Site) (closed : Closed) (requests : ℕ) (seed : Option (List ℕ)) (old new : Told) (p q : Point) : Type 0 where
+pub record Talked (site : FrontSettings) (closed : Closed) (requests : ℕ) (seed : Option (List ℕ)) (old new : Told) (p q : Point) : Type 0 where
   pub seeding : List Turned
   pub seeding_is : IsSeeding seed seeding
   pub seeding_moments : MomentsTold old.giving.answers seeding

@@ -1,6 +1,6 @@
 //! A run over settings.
 ghost use Rattle.std.specs.Prelude.{◌≡◌};
-ghost use Rattle.desk_front.specs.Wanted.{site_of};
+ghost use Rattle.desk_front.specs.Wanted.{front_settings};
 ghost use Rattle.tailnet_commands.specs.Outside.{giving};
 ghost use Rattle.tailnet_commands.specs.Run.{IsFaultOf, Ran, world};
 ghost use Rattle.tailnet_commands.specs.Serve.{told};
@@ -39,7 +39,7 @@ fn run_behind<I: Source, O: Sink, P: Opener, C: Clock, N: Entropy>(
     clock: &mut C,
     entropy: &mut N,
 ) -> Ended
-    requires site { front.now ≡ site_of settings }
+    requires site { front.now ≡ front_settings settings }
     ensures ran { let at = giving O.holds O.write_faults C.answer N.word N.faults in
         Ran result settings seed
         (world P.told P.asked P.faults opener.old (told I.left I.read_faults input.old (at output.old clock.old entropy.old)))

@@ -1,44 +1,30 @@
--- From settings and tables that keep their rules, and an ask that is short, what is decided keeps them.
-use Rattle.std.proofs.Common.{◌≡◌, ℕ, List, Option, None, Result}
+-- From settings and tables that keep their rules, and an ask that is short, what is decided is sound.
+use Rattle.std.proofs.Common.{◌≡◌, ℕ, List, Option, Some, None, Result, Ok, Err, refl, sym}
 use Rattle.net_rows.specs.Damage.{damage}
-use Rattle.net_rows.proofs.Sounds.{sound_of}
-use Rattle.desk_state.specs.Asks.{IsShort}
-use Rattle.desk_state.specs.Rulings.{IsSoundDecision}
+use Rattle.net_rows.specs.declared.rows.Rows.{Rows}
+use Rattle.settings.specs.Settings.{AreSettings}
+use Rattle.tail_base.specs.Steps.{◌>>=◌}
+use Rattle.desk_state.specs.Decisions.{IsSound, answered}
 use Rattle.desk_state.specs.State.{State}
-use Rattle.desk_state.specs.Steps.{Gives}
-use Rattle.desk_state.specs.declared.ask.Ask.{Ask}
-use Rattle.desk_state.specs.declared.ask.Ask.TheVariants as ask
 use Rattle.desk_state.specs.declared.decision.Decision.{Decision}
-use Rattle.desk_state.specs.declared.decision.Stop.{Stop}
-use Rattle.machine_asks.specs.Holds.{SettingsHold}
-use Rattle.machine_asks.proofs.Admissions.{admit_proper}
-use Rattle.machine_asks.proofs.Proper.{proper_only, sound_proper}
-use Rattle.machine_asks.proofs.Registrations.{register_proper}
-use Rattle.machine_asks.proofs.Seeds.{seed_proper}
-use Rattle.machine_asks.proofs.Updates.{one_map_proper, update_proper}
-use Rattle.admin_asks.proofs.KeyLaws.{sound_add_key, sound_expire_key}
-use Rattle.admin_asks.proofs.NodeLaws.{sound_drop_node, sound_expire_node, sound_rename, sound_set_tags}
-use Rattle.admin_asks.proofs.SweepLaws.{sound_sweep}
-use Rattle.admin_asks.proofs.UserLaws.{sound_add_user, sound_drop_user}
+use Rattle.desk_state.specs.declared.refusal.Refusal.{Refusal}
+use Rattle.desk_state.proofs.Proper.{proper_err}
+use Rattle.admin_asks.specs.Decision as operator
+use Rattle.admin_asks.proofs.DecisionLaws.{operator_decision_sound}
+use Rattle.machine_asks.specs.Decision as machine
+use Rattle.machine_asks.specs.Seed.{seed}
+use Rattle.machine_asks.proofs.DecisionLaws.{machine_decision_sound, seed_sound}
+use Rattle.tailnet_desk.specs.Asks.{IsShort}
 use Rattle.tailnet_desk.specs.Step.{decision}
+use Rattle.tailnet_desk.specs.declared.ask.Ask.{Ask}
+use Rattle.tailnet_desk.specs.declared.ask.Ask.TheVariants as ask
+use Rattle.tailnet_desk.specs.declared.reply.Answer.TheVariants as answer
 
-pub decision_sound : (s : State) (x : Ask) (words : Option (List ℕ)) (r : Result Decision Stop) → SettingsHold s → damage s.rows ≡ None → IsShort x
-    → Gives (λ d. d) r (decision s x words) → IsSoundDecision s.rows r
-decision_sound s (ask.Seed text) words r hold none short g = sound_proper s _ r (seed_proper s text (sound_of s.rows none)) g
-decision_sound s (ask.Register mk form) words r hold none short g = sound_proper s _ r (register_proper s mk form words hold (sound_of s.rows none) short) g
-decision_sound s (ask.Update mk node told) words r hold none short g = sound_proper s _ r (update_proper s mk node told (sound_of s.rows none) short) g
-decision_sound s (ask.OneMap mk node told) words r hold none short g = sound_proper s _ r (one_map_proper s mk node told (sound_of s.rows none) short) g
-decision_sound s (ask.AddUser name) words r hold none short g = sound_add_user s name r none g
-decision_sound s ask.Users words r hold none short g = sound_proper s _ r (proper_only s _) g
-decision_sound s (ask.DropUser login) words r hold none short g = sound_drop_user s login r none g
-decision_sound s (ask.AddKey form) words r hold none short g = sound_add_key s form words r none short g
-decision_sound s ask.Keys words r hold none short g = sound_proper s _ r (proper_only s _) g
-decision_sound s (ask.ExpireKey id) words r hold none short g = sound_expire_key s id r none g
-decision_sound s ask.Nodes words r hold none short g = sound_proper s _ r (proper_only s _) g
-decision_sound s ask.Waiting words r hold none short g = sound_proper s _ r (proper_only s _) g
-decision_sound s (ask.Admit pending login) words r hold none short g = sound_proper s _ r (admit_proper s pending login hold (sound_of s.rows none)) g
-decision_sound s (ask.ExpireNode id expiry) words r hold none short g = sound_expire_node s id expiry r none g
-decision_sound s (ask.Rename id name) words r hold none short g = sound_rename s id name r none g
-decision_sound s (ask.SetTags id tags) words r hold none short g = sound_set_tags s id tags r none short g
-decision_sound s (ask.DropNode id) words r hold none short g = sound_drop_node s id r none g
-decision_sound s ask.Sweep words r hold none short g = sound_sweep s r none g
+pub answered_sound : {A B : Type 0} (f : A → B) (rows : Rows) (r : Result (Decision A) Refusal) → IsSound rows r → IsSound rows (r >>= λ d. Ok (answered f d))
+answered_sound f rows (Err e) h = proper_err rows e
+answered_sound {A} {B} f rows (Ok d) h x c is some = let same : answered f d ≡ x = cc in h d c refl (rw (sym same) at some)
+
+pub decision_sound : (s : State) (x : Ask) (words : Option (List ℕ)) → AreSettings s.settings → damage s.rows ≡ None → IsShort x → IsSound s.rows (decision s x words)
+decision_sound s (ask.Seed text) words hold none short = answered_sound (λ nothing. answer.Seeded) s.rows (seed s text) (seed_sound s text none)
+decision_sound s (ask.Machine x) words hold none short = answered_sound answer.Machine s.rows (machine.decision s x words) (machine_decision_sound s x words hold none short)
+decision_sound s (ask.Operator x) words hold none short = answered_sound answer.Operator s.rows (operator.decision s x words) (operator_decision_sound s x words hold none short)

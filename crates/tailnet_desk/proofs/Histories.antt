@@ -2,10 +2,12 @@
 use Rattle.std.proofs.Common.{List, [], ◌∷◌, ◌++◌, refl, ap, sym, ◌∙◌, subst}
 use Rattle.desk_state.specs.State.{State}
 use Rattle.tailnet_desk.specs.History.{Legal, replay}
-use Rattle.tailnet_desk.specs.Chains.{Turned, Chain, Point, Deals, IsHistory}
+use Rattle.tailnet_desk.specs.Chains.{Turned, Chain, IsHistory}
+use Rattle.tailnet_desk.specs.Seated.{Point}
+use Rattle.tailnet_desk.specs.Turns.{IsTurn}
 use Rattle.tailnet_desk.specs.declared.entry.Event.{Event}
 use Rattle.tailnet_desk.specs.declared.entry.Entry.{Entry}
-use Rattle.desk_state.specs.declared.reply.Reply.{Reply}
+use Rattle.tailnet_desk.specs.declared.reply.Reply.{Reply}
 
 pub Chain-append : {S : Type 0} (turn : S → Event → Reply → S → Type 0) (s : S) (xs ys : List Turned) (m t : S) → Chain turn s xs m → Chain turn m ys t → Chain turn s (xs ++ ys) t
 Chain-append {S} turn s [] ys m t p q = subst (λ (u : S). Chain turn u ys t) (sym p) q
@@ -19,23 +21,23 @@ Chain-map turn turn' f each s [] t p = ap f p
 Chain-map turn turn' f each s (x ∷ xs) t p = (f p.0, each s x.event x.reply p.0 p.1, Chain-map turn turn' f each p.0 xs t p.2)
 
 -- calls one after another are a legal history
-pub history_of : (p : Point) (xs : List Turned) (q : Point) → Chain Deals p xs q → IsHistory p xs q
+pub history_of : (p : Point) (xs : List Turned) (q : Point) → Chain IsTurn p xs q → IsHistory p xs q
 history_of p [] q c = record {
   entries = [];
   turns_are = refl;
   legal = tt;
   state = ap (λ (r : Point). r.state) (sym c);
-  count = ap (λ (r : Point). r.count) (sym c);
+  count = ap (λ (r : Point). r.keeping.faults) (sym c);
 }
 history_of p (x ∷ xs) q c =
     let m = c.0 in
-    let call = c.1 in
+    let call = c.1.call in
     let rest = history_of m xs q c.2 in
-    let entry : Entry = record { event = x.event; reply = x.reply; before = p.count; after = m.count } in
+    let entry : Entry = record { event = x.event; reply = x.reply; before = p.keeping.faults; after = m.keeping.faults } in
     record {
       entries = entry ∷ rest.entries;
       turns_are = ap (λ ts. x ∷ ts) rest.turns_are;
-      legal = (refl, call.reply_is, call.later, subst (λ (s : State). Legal s m.count rest.entries) call.state rest.legal);
+      legal = (refl, call.short, call.reply_is, call.later, subst (λ (s : State). Legal s m.keeping.faults rest.entries) call.state rest.legal);
       state = rest.state ∙ ap (λ s. replay s rest.entries) call.state;
       count = rest.count;
     }

@@ -1,35 +1,49 @@
--- A change that was decided is kept, or left.
-use Rattle.std.specs.Prelude.{◌≡◌, ℕ, List, Result, Ok, Err}
+-- A decision is carried out, or not.
+use Rattle.std.specs.Prelude.{◌≡◌, ◌⊎◌, ℕ, List, None, Some, Option, Result, Ok, Err}
 use Rattle.io_edge.specs.Edge.{Rose}
 use Rattle.io_edge.specs.declared.faults.EdgeFault.{EdgeFault}
 use Rattle.io_edge.specs.declared.faults.EdgeFault.TheVariants as edge
 use Rattle.net_rows.specs.declared.change.Change.{Change}
+use Rattle.row_keeper.specs.Calls.{one_more}
 use Rattle.desk_state.specs.State.{State}
-use Rattle.tailnet_desk.specs.Step.{changed}
-use Rattle.desk_state.specs.declared.reply.Answer.{Answer}
-use Rattle.desk_state.specs.declared.reply.Reply.{Reply}
-use Rattle.desk_state.specs.declared.reply.Reply.TheVariants.{Done, Refused}
-use Rattle.desk_state.specs.declared.reply.Refusal.{Refusal}
-use Rattle.desk_state.specs.declared.reply.Refusal.TheVariants.{NoMemory, KeeperFault}
+use Rattle.desk_state.specs.declared.decision.Decision.{Decision}
+use Rattle.tailnet_desk.specs.Seated.{Keeping}
+use Rattle.tailnet_desk.specs.Step.{settled}
+use Rattle.tailnet_desk.specs.declared.reply.Answer.{Answer}
+use Rattle.tailnet_desk.specs.declared.reply.Loss.TheVariants.{NoMemory, KeeperFault}
+use Rattle.tailnet_desk.specs.declared.reply.Reply.{Reply}
+use Rattle.tailnet_desk.specs.declared.reply.Reply.TheVariants.{Done, Refused, Lost}
 
--- the change is in the state; or memory ran out or the keeper failed, and the state is as it was
-abbrev pub Kept : State → Change → List ℕ → Result (Unit {0}) EdgeFault → State → ℕ → ℕ → Type 0
-Kept s change offline (Ok done) t before now = t ≡ changed s change offline
-Kept s change offline (Err edge.NoMemory) t before now = t ≡ s
-Kept s change offline (Err edge.Failed) t before now = (t ≡ s) × Rose before now
+-- a change is committed once, and without one the keeper stays as it was
+abbrev pub Committed : Option Change → Keeping → Keeping → Type 0
+Committed None k l = l ≡ k
+Committed (Some change) k l = l.calls ≡ one_more k.calls
 
--- the refusal that a fault of the keeper is
-abbrev pub refusal_of : EdgeFault → Refusal
-refusal_of edge.NoMemory = NoMemory
-refusal_of edge.Failed = KeeperFault
+-- memory ran out before a commit or in it
+abbrev pub Perhaps : Option Change → Keeping → Keeping → Type 0
+Perhaps None k l = l ≡ k
+Perhaps (Some change) k l = (l.calls ≡ k.calls) ⊎ (l.calls ≡ one_more k.calls)
 
--- what is replied, where this answer was to be given
+-- the keeper failed in a commit
+abbrev pub Failed : Option Change → Keeping → Keeping → Type 0
+Failed None k l = ⊥
+Failed (Some change) k l = (l.calls ≡ one_more k.calls) × Rose k.faults l.faults
+
+-- the state after the decision; or the state as it was
+abbrev pub Kept : State → Option Change → List ℕ → List ℕ → Result (Unit {0}) EdgeFault → State → Keeping → Keeping → Type 0
+Kept s change ended offline (Ok done) t k l = (t ≡ settled s change ended offline) × Committed change k l
+Kept s change ended offline (Err edge.NoMemory) t k l = (t ≡ s) × Perhaps change k l
+Kept s change ended offline (Err edge.Failed) t k l = (t ≡ s) × Failed change k l
+
+-- what is replied, if this answer was to be given
 abbrev pub reply_of : Result (Unit {0}) EdgeFault → Answer → Reply
 reply_of (Ok done) answer = Done answer
-reply_of (Err fault) answer = Refused (refusal_of fault)
+reply_of (Err edge.NoMemory) answer = Lost NoMemory
+reply_of (Err edge.Failed) answer = Lost KeeperFault
 
--- the same with the answer that is given
-abbrev pub Carried : State → Change → List ℕ → Answer → Reply → State → ℕ → ℕ → Type 0
-Carried s change offline answer (Refused NoMemory) t before now = t ≡ s
-Carried s change offline answer (Refused KeeperFault) t before now = (t ≡ s) × Rose before now
-Carried s change offline answer reply t before now = (reply ≡ Done answer) × (t ≡ changed s change offline)
+-- the same by what is replied
+abbrev pub Carried : State → Decision Answer → Reply → State → Keeping → Keeping → Type 0
+Carried s d (Done answer) t k l = (answer ≡ d.answer) × (t ≡ settled s d.change d.ended d.offline) × Committed d.change k l
+Carried s d (Refused refusal) t k l = ⊥
+Carried s d (Lost NoMemory) t k l = (t ≡ s) × Perhaps d.change k l
+Carried s d (Lost KeeperFault) t k l = (t ≡ s) × Failed d.change k l

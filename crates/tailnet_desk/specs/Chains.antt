@@ -1,10 +1,10 @@
 -- Events and their replies, one after another.
-use Rattle.std.specs.Prelude.{◌≡◌, ℕ, List, [], ◌∷◌, map}
-use Rattle.desk_state.specs.State.{State}
-use Rattle.tailnet_desk.specs.History.{IsCall, Legal, replay, count_at_end}
+use Rattle.std.specs.Prelude.{◌≡◌, List, [], ◌∷◌, map}
+use Rattle.tailnet_desk.specs.History.{Legal, replay, count_at_end}
+use Rattle.tailnet_desk.specs.Seated.{Point}
 use Rattle.tailnet_desk.specs.declared.entry.Event.{Event}
 use Rattle.tailnet_desk.specs.declared.entry.Entry.{Entry}
-use Rattle.desk_state.specs.declared.reply.Reply.{Reply}
+use Rattle.tailnet_desk.specs.declared.reply.Reply.{Reply}
 
 -- an event and its reply
 pub record Turned : Type 0 where
@@ -16,15 +16,6 @@ abbrev pub Chain : {S : Type 0} → (S → Event → Reply → S → Type 0) →
 Chain turn s [] t = s ≡ t
 Chain {S} turn s (x ∷ xs) t = (m : S) × turn s x.event x.reply m × Chain turn m xs t
 
--- the state of the Tailnet machine, and its keeper's count of faults
-pub record Point : Type 0 where
-  pub state : State
-  pub count : ℕ
-
--- one call leads from one to the other
-abbrev pub Deals : Point → Event → Reply → Point → Type 0
-Deals p e reply q = IsCall p.state p.count e reply q.state q.count
-
 abbrev pub turned_of : Entry → Turned
 turned_of entry = record { event = entry.event; reply = entry.reply }
 
@@ -32,6 +23,6 @@ turned_of entry = record { event = entry.event; reply = entry.reply }
 pub record IsHistory (p : Point) (turns : List Turned) (q : Point) : Type 0 where
   pub entries : List Entry
   pub turns_are : map turned_of entries ≡ turns
-  pub legal : Legal p.state p.count entries
+  pub legal : Legal p.state p.keeping.faults entries
   pub state : q.state ≡ replay p.state entries
-  pub count : q.count ≡ count_at_end p.count entries
+  pub count : q.keeping.faults ≡ count_at_end p.keeping.faults entries

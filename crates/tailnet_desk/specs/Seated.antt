@@ -1,7 +1,26 @@
--- What contracts see of a desk.
+-- What contracts see of a desk, and what its objects tell.
+use Rattle.std.specs.Prelude.{ℕ, Option}
+use Rattle.net_rows.specs.declared.rows.Rows.{Rows}
 use Rattle.desk_state.specs.State.{State}
 
 -- the state of the Tailnet machine, and who keeps its tables
 pub record Seated (K : Type 0) : Type 0 where
   pub state : State
   pub keeper : K
+
+-- what is told of a keeper: its rows, if it tells them, how often a call has failed, and how often it was called
+pub record Keeping : Type 0 where
+  pub told : Option Rows
+  pub faults : ℕ
+  pub calls : ℕ
+
+-- the state of the Tailnet machine, and what is told of its keeper
+pub record Point : Type 0 where
+  pub state : State
+  pub keeping : Keeping
+
+abbrev pub keeping_of : {K : Type 0} → (K → Option Rows) → (K → ℕ) → (K → ℕ) → K → Keeping
+keeping_of told faults calls k = record { told = told k; faults = faults k; calls = calls k }
+
+abbrev pub point_of : {K : Type 0} → (K → Option Rows) → (K → ℕ) → (K → ℕ) → Seated K → Point
+point_of told faults calls desk = record { state = desk.state; keeping = keeping_of told faults calls desk.keeper }

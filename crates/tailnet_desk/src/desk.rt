@@ -1,35 +1,33 @@
 //! The desk.
-ghost use Rattle.std.specs.Prelude.{◌≡◌, ◌≤◌, ◌<◌, ℕ, List, Option, Some, None, IfOk, IfErr, IfSome, OnOk, IsErrOf, length, map};
+ghost use Rattle.std.specs.Prelude.{◌≡◌, ◌≤◌, ℕ, Option, Some, None, IfOk, IfErr, IfSome, OnOk, OnErr, IsErrOf, length};
 ghost use Rattle.io_edge.specs.Edge.{IsWhereTold, Rose, StillTells};
 ghost use Rattle.net_rows.specs.Damage.{damage};
 ghost use Rattle.net_rows.specs.Held.{Suffices};
 ghost use Rattle.net_rows.specs.Rows.{after};
-ghost use Rattle.desk_state.specs.Asks.{IsShort};
-ghost use Rattle.desk_state.specs.State.{State, at_moment, all_offline, forgotten, offline_at, opening};
-ghost use Rattle.desk_state.specs.Steps.{Gives};
-ghost use Rattle.tailnet_desk.specs.Step.{decision, changed};
-ghost use Rattle.tailnet_desk.specs.History.{IsCall};
-ghost use Rattle.tailnet_desk.specs.Carried.{Carried, Kept, refusal_of, reply_of};
+ghost use Rattle.desk_state.specs.Decisions.{IsSoundChange};
+ghost use Rattle.desk_state.specs.State.{opening};
+ghost use Rattle.tailnet_desk.specs.Asks.{IsShort};
+ghost use Rattle.tailnet_desk.specs.Carried.{Carried, Kept, reply_of};
 ghost use Rattle.tailnet_desk.specs.Opening.{unserved};
+ghost use Rattle.tailnet_desk.specs.Seated.{keeping_of, point_of};
+ghost use Rattle.tailnet_desk.specs.Step.{settled};
+ghost use Rattle.tailnet_desk.specs.Turns.{IsTurn};
 ghost use Rattle.tailnet_desk.specs.declared.entry.Event.TheVariants as event;
 
+use crate::ask::Ask;
+use crate::deciding::decide;
 use crate::opening::{all_offline_of, unserved};
-use admin_asks::{
-    add_key, add_user, drop_node, drop_user, expire_key, expire_node, keys, nodes, rename,
-    set_tags, sweep, users, waiting,
-};
-use desk_state::{
-    Answer, Ask, Decision, MachinePresence, Presence, Refusal, Reply, Snapshot, Stop,
-};
+use crate::reply::{Answer, Loss, Reply};
+use crate::settling::{end_presence, forget, go_offline};
+use desk_state::{Decision, MachinePresence, Snapshot, keep_rules};
 use io_edge::EdgeFault;
-use machine_asks::{admit, keep_rules, one_map, register, seed, update};
 use moments::Moment;
-use net_rows::{Change, Damage, Kind, RowKey, Shelf, Tables};
+use net_rows::{Change, Damage, Kind, Shelf, Tables};
 use row_keeper::{Keeper, LoadFault};
 use settings::Settings;
 use std::alloc::Global;
 use std::marker::Model;
-use tail_base::{Items, NoMemory};
+use tail_base::{Failure, Items, NoMemory};
 
 /// The Tailnet machine over a keeper. Contracts see it as its state and its keeper, which has the
 /// state's rows, where it tells them.
@@ -66,129 +64,40 @@ pub enum OpenFault {
     NoMemory,
 }
 
-/// What an ask comes to, by its own rules.
-fn decide(
-    alloc: Global,
-    at: &Snapshot<'_>,
-    ask: &Ask,
-    words: Option<[u64; 4]>,
-) -> Result<Decision, Stop>
-    requires short { IsShort ask.now }
-    ensures value { Gives (λ d. d) result (decision at.now ask.now words) }
-{
-    match ask {
-        Ask::Seed { text } => seed(alloc, at, text),
-        Ask::Register { machine, form } => register(alloc, at, machine, form, words),
-        Ask::Update {
-            machine,
-            node,
-            update: told,
-        } => update(alloc, at, machine, node, told),
-        Ask::OneMap {
-            machine,
-            node,
-            update: told,
-        } => { one_map(alloc, at, machine, node, told.as_ref()) }
-        Ask::AddUser { name } => add_user(alloc, at, name),
-        Ask::Users => users(alloc, at),
-        Ask::DropUser { login } => drop_user(alloc, at, login),
-        Ask::AddKey { form } => add_key(alloc, at, form, words),
-        Ask::Keys => keys(alloc, at),
-        Ask::ExpireKey { id } => expire_key(alloc, at, *id),
-        Ask::Nodes => nodes(alloc, at),
-        Ask::Waiting => waiting(alloc, at),
-        Ask::Admit { pending, login } => admit(alloc, at, pending, login),
-        Ask::ExpireNode { id, at: expiry } => expire_node(alloc, at, *id, *expiry),
-        Ask::Rename { id, name } => rename(alloc, at, *id, name),
-        Ask::SetTags { id, tags } => set_tags(alloc, at, *id, tags.as_slice()),
-        Ask::DropNode { id } => drop_node(alloc, at, *id),
-        Ask::Sweep => sweep(alloc, at),
-    }
-}
-
-/// The machines whose rows go have no presence any more. It takes no memory.
-fn forget(presence: &mut Shelf<MachinePresence>, gone: &[RowKey])
-    ensures presence { presence.new.0 ≡ forgotten presence.old.0 gone.now }
-    ensures spare { presence.old.1 ≤ presence.new.1 }
-{
-    for key in gone {
-        if let RowKey::Machine(id) = key {
-            presence.remove(*id);
-        }
-    }
-}
-
-/// The machines with these ids are offline from this moment on. It takes no memory.
-fn go_offline(presence: &mut Shelf<MachinePresence>, ids: &[u32], now: Moment)
-    requires room { length ids.now ≤ presence.old.1 }
-    ensures presence { presence.new.0 ≡ all_offline now presence.old.0 ids.now }
-{
-    for id in ids {
-        presence.put(MachinePresence {
-            id: *id,
-            presence: Presence::OfflineSince(now),
-        });
-    }
-}
-
 /// Makes room for a change of rows and for machines that go offline. Both stay as they are.
 fn make_room(
     tables: &mut Tables,
     presence: &mut Shelf<MachinePresence>,
-    change: &Change,
+    change: Option<&Change>,
     offline: usize,
 ) -> Result<(), NoMemory>
     ensures rows { tables.new.rows ≡ tables.old.rows }
     ensures presence { presence.new.0 ≡ presence.old.0 }
-    ensures reserved { OnOk result (Suffices tables.new.spare change.now.puts) }
+    ensures reserved { OnOk result (IfSome change (λ c. Suffices tables.new.spare c.now.puts)) }
     ensures room { OnOk result (offline ≤ presence.new.1) }
 {
-    tables.reserve(change)?;
+    if let Some(change) = change {
+        tables.reserve(change)?;
+    }
     presence.reserve(offline)
 }
 
-/// Makes a change that is kept: rows change, machines that are gone have no presence any more, and
-/// these are offline from now on. It takes no memory.
-fn settle(
-    tables: &mut Tables,
-    presence: &mut Shelf<MachinePresence>,
-    change: Change,
-    offline: &[u32],
-    now: Moment,
-)
-    requires reserved { Suffices tables.old.spare change.puts }
-    requires sound { damage (after tables.old.rows change) ≡ None }
-    requires room { length offline.now ≤ presence.old.1 }
-    ensures rows { tables.new.rows ≡ after tables.old.rows change }
-    ensures presence { presence.new.0 ≡ all_offline now (forgotten presence.old.0 change.gone) offline.now }
-{
-    forget(presence, change.gone.as_slice());
-    tables.apply(change);
-    go_offline(presence, offline, now);
-}
-
-/// An answer that isn't given is let go here, apart from what it would have answered.
+/// An answer that isn't given is let go here.
 fn let_go(_answer: Answer) {}
 
-/// The refusal that a fault of the keeper is.
-fn refusal_of(fault: EdgeFault) -> Refusal
-    ensures value { result ≡ refusal_of fault }
-{
-    match fault {
-        EdgeFault::Failed => Refusal::KeeperFault,
-        EdgeFault::NoMemory => Refusal::NoMemory,
-    }
-}
-
-/// What is replied where a change was kept, or wasn't.
+/// The reply to an ask whose decision was carried out, or wasn't.
 fn reply_of(kept: Result<(), EdgeFault>, answer: Answer) -> Reply
     ensures value { result ≡ reply_of kept answer }
 {
     match kept {
         Ok(()) => Reply::Done(answer),
-        Err(fault) => {
+        Err(EdgeFault::NoMemory) => {
             let_go(answer);
-            Reply::Refused(refusal_of(fault))
+            Reply::Lost(Loss::NoMemory)
+        }
+        Err(EdgeFault::Failed) => {
+            let_go(answer);
+            Reply::Lost(Loss::KeeperFault)
         }
     }
 }
@@ -237,42 +146,53 @@ impl<K: Keeper> Desk<K> {
         }
     }
 
-    /// Keeps a change. It takes all memory before the one commit.
-    fn keep(&mut self, alloc: Global, change: Change, offline: Items<u32>) -> Result<(), EdgeFault>
-        requires sound { damage (after self.old.state.rows change) ≡ None }
-        ensures kept { Kept self.old.state change offline result self.new.state (K.faults self.old.keeper) (K.faults self.new.keeper) }
+    /// Carries out a decision. It takes all memory before the one commit.
+    fn keep(
+        &mut self,
+        alloc: Global,
+        change: Option<Change>,
+        ended: &[u32],
+        offline: &[u32],
+    ) -> Result<(), EdgeFault>
+        requires sound { IfSome change (λ c. damage (after self.old.state.rows c) ≡ None) }
+        ensures kept { Kept self.old.state change ended.now offline.now result self.new.state
+            (keeping_of K.told K.faults K.calls self.old.keeper) (keeping_of K.told K.faults K.calls self.new.keeper) }
         ensures later { K.faults self.old.keeper ≤ K.faults self.new.keeper }
     {
-        let room = make_room(&mut self.tables, &mut self.presence, &change, offline.len());
-        if room.is_err() {
-            return Err(EdgeFault::NoMemory);
+        make_room(
+            &mut self.tables,
+            &mut self.presence,
+            change.as_ref(),
+            offline.len(),
+        )?;
+        if let Some(change) = change {
+            self.keeper.commit(alloc, &change)?;
+            forget(&mut self.presence, change.gone.as_slice());
+            self.tables.apply(change);
         }
-        match self.keeper.commit(alloc, &change) {
-            Ok(()) => {
-                settle(
-                    &mut self.tables,
-                    &mut self.presence,
-                    change,
-                    offline.as_slice(),
-                    self.time,
-                );
-                Ok(())
-            }
-            Err(fault) => Err(fault),
-        }
+        end_presence(&mut self.presence, ended, self.time);
+        go_offline(&mut self.presence, offline, self.time);
+        Ok(())
     }
 
-    /// Keeps a change, and answers.
-    fn carry(&mut self, alloc: Global, change: Change, offline: Items<u32>, answer: Answer) -> Reply
-        requires sound { damage (after self.old.state.rows change) ≡ None }
-        ensures carried { Carried self.old.state change offline answer result self.new.state (K.faults self.old.keeper) (K.faults self.new.keeper) }
+    /// Carries out a decision, and replies.
+    fn carry(&mut self, alloc: Global, decision: Decision<Answer>) -> Reply
+        requires sound { IfSome decision.change (λ c. damage (after self.old.state.rows c) ≡ None) }
+        ensures carried { Carried self.old.state decision result self.new.state
+            (keeping_of K.told K.faults K.calls self.old.keeper) (keeping_of K.told K.faults K.calls self.new.keeper) }
         ensures later { K.faults self.old.keeper ≤ K.faults self.new.keeper }
     {
-        let kept = self.keep(alloc, change, offline);
+        let Decision {
+            change,
+            offline,
+            ended,
+            answer,
+        } = decision;
+        let kept = self.keep(alloc, change, ended.as_slice(), offline.as_slice());
         reply_of(kept, answer)
     }
 
-    /// One event: its reply is the machine's, or want of memory, or a fault of the keeper. The lists and
+    /// One event: its reply is the machine's, or out of memory, or a fault of the keeper. The lists and
     /// texts of the ask are within the limits of rows.
     pub fn ask(
         &mut self,
@@ -282,27 +202,21 @@ impl<K: Keeper> Desk<K> {
         words: Option<[u64; 4]>,
     ) -> Reply
         requires short { IsShort ask.now }
-        ensures call { IsCall self.old.state (K.faults self.old.keeper) (event.Ask ask.now moment words) result self.new.state (K.faults self.new.keeper) }
+        ensures turn { IsTurn (point_of K.told K.faults K.calls self.old) (event.Ask ask.now moment words) result
+            (point_of K.told K.faults K.calls self.new) }
     {
         self.time = self.time.or_later(moment);
         let at = Snapshot {
             settings: &self.settings,
             tables: &self.tables,
-            presence: self.presence.as_slice(),
+            presence: &self.presence,
             time: self.time,
         };
         keep_rules(&at);
         match decide(alloc, &at, ask, words) {
-            Err(Stop::Memory) => Reply::Refused(Refusal::NoMemory),
-            Err(Stop::Refused(refusal)) => Reply::Refused(refusal),
-            Ok(Decision::Only(answer)) => Reply::Done(answer),
-            Ok(
-                Decision::Changes {
-                    change,
-                    offline,
-                    answer,
-                },
-            ) => self.carry(alloc, change, offline, answer),
+            Ok(decision) => self.carry(alloc, decision),
+            Err(Failure::Fault(refusal)) => Reply::Refused(refusal),
+            Err(Failure::NoMemory) => Reply::Lost(Loss::NoMemory),
         }
     }
 

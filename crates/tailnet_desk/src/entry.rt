@@ -1,8 +1,9 @@
 //! Events, and what stands of them in a history.
-use desk_state::{Ask, Reply};
+use crate::ask::Ask;
+use crate::reply::Reply;
 use moments::Moment;
 
-/// One call of the desk: what is asked, the moment, and fresh random words where they were drawn.
+/// One call of the desk: what is asked, the moment, and fresh random words if they were drawn.
 #[derive(Drop)]
 pub enum Event {
     Ask {

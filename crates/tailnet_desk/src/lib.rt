@@ -1,13 +1,19 @@
 //! The Tailnet machine: what an event does to a tailnet, legal histories, and the desk that runs it.
 #![tactic(auto)]
 
+mod ask;
+mod deciding;
 mod desk;
 mod entry;
 mod laws;
 mod opening;
+mod reply;
+mod settling;
 mod turns;
 
+pub use ask::Ask;
 pub use desk::{Desk, OpenFault};
 pub use entry::{Entry, Event};
-pub use laws::decisions_keep_rules;
+pub use laws::{decisions_are_sound, legal_histories_keep_rules};
+pub use reply::{Answer, Loss, Reply};
 pub use turns::Turns;

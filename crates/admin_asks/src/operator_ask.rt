@@ -1,0 +1,63 @@
+//! What operators ask.
+ghost use Rattle.std.specs.Prelude.{◌≡◌};
+ghost use Rattle.admin_asks.specs.Draws as spec;
+
+use desk_state::KeyForm;
+use moments::Moment;
+use tail_base::{Items, Tag, Text};
+
+/// One thing that an operator asks.
+#[derive(Drop)]
+pub enum OperatorAsk {
+    /// Makes a user.
+    AddUser { name: Text },
+    /// Lists the users.
+    Users,
+    /// Removes a user who has no machines, and the user's keys.
+    DropUser { login: Text },
+    /// Makes a pre-auth key.
+    AddKey { form: KeyForm },
+    /// Lists the pre-auth keys.
+    Keys,
+    /// Lets the pre-auth key of an id expire now.
+    ExpireKey { id: u32 },
+    /// Lists the machines.
+    Nodes,
+    /// Lists the machines that wait to be admitted.
+    Waiting,
+    /// Admits the machine of this pending entry for a user.
+    Admit { pending: Text, login: Text },
+    /// Lets a machine's node key expire: then, or now.
+    ExpireNode { id: u32, at: Option<Moment> },
+    /// Gives a machine another name.
+    Rename { id: u32, name: Text },
+    /// Gives a machine these tags in place of those that it has.
+    SetTags { id: u32, tags: Items<Tag> },
+    /// Removes a machine.
+    DropNode { id: u32 },
+    /// Removes the ephemeral machines that aren't live, and the pending entries whose time has
+    /// passed.
+    Sweep,
+}
+
+/// Whether fresh random words are drawn for it: for a new pre-auth key, whose text has them.
+pub fn draws(ask: &OperatorAsk) -> bool
+    ensures value { result ≡ spec.draws ask.now }
+{
+    match ask {
+        OperatorAsk::AddKey { .. } => true,
+        OperatorAsk::AddUser { .. }
+        | OperatorAsk::Users
+        | OperatorAsk::DropUser { .. }
+        | OperatorAsk::Keys
+        | OperatorAsk::ExpireKey { .. }
+        | OperatorAsk::Nodes
+        | OperatorAsk::Waiting
+        | OperatorAsk::Admit { .. }
+        | OperatorAsk::ExpireNode { .. }
+        | OperatorAsk::Rename { .. }
+        | OperatorAsk::SetTags { .. }
+        | OperatorAsk::DropNode { .. }
+        | OperatorAsk::Sweep => false,
+    }
+}

@@ -1,0 +1,40 @@
+-- The bodies of answers.
+use Rattle.std.specs.Prelude.{ℕ, List, [], codes}
+use Rattle.admin_asks.specs.declared.operator_answer.OperatorAnswer.{OperatorAnswer}
+use Rattle.admin_asks.specs.declared.operator_answer.OperatorAnswer.TheVariants as operator
+use Rattle.admin_wire.specs.Keys.{key_text, keys_text}
+use Rattle.admin_wire.specs.Nodes.{node_text, nodes_text}
+use Rattle.admin_wire.specs.Swept.{swept_text}
+use Rattle.admin_wire.specs.Users.{user_text, users_text}
+use Rattle.admin_wire.specs.Waiting.{waiting_text}
+use Rattle.machine_asks.specs.declared.answer.MachineAnswer.{MachineAnswer}
+use Rattle.machine_asks.specs.declared.answer.MachineAnswer.TheVariants as machine
+use Rattle.map_delta.specs.Frames.{frame_of}
+use Rattle.tailnet_desk.specs.declared.reply.Answer.{Answer}
+use Rattle.tailnet_desk.specs.declared.reply.Answer.TheVariants.{Machine, Operator, Seeded}
+use Rattle.wire_text.specs.Registered.{registered_text, login_at_text}
+
+-- what a machine is answered, with the URL at which the server is reached
+abbrev pub machine_body : List ℕ → MachineAnswer → List ℕ
+machine_body url (machine.Registered profile expired) = registered_text profile expired
+machine_body url (machine.LoginAt pending) = login_at_text url pending
+machine_body url machine.Updated = []
+machine_body url (machine.Map response) = frame_of response
+
+-- what an operator is answered
+abbrev pub operator_body : OperatorAnswer → List ℕ
+operator_body (operator.User user) = user_text user
+operator_body (operator.Users users) = users_text users
+operator_body (operator.Key key) = key_text key
+operator_body (operator.Keys keys) = keys_text keys
+operator_body (operator.Nodes nodes) = nodes_text nodes
+operator_body (operator.Waiting waiting) = waiting_text waiting
+operator_body (operator.Node node) = node_text node
+operator_body (operator.Swept machines pending) = swept_text machines pending
+operator_body operator.Gone = codes "{}"
+
+-- the body of an answer
+abbrev pub answer_body : List ℕ → Answer → List ℕ
+answer_body url Seeded = codes "{}"
+answer_body url (Machine a) = machine_body url a
+answer_body url (Operator a) = operator_body a

@@ -1,0 +1,4 @@
+pub mod RowLemmas
+pub mod Rests
+pub mod Sameness
+pub mod SoundChanges

@@ -1,0 +1,51 @@
+//! What a change that is kept does to who is online.
+ghost use Rattle.std.specs.Prelude.{◌≡◌, ◌≤◌, length};
+ghost use Rattle.desk_state.specs.State.{all_ended, all_offline, forgotten, offline_at};
+
+use desk_state::{MachinePresence, Presence, is_online, presence_of};
+use moments::Moment;
+use net_rows::{RowKey, Shelf};
+
+fn offline_at(id: u32, now: Moment) -> MachinePresence
+    ensures value { result ≡ offline_at now id }
+{
+    MachinePresence {
+        id,
+        presence: Presence::OfflineSince(now),
+    }
+}
+
+/// The machines whose rows go have no presence any more. It takes no memory.
+pub(crate) fn forget(presence: &mut Shelf<MachinePresence>, gone: &[RowKey])
+    ensures presence { presence.new.0 ≡ forgotten presence.old.0 gone.now }
+    ensures spare { presence.old.1 ≤ presence.new.1 }
+{
+    for key in gone {
+        match key {
+            RowKey::Machine(id) => presence.remove(*id),
+            RowKey::User(_) | RowKey::Key(_) | RowKey::Pending(_) => {}
+        }
+    }
+}
+
+/// Those of these machines that were online are offline from this moment on. It takes no memory.
+pub(crate) fn end_presence(presence: &mut Shelf<MachinePresence>, ids: &[u32], now: Moment)
+    ensures presence { presence.new.0 ≡ all_ended now presence.old.0 ids.now }
+    ensures spare { presence.old.1 ≤ presence.new.1 }
+{
+    for id in ids {
+        if is_online(presence_of(presence, *id)) {
+            presence.put(offline_at(*id, now));
+        }
+    }
+}
+
+/// These machines are offline from this moment on. It takes no memory.
+pub(crate) fn go_offline(presence: &mut Shelf<MachinePresence>, ids: &[u32], now: Moment)
+    requires room { length ids.now ≤ presence.old.1 }
+    ensures presence { presence.new.0 ≡ all_offline now presence.old.0 ids.now }
+{
+    for id in ids {
+        presence.put(offline_at(*id, now));
+    }
+}
