@@ -6,8 +6,8 @@ from dataclasses import dataclass
 
 FENCE = re.compile(r"^```.*?^```[^\S\n]*$", re.DOTALL | re.MULTILINE)
 CODE = re.compile(r"`([^`\n]+)`")
-# a name that stands for any: `crates/NAME/specs`
-PLACEHOLDER = re.compile(r"\b[A-Z][A-Z_]+\b(?!\.md)")
+# a name that stands for any: `CRATE::FUNCTION`, `crates/NAME/specs`
+PLACEHOLDER = re.compile(r"[A-Z][A-Z_]+\b(?!\.md)")
 FOLDERS = ("crates", "docs", "examples", "model", "bench", ".ci")
 OUTSIDE = ("std", "core")
 # words of ours that strangers don't know, and paths that they don't have
@@ -63,11 +63,11 @@ def has_item(crate, name):
 
 def fault_of_code(repository, token):
     """Why a piece of code in a document names what isn't there; none if it does, or names nothing of ours."""
-    if PLACEHOLDER.search(token) and "::" not in token:
+    if PLACEHOLDER.match(token.split("/")[-1]) or PLACEHOLDER.match(token) or "/NAME" in token:
         return None
     if re.fullmatch(r"[\w.-]+(/[\w.-]*)+", token) and token.split("/")[0] in FOLDERS:
         return None if os.path.exists(f"{repository.top}/{token}") else "is no file"
-    if re.fullmatch(r"\w+(::\w+)+(\.\w+)?", token):
+    if re.fullmatch(r"\w+(::[A-Za-z_]\w*)+(\.\w+)?", token):
         return resolve(repository, token)
     return None
 
@@ -200,7 +200,7 @@ def provenance(repository):
     """Each section of PROTOCOL without a smaller one in it ends with where its rule is defined, done and proved."""
     sections, faults = sections_of(repository.documents.get("docs/PROTOCOL.md", "")), []
     for (depth, heading, text), following in zip(sections, [*sections[1:], (0, "", "")]):
-        last = text.split("\n\n")[-1]
+        last = text.split("\n\n")[-1].strip()
         if depth > 1 and following[0] <= depth and not re.match(r"Defined in .*done by .*proved by ", last, re.DOTALL):
             faults.append(f"docs/PROTOCOL.md: '{heading}' doesn't end with 'Defined in .., done by .., proved by ..'")
     return faults

@@ -32,7 +32,7 @@ def owner_of(line):
     return rest.strip().split("::")[-1]
 
 
-def functions_of(text):
+def functions_of(text, is_program=False):
     """The functions of a source file."""
     functions, owner, is_trait, in_contract = [], "", False, False
     for line in text.split("\n"):
@@ -42,8 +42,9 @@ def functions_of(text):
             owner, is_trait = "", False
         found = FUNCTION.match(line)
         if found:
-            # (the methods of a trait are as public as the trait)
-            functions.append(Function(found.group(3), owner, found.group(2) == "pub " or is_trait))
+            # (the methods of a trait are as public as the trait; a program's functions are nobody else's)
+            is_public = found.group(2) == "pub " or is_trait or (is_program and found.group(2) is not None)
+            functions.append(Function(found.group(3), owner, is_public))
             in_contract = True
         if in_contract:
             functions[-1].clauses.update(CLAUSE.findall(line))
@@ -73,7 +74,8 @@ class Crate:
 
     @cached_property
     def functions(self):
-        return [function for text in self.sources.values() for function in functions_of(text)]
+        is_program = "src/main.rt" in self.sources
+        return [function for text in self.sources.values() for function in functions_of(text, is_program)]
 
     @cached_property
     def types(self):

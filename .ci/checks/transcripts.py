@@ -3,7 +3,8 @@
 A block is a transcript by the word behind its fence:
 
 - `talk`: conversations in the notation of model/conversations.py, under examples/tailnet.toml and the seed `k1`. The
-  blocks of a page follow one another, and a line `= NAME` begins a new conversation.
+  blocks of a page follow one another, and a line `= NAME` begins a new conversation. A file examples/NAME.http begins
+  with the requests of the conversation of its name.
 - `console`: `$ ./tailnetd ..`, perhaps with `< FILE` behind it, and the lines that it writes.
 - `verdicts`: in each line a policy, ` => `, and what `policy-check` writes.
 - `hujson VERDICT`: a policy, and what `policy-check` writes.
@@ -42,8 +43,17 @@ def talks(world, repository, page, blocks):
     """The conversations of a page."""
     lines = [line for word, block in blocks if word == "talk" for line in block]
     settings = repository.read("examples/tailnet.toml")
-    found = [(talk.name, run(world, talk, settings)) for talk in conversations_of(lines)]
+    found = [(talk.name, example_fault(repository, talk) or run(world, talk, settings)) for talk in conversations_of(lines)]
     return [f"{page}: conversation {name}: {fault}" for name, fault in found if fault]
+
+
+def example_fault(repository, talk):
+    """Why the example of this name, if there is one, doesn't begin with the requests; none if it does."""
+    path = f"{repository.top}/examples/{talk.name}.http"
+    if not os.path.exists(path):
+        return None
+    with open(path, "rb") as file:
+        return None if file.read().startswith(talk.requests) else f"examples/{talk.name}.http begins with other requests"
 
 
 def console_runs(block):
