@@ -181,6 +181,11 @@ def architecture(repository):
             faults.append(row.at(f"there is no crate {name}"))
         elif missing := rules_of(repository.crates[name], row.cells[2]):
             faults.append(row.at(f"{name} has no {', '.join(missing)}"))
+    order = list(repository.listed)
+    for name, dependencies in repository.listed.items():
+        late = [other for other in dependencies if other in order and order.index(other) > order.index(name)]
+        if late:
+            faults.append(f"crates.txt: {name} stands on {', '.join(late)}, which comes later")
     for name in sorted(set(repository.crates) | set(repository.listed) | set(seen)):
         if seen.count(name) != 1 or name not in repository.listed or name not in repository.crates:
             faults.append(f"{name}: in crates.txt, in crates/ and once in docs/ARCHITECTURE.md, or nowhere")
