@@ -192,6 +192,20 @@ def architecture(repository):
     return faults
 
 
+# Paths
+
+
+def paths(repository):
+    """PROTOCOL, the table of paths and the model have the same paths."""
+    source = repository.read("crates/path_routes/src/table.rt")
+    table = set(re.findall(r'\("(/[^"]*)", Route::', source))
+    rows = rows_of(repository, "docs/PROTOCOL.md", ["Path", "Method", "Caller", "Does"])
+    told = {path for row in rows for path in CODE.findall(row.cells[0])}
+    model = set(re.findall(r'^    \("(/[^"]*)", \{', repository.read("model/front.py"), re.MULTILINE))
+    faults = [f"docs/PROTOCOL.md: the table of paths and PATHS differ in {path}" for path in sorted(table ^ told)]
+    return faults + [f"model/front.py: ROUTES and PATHS differ in {path}" for path in sorted(table ^ model)]
+
+
 # Sections
 
 

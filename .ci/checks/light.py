@@ -53,6 +53,7 @@ READING = {
     "links": documents.links,
     "proofs": documents.proofs,
     "architecture": documents.architecture,
+    "paths": documents.paths,
     "provenance": documents.provenance,
     "words": documents.words,
     **LISTS,
