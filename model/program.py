@@ -7,6 +7,7 @@ machine that proves the same.)
 
 import os
 import shutil
+import signal
 import struct
 import subprocess
 from dataclasses import dataclass
@@ -34,12 +35,24 @@ def program():
     """The built program, which is newer than its sources."""
     if not os.access(PROGRAM, os.X_OK):
         raise Missing("the program isn't built: `rt ci` builds it, or ./tailnetd")
-    sources = [path for end in ("rt", "antt") for path in glob(f"{TOP}/crates/*/*/**/*.{end}", recursive=True)]
+    folders = [f"{TOP}/crates/*/{name}/**/*" for name in ("src", "specs", "proofs")]
+    sources = [path for folder in folders for path in glob(folder, recursive=True) if path.endswith((".rt", ".antt"))]
     built = os.path.getmtime(PROGRAM)
-    newer = [path for path in sources if "/out/" not in path and os.path.getmtime(path) > built]
+    newer = [path for path in sources if os.path.getmtime(path) > built]
     if newer:
         raise Missing(f"the program is older than {os.path.relpath(min(newer), TOP)}: `rt ci` builds it, or ./tailnetd")
     return PROGRAM
+
+
+def run_in_time(words, seconds, **streams):
+    """The status of a command; none if it didn't end in time, and then it is ended with all that it started."""
+    ran = subprocess.Popen(words, start_new_session=True, **streams)
+    try:
+        return ran.wait(seconds)
+    except subprocess.TimeoutExpired:
+        os.killpg(ran.pid, signal.SIGKILL)
+        ran.wait()
+        return None
 
 
 class World:
@@ -73,13 +86,7 @@ class World:
         }
         paths = self.file("requests", requests), f"{self.folder}/output", f"{self.folder}/errors"
         with open(paths[0], "rb") as input, open(paths[1], "wb") as output, open(paths[2], "wb") as errors:
-            try:
-                ran = subprocess.run(
-                    [self.program, *words], stdin=input, stdout=output, stderr=errors, env=environment, cwd=workplace,
-                    timeout=SECONDS, check=False,
-                )
-                status = ran.returncode
-            except subprocess.TimeoutExpired:
-                status = None
+            words = [self.program, *words]
+            status = run_in_time(words, SECONDS, stdin=input, stdout=output, stderr=errors, env=environment, cwd=workplace)
         with open(paths[1], "rb") as output, open(paths[2], "rb") as errors:
             return Ran(status, output.read(), errors.read())

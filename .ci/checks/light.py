@@ -5,7 +5,6 @@ usage: light.py [NAME..]   all checks, or those with these names; prints each fa
 light.py --shorten takes out of the lists beside the checks what isn't needed there any more. It adds nothing.
 """
 
-import os
 import subprocess
 import sys
 import tempfile
@@ -20,7 +19,7 @@ from repository import Repository
 
 TOP = transcripts.TOP
 
-from program import Missing, World
+from program import Missing, World, run_in_time
 
 CONVERSATIONS = 200
 LISTS = {"shared-names": sources.shared_names, "catch-all-arms": sources.catch_all_arms, "wide-clauses": sources.wide_clauses}
@@ -28,14 +27,13 @@ LISTS = {"shared-names": sources.shared_names, "catch-all-arms": sources.catch_a
 
 def command_faults(words, seconds):
     """What a command of the repository says if it fails."""
-    try:
-        ran = subprocess.run(words, cwd=TOP, stdin=subprocess.DEVNULL, capture_output=True, timeout=seconds, check=False)
-    except subprocess.TimeoutExpired:
+    with tempfile.TemporaryFile() as output:
+        status = run_in_time(words, seconds, cwd=TOP, stdin=subprocess.DEVNULL, stdout=output, stderr=output)
+        output.seek(0)
+        told = output.read().decode(errors="replace").strip().split("\n")
+    if status is None:
         return [f"{words[0]} doesn't end within {seconds} seconds"]
-    if ran.returncode == 0:
-        return []
-    told = (ran.stdout + ran.stderr).decode(errors="replace").strip().split("\n")
-    return [f"{words[0]} ends with {ran.returncode}", *told[:20]]
+    return [f"{words[0]} ends with {status}", *told[:20]] if status else []
 
 
 def ends(world, repository):
