@@ -38,12 +38,12 @@ def command_faults(words, seconds):
 
 def ends(world, repository):
     """What the program ends with."""
-    return command_faults([f"{TOP}/.ci/ends"], 120)
+    return command_faults([f"{TOP}/.ci/ends"], 300)
 
 
 def model(world, repository):
     """The program and the model answer alike."""
-    return command_faults([f"{TOP}/model/compare", str(CONVERSATIONS)], 300)
+    return command_faults([f"{TOP}/model/compare", str(CONVERSATIONS)], 900)
 
 
 READING = {
