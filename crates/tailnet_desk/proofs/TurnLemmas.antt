@@ -1,5 +1,5 @@
 -- What is carried out, refused or lost is one turn.
-use Rattle.std.proofs.Common.{◌≡◌, ◌≢◌, ◌≤◌, ◌⊎◌, ◌∙◌, ℕ, ℤ, List, Option, Some, None, Result, Ok, Err, inl, inr, refl, sym, ap, subst, arith}
+use Rattle.std.proofs.Common.{◌≡◌, ◌≢◌, ◌≤◌, ◌⊎◌, ◌∙◌, ℕ, ℤ, List, Option, Some, None, Result, Ok, Err, inl, refl, sym, ap, subst, arith}
 use Rattle.std.specs.Prelude.{IfSome}
 use Rattle.io_edge.specs.Edge.{IsWhereTold, Rose}
 use Rattle.moments.specs.Moments.{later_of}
@@ -20,7 +20,6 @@ use Rattle.tailnet_desk.specs.Seated.{Keeping, Point, Seated, keeping_of, point_
 use Rattle.tailnet_desk.specs.Step.{decision, outcome, settled, step}
 use Rattle.tailnet_desk.specs.Turns.{IsTurn}
 use Rattle.tailnet_desk.specs.declared.ask.Ask.{Ask}
-use Rattle.tailnet_desk.specs.declared.entry.Event.{Event}
 use Rattle.tailnet_desk.specs.declared.entry.Event.TheVariants as event
 use Rattle.tailnet_desk.specs.declared.reply.Answer.{Answer}
 use Rattle.tailnet_desk.specs.declared.reply.Loss.TheVariants.{NoMemory, KeeperFault}
