@@ -17,5 +17,5 @@ fault_name BodyTooLong = codes "BodyTooLong"
 fault_name HeadTooLong = codes "HeadTooLong"
 
 -- the answer to a head that is refused, which ends the connection
-abbrev pub fault_answer : HeadFault → List ℕ
-fault_answer fault = answer (fault_status fault) (codes "{\"error\":\"" ++ fault_name fault ++ codes "\"}") true
+abbrev pub head_fault_answer : HeadFault → List ℕ
+head_fault_answer fault = answer (fault_status fault) (codes "{\"error\":\"" ++ fault_name fault ++ codes "\"}") true

@@ -66,8 +66,8 @@ pub fn plain_answer(
 }
 
 /// The answer to a head that is refused, which ends the connection.
-pub fn fault_answer(alloc: Global, fault: HeadFault) -> Result<Vec<u8>, NoMemory>
-    ensures value { IfOk result (λ made. made.items ≡ spec.fault_answer fault) }
+pub fn head_fault_answer(alloc: Global, fault: HeadFault) -> Result<Vec<u8>, NoMemory>
+    ensures value { IfOk result (λ made. made.items ≡ spec.head_fault_answer fault) }
 {
     let mut body = Vec::from_slice(alloc, b"{\"error\":\"")?;
     body.extend_from_slice(fault.name().as_bytes())?;

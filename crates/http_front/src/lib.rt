@@ -13,7 +13,7 @@ mod request;
 mod taking;
 mod target;
 
-pub use answering::{fault_answer, no_memory_answer, plain_answer};
+pub use answering::{head_fault_answer, no_memory_answer, plain_answer};
 pub use buffer::Buffer;
 pub use head_fault::HeadFault;
 pub use law::{one_reading, refusals_stay, served_first, whole_requests};
