@@ -90,10 +90,10 @@ impl Front {
 
     /// What a request wants of the desk, or its fixed answer.
     ///
-    /// The path comes first: one that isn't in the table is 404 `NoPath`. Then the method: another one
-    /// than the path's is 405 `BadMethod`. Then who asks: at a path of machines the key in the first
-    /// `Ts-Machine-Key` line, whose fault is 400; at a path of operators the token, without which the
-    /// answer is 401 `BadToken`. Then the body, whose first fault is 400.
+    /// The path comes first: one that isn't in the table is 404 `NoPath`. Then the method: another
+    /// one than the path's is 405 `BadMethod`. Then who asks: at a path of machines the key in the
+    /// first `Ts-Machine-Key` line, whose fault is 400; at a path of operators the token, without
+    /// which the answer is 401 `BadToken`. Then the body, whose first fault is 400.
     #[tactic(auto, unfolding(crate::specs::Wanted::wanted_of))]
     pub fn wanted(&self, alloc: Global, request: &Request) -> Result<Wanted, NoMemory>
         ensures value { IfOk result (λ w. w ≡ spec.wanted_of self.now request.now) }
@@ -109,7 +109,8 @@ impl Front {
         }
     }
 
-    /// The bytes of the answer to a reply to an ask; `close` says whether the connection ends after it.
+    /// The bytes of the answer to a reply to an ask; `close` says whether the connection ends after
+    /// it.
     pub fn answer(
         &self,
         alloc: Global,
