@@ -58,7 +58,7 @@ took_when true ask m moment (Some word) reply old new e at d t = record {
   clock = t.rest;
   words = (d.0.first, tt);
   entropy = d.0.rest;
-  word_faults = rw e (omega (arith, d.1));
+  word_faults = omega (arith, d.1);
 }
 
 drew_none : (due : Bool) (words : Option (List ℕ)) (old new : ℕ → Option (List ℕ)) (n m : ℕ) → Drew due words old new n m → due ≡ false → words ≡ None
