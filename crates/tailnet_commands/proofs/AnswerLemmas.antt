@@ -6,12 +6,12 @@ use Rattle.io_edge.specs.Edge.{IsWhereTold}
 use Rattle.io_edge.specs.Stream as stream
 use Rattle.http_front.specs.AnswerBytes.{answer}
 use Rattle.http_front.specs.declared.request.Request.{Request}
-use Rattle.desk_state.specs.Asks.{needs_words}
+use Rattle.tailnet_desk.specs.Asks.{draws}
 use Rattle.tailnet_desk.specs.Chains.{Turned}
-use Rattle.desk_state.specs.declared.ask.Ask.{Ask}
+use Rattle.tailnet_desk.specs.declared.ask.Ask.{Ask}
 use Rattle.tailnet_desk.specs.declared.entry.Event.{Event}
 use Rattle.tailnet_desk.specs.declared.entry.Event.TheVariants as event
-use Rattle.desk_state.specs.declared.reply.Reply.{Reply}
+use Rattle.tailnet_desk.specs.declared.reply.Reply.{Reply}
 use Rattle.desk_front.specs.Replies.{reply_bytes}
 use Rattle.desk_front.specs.Wanted.{wanted_of}
 use Rattle.desk_front.specs.declared.want.Wanted.TheVariants as wants
@@ -27,41 +27,38 @@ abbrev same_number : {A : Type 0} (new old : ℕ → A) → ((k : ℕ) → new k
 same_number new old h k = h k ∙ ap old (sym (add-zero k))
 
 pub took_none : (old new : Giving) → ((k : ℕ) → new.answers k ≡ old.answers k) → ((k : ℕ) → new.words k ≡ old.words k) → old.word_faults ≤ new.word_faults → Took old new []
-took_none old new a w f = record { moments = tt; clock = same_number new.answers old.answers a; words = tt; entropy = same_number new.words old.words w; draws = omega arith }
+took_none old new a w f = record { moments = tt; clock = same_number new.answers old.answers a; words = tt; entropy = same_number new.words old.words w; word_faults = omega arith }
 
 -- the moment that the clock answered, brought to the nearest moment
 pub clamped_told : (m : ℤ) (o : Option ℤ) → IsWhereTold m o → IsWhereTold (clamped m) (option_map clamped o)
 clamped_told m None h = tt
 clamped_told m (Some n) h = ap clamped h
 
-turned_at : Ask → ℤ → Option (List ℕ) → Reply → Turned
-turned_at ask moment words reply = record { event = event.Ask ask moment words; reply = reply }
-
 -- the test of whether words are due, at each of its answers
-took_when : (due : Bool) (ask : Ask) (m : ℤ) (moment : ℤ) (words : Option (List ℕ)) (reply : Reply) (old new : Giving) → needs_words ask ≡ due → moment ≡ clamped m
+took_when : (due : Bool) (ask : Ask) (m : ℤ) (moment : ℤ) (words : Option (List ℕ)) (reply : Reply) (old new : Giving) → draws ask ≡ due → moment ≡ clamped m
     → Drew due words old.words new.words old.word_faults new.word_faults → stream.Took old.answers new.answers m
     → Took old new (record { event = event.Ask ask moment words; reply = reply } ∷ [])
 took_when false ask m moment None reply old new e at d t = record {
   moments = (rw at (clamped_told m _ t.first), tt);
   clock = t.rest;
-  words = tt;
+  words = (tt, tt);
   entropy = same_number new.words old.words d.0;
-  draws = rw e (omega (arith, d.1));
+  word_faults = rw e (omega (arith, d.1));
 }
 took_when false ask m moment (Some word) reply old new e at d t = absurd d
 took_when true ask m moment None reply old new e at d t = record {
   moments = (rw at (clamped_told m _ t.first), tt);
   clock = t.rest;
-  words = tt;
+  words = (tt, tt);
   entropy = same_number new.words old.words d.0;
-  draws = rw e (omega (arith, d.1, d.2));
+  word_faults = rw e (omega (arith, d.1, d.2));
 }
 took_when true ask m moment (Some word) reply old new e at d t = record {
   moments = (rw at (clamped_told m _ t.first), tt);
   clock = t.rest;
   words = (d.0.first, tt);
   entropy = d.0.rest;
-  draws = rw e (omega (arith, d.1));
+  word_faults = omega (arith, d.1);
 }
 
 drew_none : (due : Bool) (words : Option (List ℕ)) (old new : ℕ → Option (List ℕ)) (n m : ℕ) → Drew due words old new n m → due ≡ false → words ≡ None
@@ -71,15 +68,19 @@ drew_none true words old new n m d e = absurd (cc)
 
 -- an ask was one turn
 pub asked_once : {T S : Type 0} (turn : S → Event → Reply → S → Type 0) (site : FrontSettings) (outcome : Result T Closed) (ask : Ask) (close : Bool) (m moment : ℤ) (words : Option (List ℕ)) (reply : Reply) (old new : Giving) (s t : S)
-    → moment ≡ clamped m → Drew (needs_words ask) words old.words new.words old.word_faults new.word_faults → stream.Took old.answers new.answers m
+    → moment ≡ clamped m → Drew (draws ask) words old.words new.words old.word_faults new.word_faults → stream.Took old.answers new.answers m
     → turn s (event.Ask ask moment words) reply t
     → Sent outcome old.held new.held old.write_faults new.write_faults (reply_bytes site ask reply close) → IsAsked turn site outcome ask close old new s t
 asked_once turn site outcome ask close m moment words reply old new s t at drew took leads sent = record {
   turned = record { event = event.Ask ask moment words; reply = reply };
-  ask_is = refl;
-  words_are = drew_none (needs_words ask) words old.words new.words old.word_faults new.word_faults drew;
+  asks = record {
+    moment = moment;
+    words = words;
+    event_is = refl;
+    undrawn = drew_none (draws ask) words old.words new.words old.word_faults new.word_faults drew;
+  };
   leads = leads;
-  took = took_when (needs_words ask) ask m moment words reply old new refl at drew took;
+  took = took_when (draws ask) ask m moment words reply old new refl at drew took;
   sent = sent;
 }
 
@@ -137,7 +138,7 @@ answered_ask turn site sent outcome request last ask old new s t wants_it asked 
       exchange = record { request = request; turns = asked.turned ∷ []; bytes = reply_bytes site ask asked.turned.reply close; ended = ended_by close; broken = breaks outcome };
       request_is = refl;
       broken_is = refl;
-      is = inr (rw wants_it (asked.turned, refl, asked.ask_is, asked.words_are, refl, refl));
+      is = inr (rw wants_it (asked.turned, refl, asked.asks, refl, refl));
       chain = (t, asked.leads, refl);
       took = asked.took;
       written = asked.sent.written;

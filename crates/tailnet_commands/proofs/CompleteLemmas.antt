@@ -16,7 +16,7 @@ use Rattle.tail_words.specs.SettingsText.{settings_of}
 use Rattle.desk_front.specs.declared.want.Wanted.{Wanted}
 use Rattle.desk_front.specs.declared.want.Wanted.TheVariants as wants
 use Rattle.tailnet_desk.specs.declared.entry.Event.{Event}
-use Rattle.desk_state.specs.declared.reply.Reply.{Reply}
+use Rattle.tailnet_desk.specs.declared.reply.Reply.{Reply}
 use Rattle.desk_front.specs.declared.front_settings.FrontSettings.{FrontSettings}
 use Rattle.tailnet_commands.specs.Complete.{IsAccepted, IsClear, IsComplete}
 use Rattle.tailnet_commands.specs.Exchanges.{Exchange, IsExchange, AreExchanges, IsAnswered, requests_of, end_of, ended_by}
@@ -37,7 +37,7 @@ not_early false e = cc
 
 -- only a 400 ends a connection early
 pub answered_late : (site : FrontSettings) (close : Bool) (w : Wanted) (x : Exchange) → IsAccepted w → IsAnswered site close w x.turns x.bytes x.ended → x.ended ≡ Some closed.Early → ⊥
-answered_late site close (wants.Ask ask) x ok a e = not_early close (sym a.5 ∙ e)
+answered_late site close (wants.Ask ask) x ok a e = not_early close (sym a.4 ∙ e)
 answered_late site close (wants.Answer status body) x ok a e = elim (cases_Bool (status == 400)) [
   | inl t ↦ ok (grind (arith, nat_tests, t))
   | inr f ↦ not_early close (sym (rw f at a.2) ∙ e)

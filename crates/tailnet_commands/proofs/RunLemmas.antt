@@ -4,13 +4,20 @@ use Rattle.std.specs.Prelude.{IfSome}
 use Rattle.std.specs.Option.{option_map}
 use Rattle.moments.specs.Moments.{clamped}
 use Rattle.io_edge.specs.Edge.{Rose, RoseBy, IsWhereTold, StillTells}
+use Rattle.net_rows.specs.Damage.{damage}
+use Rattle.net_rows.specs.Sound.{AreSound}
+use Rattle.net_rows.proofs.Sounds.{sound_of}
+use Rattle.settings.specs.Settings.{AreSettings}
 use Rattle.settings.specs.declared.fields.SettingsFields.{SettingsFields}
-use Rattle.tailnet_desk.specs.Chains.{Point, Deals, Chain}
+use Rattle.tailnet_desk.specs.Chains.{Chain, IsHistory, Turned}
+use Rattle.tailnet_desk.specs.Seated.{Keeping, Point}
+use Rattle.tailnet_desk.specs.Turns.{IsTurn}
 use Rattle.desk_state.specs.State.{State, opening}
 use Rattle.tailnet_desk.specs.Opening.{unserved}
 use Rattle.tailnet_desk.specs.declared.desk.OpenFault.{OpenFault}
 use Rattle.tailnet_desk.specs.declared.desk.OpenFault.TheVariants as fault
 use Rattle.tailnet_desk.proofs.Histories.{history_of}
+use Rattle.tailnet_desk.proofs.SoundHistories.{legal_sound}
 use Rattle.desk_front.specs.Wanted.{front_settings}
 use Rattle.tailnet_commands.specs.Exchanges.{turns_of}
 use Rattle.tailnet_commands.specs.Outside.{from_number}
@@ -53,31 +60,40 @@ still_still a b None h k = tt
 still_still a None (Some y) h k = absurd (let bad : None ≡ Some y = k in cc)
 still_still {A} a (Some z) (Some y) h k = let e : Some z ≡ Some y = k in h ∙ e
 
-pub talked_run : (closed : Closed) (settings : SettingsFields) (seed : Option (List ℕ)) (moment : ℤ) (old new : World) (f : ℕ → Option ℤ) (d : State) (count : ℕ) (final : Point)
+-- under settings that keep their rules a legal history from sound rows ends in sound rows
+pub sound_at_end : (p : Point) (turns : List Turned) (q : Point) → AreSettings p.state.settings → AreSound p.state.rows → IsHistory p turns q → AreSound q.state.rows
+sound_at_end p turns q hold sound h = subst (λ (s : State). AreSound s.rows) (sym h.state) (legal_sound p.state p.keeping.faults h.entries hold sound h.legal)
+
+pub talked_run : (closed : Closed) (settings : SettingsFields) (seed : Option (List ℕ)) (moment : ℤ) (old new : World) (f : ℕ → Option ℤ) (d : State) (keeping : Keeping) (final : Point)
+    → AreSettings settings → damage d.rows ≡ None
     → IsWhereTold moment (option_map clamped (old.told.giving.answers 0)) → ((k : ℕ) → f k ≡ old.told.giving.answers (k + 1))
-    → d ≡ opening settings d.rows moment → IsWhereTold d.rows old.rows → Talked (front_settings settings) closed settings.requests seed (with_answers old.told f) new.told (record { state = d; count = count }) final
-    → IsWhereTold final.state.rows new.rows → RoseBy final.count old.keeper_faults new.keeper_faults → IsAskedFor settings old new → Conversation closed settings seed old new
-talked_run closed settings seed moment old new f d count final at shifted is rows_told talked last rose asked =
+    → d ≡ opening settings d.rows moment → IsWhereTold d.rows old.rows → Talked (front_settings settings) closed settings.requests seed (with_answers old.told f) new.told (record { state = d; keeping = keeping }) final
+    → IsWhereTold final.state.rows new.rows → RoseBy final.keeping.faults old.keeper_faults new.keeper_faults → IsAskedFor settings old new → Conversation closed settings seed old new
+talked_run closed settings seed moment old new f d keeping final hold whole at shifted is rows_told talked last rose asked =
     let n = length talked.seeding in
-    let served = serves_from Deals (front_settings settings) closed settings.requests [] (after_answers n (with_answers old.told f)) new.told talked.seeded final (from_number (1 + n) old.told.giving.answers)
+    let served = serves_from IsTurn (front_settings settings) closed settings.requests [] (after_answers n (with_answers old.told f)) new.told talked.seeded final (from_number (1 + n) old.told.giving.answers)
     (λ k. shifted (k + n) ∙ ap old.told.giving.answers (omega arith)) talked.serves in
-    let start : Point = record { state = opening settings d.rows moment; count = count } in
-    let chain : Chain Deals start (talked.seeding ++ turns_of talked.serves.exchanges) final =
-    subst (λ (s : State). Chain Deals (record { state = s; count = count }) (talked.seeding ++ turns_of talked.serves.exchanges) final) is talked.chain in
+    let start : Point = record { state = opening settings d.rows moment; keeping = keeping } in
+    let chain : Chain IsTurn start (talked.seeding ++ turns_of talked.serves.exchanges) final =
+    subst (λ (s : State). Chain IsTurn (record { state = s; keeping = keeping }) (talked.seeding ++ turns_of talked.serves.exchanges) final) is talked.chain in
+    let history = history_of start (talked.seeding ++ turns_of talked.serves.exchanges) final chain in
+    let sound = sound_of d.rows whole in
     record {
       rows = d.rows;
+      sound = sound;
       asked = asked;
       rows_told = rows_told;
       moment = moment;
       moment_told = at;
-      count = count;
+      keeping = keeping;
       final = final;
       seeding = talked.seeding;
       seeding_is = talked.seeding_is;
       seeding_moments = same_moments f (from_number 1 old.told.giving.answers) talked.seeding shifted talked.seeding_moments;
       seeded = talked.seeded;
       serves = served;
-      history = history_of start (talked.seeding ++ turns_of talked.serves.exchanges) final chain;
+      history = history;
+      final_sound = sound_at_end start (talked.seeding ++ turns_of talked.serves.exchanges) final hold sound history;
       final_rows = last;
       rose = rose;
     }

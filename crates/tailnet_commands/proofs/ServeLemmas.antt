@@ -12,7 +12,7 @@ use Rattle.http_front.proofs.Streams.{IsWhole-append}
 use Rattle.tailnet_desk.specs.Chains.{Chain}
 use Rattle.tailnet_desk.proofs.Histories.{Chain-append}
 use Rattle.tailnet_desk.specs.declared.entry.Event.{Event}
-use Rattle.desk_state.specs.declared.reply.Reply.{Reply}
+use Rattle.tailnet_desk.specs.declared.reply.Reply.{Reply}
 use Rattle.desk_front.specs.declared.front_settings.FrontSettings.{FrontSettings}
 use Rattle.tailnet_commands.specs.Outside.{Giving, Took}
 use Rattle.tailnet_commands.specs.Asked.{IsRefused, IsRefusedBy}

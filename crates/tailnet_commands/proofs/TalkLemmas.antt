@@ -1,9 +1,11 @@
 -- A connection over a desk, after its seed.
 use Rattle.std.proofs.Common.{◌≡◌, ◌+◌, ℕ, ℤ, Option, None, Some, List, [], ◌∷◌, length, refl, ap, sym, ◌∙◌, subst, add-zero}
-use Rattle.tailnet_desk.specs.Chains.{Chain, Point, Deals}
+use Rattle.tailnet_desk.specs.Chains.{Chain}
+use Rattle.tailnet_desk.specs.Seated.{Point}
+use Rattle.tailnet_desk.specs.Turns.{IsTurn}
 use Rattle.tailnet_desk.proofs.Histories.{Chain-map}
 use Rattle.tailnet_desk.specs.declared.entry.Event.{Event}
-use Rattle.desk_state.specs.declared.reply.Reply.{Reply}
+use Rattle.tailnet_desk.specs.declared.reply.Reply.{Reply}
 use Rattle.desk_front.specs.declared.front_settings.FrontSettings.{FrontSettings}
 use Rattle.tailnet_commands.specs.Exchanges.{turns_of}
 use Rattle.tailnet_commands.specs.Outside.{from_number}
@@ -38,7 +40,7 @@ serves_from turn site closed limit held mid new s t f same serves =
       bytes_read = serves.bytes_read;
       each = serves.each;
       chain = serves.chain;
-      took = record { moments = same_moments mid.giving.answers f ts same serves.took.moments; clock = λ k. serves.took.clock k ∙ same (k + length ts); words = serves.took.words; entropy = serves.took.entropy; draws = serves.took.draws };
+      took = record { moments = same_moments mid.giving.answers f ts same serves.took.moments; clock = λ k. serves.took.clock k ∙ same (k + length ts); words = serves.took.words; entropy = serves.took.entropy; word_faults = serves.took.word_faults };
       extra_is = serves.extra_is;
       front = serves.front;
       to_sink = serves.to_sink;
@@ -70,9 +72,9 @@ serves_map turn turn' site f each closed limit held old new s t serves = record 
 }
 
 -- a connection without a seed
-pub talked_unseeded : (site : FrontSettings) (closed : Closed) (requests : ℕ) (old new : Told) (p q : Point) → Serves Deals site closed requests [] old new p q → Talked site closed requests None old new p q
+pub talked_unseeded : (site : FrontSettings) (closed : Closed) (requests : ℕ) (old new : Told) (p q : Point) → Serves IsTurn site closed requests [] old new p q → Talked site closed requests None old new p q
 talked_unseeded site closed requests old new p q serves =
-    let served = serves_from Deals site closed requests [] old new p q (from_number 0 old.giving.answers) (λ k. ap old.giving.answers (sym (add-zero k))) serves in
+    let served = serves_from IsTurn site closed requests [] old new p q (from_number 0 old.giving.answers) (λ k. ap old.giving.answers (sym (add-zero k))) serves in
     record {
       seeding = [];
       seeding_is = refl;
@@ -83,15 +85,15 @@ talked_unseeded site closed requests old new p q serves =
     }
 
 -- a seed, and then a connection
-pub talked_seeded : (site : FrontSettings) (closed : Closed) (requests : ℕ) (text : List ℕ) (old mid new : Told) (p r q : Point) → mid ≡ with_answers old mid.giving.answers → IsSeedTurn text old.giving.answers mid.giving.answers p r → Serves Deals site closed requests [] mid new r q
+pub talked_seeded : (site : FrontSettings) (closed : Closed) (requests : ℕ) (text : List ℕ) (old mid new : Told) (p r q : Point) → mid ≡ with_answers old mid.giving.answers → IsSeedTurn text old.giving.answers mid.giving.answers p r → Serves IsTurn site closed requests [] mid new r q
     → Talked site closed requests (Some text) old new p q
 talked_seeded site closed requests text old mid new p r q same seed serves =
-    let from = serves_from Deals site closed requests [] mid new r q (from_number 1 old.giving.answers) seed.rest serves in
-    let served : Serves Deals site closed requests [] (after_answers 1 old) new r q =
-    subst (λ (t : Told). Serves Deals site closed requests [] (with_answers t (from_number 1 old.giving.answers)) new r q) same from in
+    let from = serves_from IsTurn site closed requests [] mid new r q (from_number 1 old.giving.answers) seed.rest serves in
+    let served : Serves IsTurn site closed requests [] (after_answers 1 old) new r q =
+    subst (λ (t : Told). Serves IsTurn site closed requests [] (with_answers t (from_number 1 old.giving.answers)) new r q) same from in
     record {
       seeding = seed.turned ∷ [];
-      seeding_is = (seed.turned, refl, seed.ask_is, seed.words_are);
+      seeding_is = (seed.turned, refl, seed.asks);
       seeding_moments = (seed.moment, tt);
       seeded = r;
       serves = served;

@@ -1,24 +1,22 @@
 -- One event, and the answer to its reply.
-use Rattle.std.specs.Prelude.{◌≡◌, ◌≤◌, ℕ, Bool, true, false, Option, None, List, ◌∷◌, [], Result, Ok, Err}
+use Rattle.std.specs.Prelude.{◌≡◌, ◌≤◌, ℕ, Bool, true, false, Option, List, ◌∷◌, [], Result, Ok, Err}
 use Rattle.io_edge.specs.Edge.{Rose, and_held}
-use Rattle.desk_state.specs.Asks.{needs_words}
 use Rattle.tailnet_desk.specs.Chains.{Turned}
-use Rattle.desk_state.specs.declared.ask.Ask.{Ask}
+use Rattle.tailnet_desk.specs.declared.ask.Ask.{Ask}
 use Rattle.tailnet_desk.specs.declared.entry.Event.{Event}
-use Rattle.desk_state.specs.declared.reply.Reply.{Reply}
+use Rattle.tailnet_desk.specs.declared.reply.Reply.{Reply}
 use Rattle.desk_front.specs.Replies.{reply_bytes}
 use Rattle.desk_front.specs.declared.front_settings.FrontSettings.{FrontSettings}
 use Rattle.tailnet_commands.specs.Exchanges.{IsOutcome}
-use Rattle.tailnet_commands.specs.Outside.{Giving, Took, ask_of, words_of}
+use Rattle.tailnet_commands.specs.Outside.{Giving, IsTurnOf, Took}
 use Rattle.tailnet_commands.specs.Pieces.{IsPrefix, Sent, IsSent}
 use Rattle.tailnet_commands.specs.declared.closed.Closed.{Closed}
-use Rattle.tailnet_commands.specs.declared.closed.Closed.TheVariants.{End, Early, WriteFault, NoMemory}
+use Rattle.tailnet_commands.specs.declared.closed.Closed.TheVariants.{End, Early, ReadFault, WriteFault, NoMemory}
 
 -- the ask was one turn, and the answer to its reply was written
 pub record IsAsked {T S : Type 0} (turn : S → Event → Reply → S → Type 0) (site : FrontSettings) (outcome : Result T Closed) (ask : Ask) (close : Bool) (old new : Giving) (s t : S) : Type 0 where
   pub turned : Turned
-  pub ask_is : ask_of turned.event ≡ ask
-  pub words_are : needs_words ask ≡ false → words_of turned.event ≡ None
+  pub asks : IsTurnOf ask turned
   pub leads : turn s turned.event turned.reply t
   pub took : Took old new (turned ∷ [])
   pub sent : Sent outcome old.held new.held old.write_faults new.write_faults (reply_bytes site ask turned.reply close)
@@ -37,7 +35,8 @@ abbrev pub IsRefusedBy : List ℕ → List ℕ → ℕ → ℕ → Closed → Ty
 IsRefusedBy written bytes before now Early = written ≡ bytes
 IsRefusedBy written bytes before now WriteFault = Rose before now
 IsRefusedBy written bytes before now NoMemory = Unit {0}
-IsRefusedBy written bytes before now closed = ⊥
+IsRefusedBy written bytes before now End = ⊥
+IsRefusedBy written bytes before now ReadFault = ⊥
 
 pub record IsRefused (old new : Option (List ℕ)) (before now : ℕ) (bytes : List ℕ) (closed : Closed) : Type 0 where
   pub written : List ℕ

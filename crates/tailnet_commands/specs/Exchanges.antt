@@ -5,17 +5,16 @@ use Rattle.std.specs.Option.{option_or}
 use Rattle.io_edge.specs.Edge.{Rose, and_held}
 use Rattle.http_front.specs.AnswerBytes.{answer}
 use Rattle.http_front.specs.declared.request.Request.{Request}
-use Rattle.desk_state.specs.Asks.{needs_words}
 use Rattle.tailnet_desk.specs.Chains.{Turned, Chain}
 use Rattle.tailnet_desk.specs.declared.entry.Event.{Event}
-use Rattle.desk_state.specs.declared.reply.Reply.{Reply}
+use Rattle.tailnet_desk.specs.declared.reply.Reply.{Reply}
 use Rattle.desk_front.specs.Faults.{error_body}
 use Rattle.desk_front.specs.Replies.{reply_bytes}
 use Rattle.desk_front.specs.Wanted.{wanted_of}
 use Rattle.desk_front.specs.declared.want.Wanted.{Wanted}
 use Rattle.desk_front.specs.declared.want.Wanted.TheVariants as wants
 use Rattle.desk_front.specs.declared.front_settings.FrontSettings.{FrontSettings}
-use Rattle.tailnet_commands.specs.Outside.{Giving, Took, ask_of, words_of}
+use Rattle.tailnet_commands.specs.Outside.{Giving, IsTurnOf, Took}
 use Rattle.tailnet_commands.specs.Pieces.{IsPrefix}
 use Rattle.tailnet_commands.specs.declared.closed.Closed.{Closed}
 use Rattle.tailnet_commands.specs.declared.closed.Closed.TheVariants.{End, Early, ReadFault, WriteFault, NoMemory}
@@ -42,8 +41,7 @@ IsAnswered site close (wants.Answer status body) turns bytes ended =
     (turns ≡ []) × (bytes ≡ answer status body (close || status == 400))
     × (ended ≡ (if status == 400 then Some Early else ended_by close))
 IsAnswered site close (wants.Ask ask) turns bytes ended =
-    (t : Turned) × (turns ≡ t ∷ []) × (ask_of t.event ≡ ask) × (needs_words ask ≡ false → words_of t.event ≡ None)
-    × (bytes ≡ reply_bytes site ask t.reply close) × (ended ≡ ended_by close)
+    (t : Turned) × (turns ≡ t ∷ []) × IsTurnOf ask t × (bytes ≡ reply_bytes site ask t.reply close) × (ended ≡ ended_by close)
 
 -- The turns and the bytes are those of the request, which is the last that is served or not.
 abbrev pub IsExchange : FrontSettings → Bool → Exchange → Type 0
@@ -81,9 +79,12 @@ IsOutcome (Err NoMemory) ended written bytes before now = Unit {0}
 
 -- the writing of an answer broke off: a write failed, or memory ran out
 abbrev pub breaks : {T : Type 0} → Result T Closed → Bool
+breaks (Ok done) = false
+breaks (Err End) = false
+breaks (Err Early) = false
+breaks (Err ReadFault) = false
 breaks (Err WriteFault) = true
 breaks (Err NoMemory) = true
-breaks outcome = false
 
 -- no writing broke off
 abbrev pub AreUnbroken : List Exchange → Type 0

@@ -1,22 +1,22 @@
 -- What the outside tells at a moment, and what a list of turns took of it.
-use Rattle.std.specs.Prelude.{◌≡◌, ◌≤◌, ◌+◌, ℕ, ℤ, Bool, true, false, Option, None, Some, List, [], ◌∷◌, length, MatchOption, is_some, if◌then◌else◌}
+use Rattle.std.specs.Prelude.{◌≡◌, ◌≤◌, ◌+◌, ℕ, ℤ, Bool, true, false, Option, None, Some, List, [], ◌∷◌, length, if◌then◌else◌}
 use Rattle.std.specs.Option.{option_map}
 use Rattle.moments.specs.Moments.{clamped}
 use Rattle.io_edge.specs.Edge.{IsWhereTold, Rose, RoseBy}
 use Rattle.io_edge.specs.Stream as stream
-use Rattle.desk_state.specs.Asks.{needs_words}
+use Rattle.tailnet_desk.specs.Asks.{draws}
 use Rattle.tailnet_desk.specs.Chains.{Turned}
 use Rattle.tailnet_desk.specs.Step.{moment_of}
-use Rattle.desk_state.specs.declared.ask.Ask.{Ask}
+use Rattle.tailnet_desk.specs.declared.ask.Ask.{Ask}
 use Rattle.tailnet_desk.specs.declared.entry.Event.{Event}
 use Rattle.tailnet_desk.specs.declared.entry.Event.TheVariants as event
 
--- what an event asks, and the words that it was handed
-abbrev pub ask_of : Event → Ask
-ask_of (event.Ask ask moment words) = ask
-
-abbrev pub words_of : Event → Option (List ℕ)
-words_of (event.Ask ask moment words) = words
+-- The turn asks this. Words came with it only if they are drawn for it.
+pub record IsTurnOf (ask : Ask) (t : Turned) : Type 0 where
+  pub moment : ℤ
+  pub words : Option (List ℕ)
+  pub event_is : t.event ≡ event.Ask ask moment words
+  pub undrawn : draws ask ≡ false → words ≡ None
 
 -- what the sink, the clock and the entropy tell, and their counts of faults
 pub record Giving : Type 0 where
@@ -44,20 +44,32 @@ abbrev pub MomentsTold : (ℕ → Option ℤ) → List Turned → Type 0
 MomentsTold told [] = Unit {0}
 MomentsTold told (t ∷ ts) = IsWhereTold (moment_of t.event) (option_map clamped (told 0)) × MomentsTold (from_number 1 told) ts
 
--- how often words were drawn
+-- how often words were drawn for an event, and for those of turns
+abbrev pub drawn_for : Event → ℕ
+drawn_for (event.Ask ask moment None) = 0
+drawn_for (event.Ask ask moment (Some words)) = 1
+
 abbrev pub drawn : List Turned → ℕ
 drawn [] = 0
-drawn (t ∷ ts) = drawn ts + (if is_some (words_of t.event) then 1 else 0)
+drawn (t ∷ ts) = drawn_for t.event + drawn ts
 
--- the words are the entropy's next, where they are told
+-- the words of an event are the entropy's next, where they are told; then those of turns
+abbrev pub AreNextWords : (ℕ → Option (List ℕ)) → Event → Type 0
+AreNextWords told (event.Ask ask moment None) = Unit {0}
+AreNextWords told (event.Ask ask moment (Some words)) = IsWhereTold words (told 0)
+
 abbrev pub WordsTold : (ℕ → Option (List ℕ)) → List Turned → Type 0
 WordsTold told [] = Unit {0}
-WordsTold told (t ∷ ts) = MatchOption (words_of t.event) (WordsTold told ts) (λ words. IsWhereTold words (told 0) × WordsTold (from_number 1 told) ts)
+WordsTold told (t ∷ ts) = AreNextWords told t.event × WordsTold (from_number (drawn_for t.event) told) ts
 
--- how often a draw that was due failed
+-- how often a draw that was due failed for an event, and for those of turns
+abbrev pub failed_for : Event → ℕ
+failed_for (event.Ask ask moment None) = if draws ask then 1 else 0
+failed_for (event.Ask ask moment (Some words)) = 0
+
 abbrev pub failed_draws : List Turned → ℕ
 failed_draws [] = 0
-failed_draws (t ∷ ts) = failed_draws ts + (if needs_words (ask_of t.event) then (if is_some (words_of t.event) then 0 else 1) else 0)
+failed_draws (t ∷ ts) = failed_for t.event + failed_draws ts
 
 -- what a draw did: whether it was due, what came, and the words and the count before and after
 abbrev pub Drew : Bool → Option (List ℕ) → (ℕ → Option (List ℕ)) → (ℕ → Option (List ℕ)) → ℕ → ℕ → Type 0
@@ -72,4 +84,4 @@ pub record Took (old new : Giving) (ts : List Turned) : Type 0 where
   pub clock : (k : ℕ) → new.answers k ≡ from_number (length ts) old.answers k
   pub words : WordsTold old.words ts
   pub entropy : (k : ℕ) → new.words k ≡ from_number (drawn ts) old.words k
-  pub draws : RoseBy (failed_draws ts) old.word_faults new.word_faults
+  pub word_faults : RoseBy (failed_draws ts) old.word_faults new.word_faults

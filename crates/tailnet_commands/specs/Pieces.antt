@@ -2,7 +2,7 @@
 use Rattle.std.specs.Prelude.{◌≡◌, ◌≤◌, ℕ, Bool, false, Option, List, ◌++◌, Result, Ok, Err}
 use Rattle.io_edge.specs.Edge.{Counted, Rose, and_held}
 use Rattle.tailnet_commands.specs.declared.closed.Closed.{Closed}
-use Rattle.tailnet_commands.specs.declared.closed.Closed.TheVariants.{WriteFault, NoMemory}
+use Rattle.tailnet_commands.specs.declared.closed.Closed.TheVariants.{End, Early, ReadFault, WriteFault, NoMemory}
 
 abbrev pub IsPrefix : List ℕ → List ℕ → Type 0
 IsPrefix front whole = (rest : List ℕ) × (whole ≡ front ++ rest)
@@ -20,7 +20,9 @@ abbrev pub IsSent : {T : Type 0} → Result T Closed → List ℕ → List ℕ �
 IsSent (Ok done) written bytes before now = written ≡ bytes
 IsSent (Err WriteFault) written bytes before now = Rose before now
 IsSent (Err NoMemory) written bytes before now = Unit {0}
-IsSent (Err closed) written bytes before now = ⊥
+IsSent (Err End) written bytes before now = ⊥
+IsSent (Err Early) written bytes before now = ⊥
+IsSent (Err ReadFault) written bytes before now = ⊥
 
 pub record Sent {T : Type 0} (outcome : Result T Closed) (old new : Option (List ℕ)) (before now : ℕ) (bytes : List ℕ) : Type 0 where
   pub written : List ℕ

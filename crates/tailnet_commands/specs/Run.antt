@@ -4,10 +4,13 @@ use Rattle.std.specs.Option.{option_map}
 use Rattle.moments.specs.Moments.{clamped}
 use Rattle.io_edge.specs.Asked.{and_asked}
 use Rattle.io_edge.specs.Edge.{Rose, RoseBy, IsWhereTold}
+use Rattle.net_rows.specs.Sound.{AreSound}
 use Rattle.net_rows.specs.declared.rows.Rows.{Rows}
 use Rattle.settings.specs.declared.fields.SettingsFields.{SettingsFields}
-use Rattle.tailnet_desk.specs.Chains.{Turned, Point, Deals, IsHistory}
+use Rattle.tailnet_desk.specs.Chains.{Turned, IsHistory}
 use Rattle.tailnet_desk.specs.Opening.{unserved}
+use Rattle.tailnet_desk.specs.Seated.{Keeping, Point}
+use Rattle.tailnet_desk.specs.Turns.{IsTurn}
 use Rattle.desk_state.specs.State.{opening}
 use Rattle.tailnet_desk.specs.declared.desk.OpenFault.{OpenFault}
 use Rattle.tailnet_desk.specs.declared.desk.OpenFault.TheVariants as fault
@@ -46,25 +49,28 @@ IsUnasked old new = new.asked ≡ old.asked
 abbrev pub IsAskedFor : SettingsFields → World → World → Type 0
 IsAskedFor settings old new = new.asked ≡ and_asked old.asked settings.database
 
--- A connection over a desk that was opened at the clock's first answer.
+-- A connection over a desk that was opened at the clock's first answer. Its tables keep their rules, at the beginning
+-- and at the end.
 pub record Conversation (closed : Closed) (settings : SettingsFields) (seed : Option (List ℕ)) (old new : World) : Type 0 where
   pub rows : Rows
+  pub sound : AreSound rows
   pub asked : IsAskedFor settings old new
   pub rows_told : IsWhereTold rows old.rows
   pub moment : ℤ
   pub moment_told : IsWhereTold moment (option_map clamped (old.told.giving.answers 0))
-  -- the keeper's count after the load, and at the end
-  pub count : ℕ
+  -- what is told of the keeper after the load, and the state and the keeper at the end
+  pub keeping : Keeping
   pub final : Point
   pub seeding : List Turned
   pub seeding_is : IsSeeding seed seeding
   pub seeding_moments : MomentsTold (from_number 1 old.told.giving.answers) seeding
   pub seeded : Point
-  pub serves : Serves Deals (front_settings settings) closed settings.requests [] (after_answers (1 + length seeding) old.told) new.told seeded final
+  pub serves : Serves IsTurn (front_settings settings) closed settings.requests [] (after_answers (1 + length seeding) old.told) new.told seeded final
   -- a legal history from the opening state: the seed, and the turns of the served requests
-  pub history : IsHistory (record { state = opening settings rows moment; count = count }) (seeding ++ turns_of serves.exchanges) final
+  pub history : IsHistory (record { state = opening settings rows moment; keeping = keeping }) (seeding ++ turns_of serves.exchanges) final
+  pub final_sound : AreSound final.state.rows
   pub final_rows : IsWhereTold final.state.rows new.rows
-  pub rose : RoseBy final.count old.keeper_faults new.keeper_faults
+  pub rose : RoseBy final.keeping.faults old.keeper_faults new.keeper_faults
 
 -- What a run over settings comes to: a connection, or a fault before anything was read.
 abbrev pub Ran : Ended → SettingsFields → Option (List ℕ) → World → World → Type 0

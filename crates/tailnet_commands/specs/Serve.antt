@@ -4,7 +4,7 @@ use Rattle.io_edge.specs.Edge.{Rose, and_then_left, and_held, IsWhereTold}
 use Rattle.http_front.specs.Requests.{IsWhole, Leads, IsTail, IsUnfinished, cut, bad}
 use Rattle.tailnet_desk.specs.Chains.{Chain}
 use Rattle.tailnet_desk.specs.declared.entry.Event.{Event}
-use Rattle.desk_state.specs.declared.reply.Reply.{Reply}
+use Rattle.tailnet_desk.specs.declared.reply.Reply.{Reply}
 use Rattle.desk_front.specs.declared.front_settings.FrontSettings.{FrontSettings}
 use Rattle.tailnet_commands.specs.Outside.{Giving, Took}
 use Rattle.tailnet_commands.specs.Pieces.{IsPrefix}

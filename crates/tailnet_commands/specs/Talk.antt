@@ -3,19 +3,16 @@ use Rattle.std.specs.Prelude.{◌≡◌, ◌+◌, ℕ, ℤ, Option, None, Some, 
 use Rattle.std.specs.Option.{option_map}
 use Rattle.moments.specs.Moments.{clamped}
 use Rattle.io_edge.specs.Edge.{IsWhereTold}
-use Rattle.tailnet_desk.specs.Chains.{Turned, Chain, Point, Deals}
-use Rattle.tailnet_desk.specs.Seated.{Seated}
+use Rattle.tailnet_desk.specs.Chains.{Turned, Chain}
+use Rattle.tailnet_desk.specs.Seated.{Point}
 use Rattle.tailnet_desk.specs.Step.{moment_of}
-use Rattle.desk_state.specs.declared.ask.Ask.TheVariants as ask
+use Rattle.tailnet_desk.specs.Turns.{IsTurn}
+use Rattle.tailnet_desk.specs.declared.ask.Ask.TheVariants as ask
 use Rattle.desk_front.specs.declared.front_settings.FrontSettings.{FrontSettings}
 use Rattle.tailnet_commands.specs.Exchanges.{turns_of}
-use Rattle.tailnet_commands.specs.Outside.{MomentsTold, from_number, ask_of, words_of}
+use Rattle.tailnet_commands.specs.Outside.{IsTurnOf, MomentsTold, from_number}
 use Rattle.tailnet_commands.specs.Serve.{Serves, Told}
 use Rattle.tailnet_commands.specs.declared.closed.Closed.{Closed}
-
--- the state of a desk, and its keeper's count
-abbrev pub point_of : {K : Type 0} → (K → ℕ) → Seated K → Point
-point_of faults desk = record { state = desk.state; count = faults desk.keeper }
 
 -- the clock after so many answers
 abbrev pub after_answers : ℕ → Told → Told
@@ -31,17 +28,16 @@ after_answers n t = record {
   };
 }
 
--- the seed, if one is given, is one turn without words
+-- the seed, if one is given, is one turn
 abbrev pub IsSeeding : Option (List ℕ) → List Turned → Type 0
 IsSeeding None turns = turns ≡ []
-IsSeeding (Some text) turns = (t : Turned) × (turns ≡ t ∷ []) × (ask_of t.event ≡ ask.Seed text) × (words_of t.event ≡ None)
+IsSeeding (Some text) turns = (t : Turned) × (turns ≡ t ∷ []) × IsTurnOf (ask.Seed text) t
 
 -- the seed's turn, at the clock's next answer
 pub record IsSeedTurn (text : List ℕ) (answers after : ℕ → Option ℤ) (p q : Point) : Type 0 where
   pub turned : Turned
-  pub ask_is : ask_of turned.event ≡ ask.Seed text
-  pub words_are : words_of turned.event ≡ None
-  pub leads : Deals p turned.event turned.reply q
+  pub asks : IsTurnOf (ask.Seed text) turned
+  pub leads : IsTurn p turned.event turned.reply q
   pub moment : IsWhereTold (moment_of turned.event) (option_map clamped (answers 0))
   pub rest : (k : ℕ) → after k ≡ answers (k + 1)
 
@@ -51,5 +47,5 @@ pub record Talked (site : FrontSettings) (closed : Closed) (requests : ℕ) (see
   pub seeding_is : IsSeeding seed seeding
   pub seeding_moments : MomentsTold old.giving.answers seeding
   pub seeded : Point
-  pub serves : Serves Deals site closed requests [] (after_answers (length seeding) old) new seeded q
-  pub chain : Chain Deals p (seeding ++ turns_of serves.exchanges) q
+  pub serves : Serves IsTurn site closed requests [] (after_answers (length seeding) old) new seeded q
+  pub chain : Chain IsTurn p (seeding ++ turns_of serves.exchanges) q

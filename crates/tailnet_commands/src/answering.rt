@@ -2,7 +2,7 @@
 ghost use Rattle.std.specs.Prelude.{◌≡◌, Option, Some, Bool, true, false, codes, ◌||◌, ◌==◌, IfErr, OnOk, Result, Ok, Err, IsErr};
 ghost use Rattle.http.specs.StatusCode.{IsStatusCode};
 ghost use Rattle.http_front.specs.AnswerBytes.{answer};
-ghost use Rattle.desk_state.specs.Asks.{IsShort, needs_words as needs};
+ghost use Rattle.tailnet_desk.specs.Asks.{IsShort, draws};
 ghost use Rattle.tailnet_commands.specs.Asked.{Follows, IsAsked};
 ghost use Rattle.tailnet_commands.specs.Exchanges.{Answered, ended_by};
 ghost use Rattle.tailnet_commands.specs.declared.closed.Closed.TheVariants.{Early};
@@ -12,19 +12,19 @@ ghost use Rattle.tailnet_commands.specs.Pieces.{Sent};
 use crate::closed::Closed;
 use crate::writing::{send, send_reply};
 use desk_front::{Front, Wanted};
-use desk_state::{Ask, needs_words};
 use http_front::{Request, no_memory_answer, plain_answer};
 use io_edge::{Clock, Entropy, Sink};
 use moments::Moment;
 use std::alloc::Global;
 use tail_base::NoMemory;
-use tailnet_desk::Turns;
+use tailnet_desk::{Ask, Turns};
 
-/// Draws random words, where the ask needs them. A draw that fails gives none.
+/// Draws random words, where they are drawn for the ask. A draw that fails gives none.
 fn draw<N: Entropy>(entropy: &mut N, ask: &Ask) -> Option<[u64; 4]>
-    ensures drew { Drew (needs ask.now) result (N.word entropy.old) (N.word entropy.new) (N.faults entropy.old) (N.faults entropy.new) }
+    ensures drew { Drew (draws ask.now) result (N.word entropy.old) (N.word entropy.new)
+        (N.faults entropy.old) (N.faults entropy.new) }
 {
-    if needs_words(ask) {
+    if ask.draws() {
         entropy.words().ok()
     } else {
         None
@@ -67,7 +67,8 @@ fn answer_ask<T: Turns, O: Sink, C: Clock, N: Entropy>(
 ) -> Result<(), Closed>
     requires short { IsShort ask.now }
     ensures asked { let at = giving O.holds O.write_faults C.answer N.word N.faults in
-        IsAsked T.turn front.now result ask.now close (at output.old clock.old entropy.old) (at output.new clock.new entropy.new) turns.old turns.new }
+        IsAsked T.turn front.now result ask.now close (at output.old clock.old entropy.old)
+        (at output.new clock.new entropy.new) turns.old turns.new }
 {
     let words = draw(entropy, ask);
     let moment = Moment::clamp(clock.seconds());
@@ -84,7 +85,8 @@ fn answer_fixed<O: Sink>(
     close: bool,
 ) -> Result<(), Closed>
     requires status { IsStatusCode status }
-    ensures sent { Sent result (O.holds output.old) (O.holds output.new) (O.write_faults output.old) (O.write_faults output.new) (answer status body.now close) }
+    ensures sent { Sent result (O.holds output.old) (O.holds output.new)
+        (O.write_faults output.old) (O.write_faults output.new) (answer status body.now close) }
 {
     match plain_answer(alloc, status, body, close) {
         Ok(bytes) => send(output, &bytes),
@@ -112,7 +114,8 @@ pub(crate) fn answer_request<T: Turns, O: Sink, C: Clock, N: Entropy>(
     last: bool,
 ) -> Result<(), Closed>
     ensures answered { let at = giving O.holds O.write_faults C.answer N.word N.faults in
-        Answered T.turn front.now result request.now last (at output.old clock.old entropy.old) (at output.new clock.new entropy.new) turns.old turns.new }
+        Answered T.turn front.now result request.now last (at output.old clock.old entropy.old)
+        (at output.new clock.new entropy.new) turns.old turns.new }
     ensures goes_on { OnOk result (last ≡ false) }
 {
     let close = closes(request.close, last);

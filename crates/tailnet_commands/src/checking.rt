@@ -71,7 +71,9 @@ fn judge(alloc: Global, text: &[u8]) -> Result<Verdict, NoMemory>
 
 /// Writes what is said, and gives its status.
 fn say<O: Sink>(output: &mut O, verdict: &Verdict) -> Status
-    ensures said { Said verdict.now.line verdict.now.status result (O.holds output.old) (O.holds output.new) (O.write_faults output.old) (O.write_faults output.new) }
+    ensures said { Said verdict.now.line verdict.now.status result
+        (O.holds output.old) (O.holds output.new)
+        (O.write_faults output.old) (O.write_faults output.new) }
 {
     match write_all(output, verdict.line.as_slice()) {
         Ok(()) => verdict.status,
@@ -81,7 +83,9 @@ fn say<O: Sink>(output: &mut O, verdict: &Verdict) -> Status
 
 /// Reads a policy file and writes what is said of it.
 fn check_file<O: Sink, F: Files>(alloc: Global, file: &str, output: &mut O, files: &mut F) -> Status
-    ensures checked { Checked result (F.holds files.old file.now) (F.faults files.old) (F.faults files.new) (O.holds output.old) (O.holds output.new) (O.write_faults output.old) (O.write_faults output.new) }
+    ensures checked { Checked result (F.holds files.old file.now) (F.faults files.old)
+        (F.faults files.new) (O.holds output.old) (O.holds output.new)
+        (O.write_faults output.old) (O.write_faults output.new) }
 {
     let text = match files.read(alloc, file, FILE_LIMIT) {
         Ok(text) => text,
@@ -124,8 +128,11 @@ pub fn policy_check<O: Sink, E: Sink, F: Files>(
     errors: &mut E,
     files: &mut F,
 ) -> Status
-    ensures checked { Checked result (F.holds files.old file.now) (F.faults files.old) (F.faults files.new) (O.holds output.old) (O.holds output.new) (O.write_faults output.old) (O.write_faults output.new) }
-    ensures noted { Noted (check_line result) false (E.holds errors.old) (E.holds errors.new) (E.write_faults errors.old) (E.write_faults errors.new) }
+    ensures checked { Checked result (F.holds files.old file.now) (F.faults files.old)
+        (F.faults files.new) (O.holds output.old) (O.holds output.new)
+        (O.write_faults output.old) (O.write_faults output.new) }
+    ensures noted { Noted (check_line result) false (E.holds errors.old) (E.holds errors.new)
+        (E.write_faults errors.old) (E.write_faults errors.new) }
 {
     let status = check_file(alloc, file, output, files);
     note_line(errors, check_line(status));

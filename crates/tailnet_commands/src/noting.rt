@@ -41,14 +41,17 @@ fn closed_line(closed: Closed) -> &'static str
 
 /// The line of a rule that settings break, at a key.
 fn settings_line(alloc: Global, rule: u8, key: &str) -> Result<Text, NoMemory>
-    ensures value { IfOk result (λ line. line ≡ codes "tailnetd: settings S" ++ decimal rule ++ codes " " ++ key.now ++ codes "\n") }
+    ensures value { IfOk result (λ line.
+        line ≡ codes "tailnetd: settings S" ++ decimal rule ++ codes " " ++ key.now ++ codes "\n") }
 {
     Ok(Text::from_string(format!(in alloc; "tailnetd: settings S{rule} {key}\n")?))
 }
 
 /// The line of a row that breaks a rule.
 fn damaged_line(alloc: Global, kind: Kind, id: u32) -> Result<Text, NoMemory>
-    ensures value { IfOk result (λ line. line ≡ codes "tailnetd: damaged " ++ kind_name kind ++ codes " " ++ decimal id ++ codes "\n") }
+    ensures value { IfOk result (λ line.
+        line ≡ codes "tailnetd: damaged " ++ kind_name kind ++ codes " " ++ decimal id
+        ++ codes "\n") }
 {
     let kind = kind_name(kind);
     Ok(Text::from_string(format!(in alloc; "tailnetd: damaged {kind} {id}\n")?))
@@ -56,14 +59,17 @@ fn damaged_line(alloc: Global, kind: Kind, id: u32) -> Result<Text, NoMemory>
 
 /// Writes the line.
 pub(crate) fn note_line<E: Sink>(errors: &mut E, line: &str)
-    ensures noted { Noted line.now false (E.holds errors.old) (E.holds errors.new) (E.write_faults errors.old) (E.write_faults errors.new) }
+    ensures noted { Noted line.now false (E.holds errors.old) (E.holds errors.new)
+        (E.write_faults errors.old) (E.write_faults errors.new) }
 {
     let _ = write_all(errors, line.as_bytes());
 }
 
 /// Writes the line, where there was memory for it.
 fn note_made<E: Sink>(errors: &mut E, line: Result<Text, NoMemory>)
-    ensures noted { (text : _) → IfOk line (λ made. made ≡ text) → Noted text true (E.holds errors.old) (E.holds errors.new) (E.write_faults errors.old) (E.write_faults errors.new) }
+    ensures noted { (text : _) → IfOk line (λ made. made ≡ text)
+        → Noted text true (E.holds errors.old) (E.holds errors.new)
+        (E.write_faults errors.old) (E.write_faults errors.new) }
 {
     if let Ok(line) = line {
         note_line(errors, line.as_str());
@@ -73,7 +79,9 @@ fn note_made<E: Sink>(errors: &mut E, line: Result<Text, NoMemory>)
 /// Writes the line of how a run ended. A line that can't be made or written is left out, and the
 /// status stays.
 pub fn note<E: Sink>(alloc: Global, errors: &mut E, ended: &Ended)
-    ensures noted { Noted (line_of ended.now) (is_made ended.now) (E.holds errors.old) (E.holds errors.new) (E.write_faults errors.old) (E.write_faults errors.new) }
+    ensures noted { Noted (line_of ended.now) (is_made ended.now)
+        (E.holds errors.old) (E.holds errors.new)
+        (E.write_faults errors.old) (E.write_faults errors.new) }
 {
     match ended {
         Ended::Closed(closed) => note_line(errors, closed_line(*closed)),
@@ -90,7 +98,8 @@ pub fn note<E: Sink>(alloc: Global, errors: &mut E, ended: &Ended)
 
 /// Writes the line of words that are no command.
 pub fn note_usage<E: Sink>(errors: &mut E)
-    ensures noted { Noted usage_line false (E.holds errors.old) (E.holds errors.new) (E.write_faults errors.old) (E.write_faults errors.new) }
+    ensures noted { Noted usage_line false (E.holds errors.old) (E.holds errors.new)
+        (E.write_faults errors.old) (E.write_faults errors.new) }
 {
     note_line(errors, "tailnetd: usage\n");
 }

@@ -20,7 +20,8 @@ use tail_words::{SettingsFault, read_settings};
 
 /// The settings of a file.
 fn settings_file<F: Files>(alloc: Global, files: &mut F, name: &str) -> Result<Settings, Ended>
-    ensures read { IsSettingsFile result (F.holds files.old name.now) (F.faults files.old) (F.faults files.new) }
+    ensures read { IsSettingsFile result (F.holds files.old name.now)
+        (F.faults files.old) (F.faults files.new) }
 {
     let text = match files.read(alloc, name, FILE_LIMIT) {
         Ok(text) => text,
@@ -76,9 +77,11 @@ fn pipe_under<I: Source, O: Sink, F: Files, P: Opener, C: Clock, N: Entropy>(
     entropy: &mut N,
 ) -> Ended
     ensures piped { let at = giving O.holds O.write_faults C.answer N.word N.faults in
+        let tell = told I.left I.read_faults in
+        let around = world P.told P.asked P.faults in
         Piped result (F.holds files.old settings.now) (F.faults files.old) (F.faults files.new) seed
-        (world P.told P.asked P.faults opener.old (told I.left I.read_faults input.old (at output.old clock.old entropy.old)))
-        (world P.told P.asked P.faults opener.new (told I.left I.read_faults input.new (at output.new clock.new entropy.new))) }
+        (around opener.old (tell input.old (at output.old clock.old entropy.old)))
+        (around opener.new (tell input.new (at output.new clock.new entropy.new))) }
 {
     match settings_file(alloc, files, settings) {
         Ok(settings) => run(alloc, settings, seed, input, output, opener, clock, entropy),
@@ -99,9 +102,12 @@ fn pipe_seeded<I: Source, O: Sink, F: Files, P: Opener, C: Clock, N: Entropy>(
     entropy: &mut N,
 ) -> Ended
     ensures piped { let at = giving O.holds O.write_faults C.answer N.word N.faults in
-        Piped result (F.holds files.old settings.now) (F.faults files.old) (F.faults files.new) (option_map (λ t. t.now) seed.entry)
-        (world P.told P.asked P.faults opener.old (told I.left I.read_faults input.old (at output.old clock.old entropy.old)))
-        (world P.told P.asked P.faults opener.new (told I.left I.read_faults input.new (at output.new clock.new entropy.new))) }
+        let tell = told I.left I.read_faults in
+        let around = world P.told P.asked P.faults in
+        Piped result (F.holds files.old settings.now) (F.faults files.old) (F.faults files.new)
+        (option_map (λ t. t.now) seed.entry)
+        (around opener.old (tell input.old (at output.old clock.old entropy.old)))
+        (around opener.new (tell input.new (at output.new clock.new entropy.new))) }
 {
     match seed_text(alloc, seed) {
         Ok(seed) => pipe_under(
@@ -127,10 +133,14 @@ pub fn pipe_command<I: Source, O: Sink, E: Sink, F: Files, P: Opener, C: Clock, 
     entropy: &mut N,
 ) -> Status
     ensures outcome { let at = giving O.holds O.write_faults C.answer N.word N.faults in
-        Outcome result (F.holds files.old settings.now) (F.faults files.old) (F.faults files.new) (option_map (λ t. t.now) seed.entry)
-        (world P.told P.asked P.faults opener.old (told I.left I.read_faults input.old (at output.old clock.old entropy.old)))
-        (world P.told P.asked P.faults opener.new (told I.left I.read_faults input.new (at output.new clock.new entropy.new)))
-        (E.holds errors.old) (E.holds errors.new) (E.write_faults errors.old) (E.write_faults errors.new) }
+        let tell = told I.left I.read_faults in
+        let around = world P.told P.asked P.faults in
+        Outcome result (F.holds files.old settings.now) (F.faults files.old) (F.faults files.new)
+        (option_map (λ t. t.now) seed.entry)
+        (around opener.old (tell input.old (at output.old clock.old entropy.old)))
+        (around opener.new (tell input.new (at output.new clock.new entropy.new)))
+        (E.holds errors.old) (E.holds errors.new)
+        (E.write_faults errors.old) (E.write_faults errors.new) }
 {
     let ended = pipe_seeded(
         alloc, settings, seed, input, output, files, opener, clock, entropy,

@@ -41,9 +41,11 @@ fn run_behind<I: Source, O: Sink, P: Opener, C: Clock, N: Entropy>(
 ) -> Ended
     requires site { front.now ≡ front_settings settings }
     ensures ran { let at = giving O.holds O.write_faults C.answer N.word N.faults in
+        let tell = told I.left I.read_faults in
+        let around = world P.told P.asked P.faults in
         Ran result settings seed
-        (world P.told P.asked P.faults opener.old (told I.left I.read_faults input.old (at output.old clock.old entropy.old)))
-        (world P.told P.asked P.faults opener.new (told I.left I.read_faults input.new (at output.new clock.new entropy.new))) }
+        (around opener.old (tell input.old (at output.old clock.old entropy.old)))
+        (around opener.new (tell input.new (at output.new clock.new entropy.new))) }
 {
     let moment = Moment::clamp(clock.seconds());
     let fields = settings.fields();
@@ -55,6 +57,7 @@ fn run_behind<I: Source, O: Sink, P: Opener, C: Clock, N: Entropy>(
     };
     match Desk::open(alloc, settings, keeper, moment) {
         Ok(mut desk) => {
+            let _rules = desk.tables();
             let closed = talk(
                 alloc, front, requests, seed, &mut desk, input, output, clock, entropy,
             );
@@ -80,9 +83,11 @@ pub(crate) fn run<I: Source, O: Sink, P: Opener, C: Clock, N: Entropy>(
     entropy: &mut N,
 ) -> Ended
     ensures ran { let at = giving O.holds O.write_faults C.answer N.word N.faults in
+        let tell = told I.left I.read_faults in
+        let around = world P.told P.asked P.faults in
         Ran result settings seed
-        (world P.told P.asked P.faults opener.old (told I.left I.read_faults input.old (at output.old clock.old entropy.old)))
-        (world P.told P.asked P.faults opener.new (told I.left I.read_faults input.new (at output.new clock.new entropy.new))) }
+        (around opener.old (tell input.old (at output.old clock.old entropy.old)))
+        (around opener.new (tell input.new (at output.new clock.new entropy.new))) }
 {
     match Front::new(alloc, &settings) {
         Ok(front) => run_behind(

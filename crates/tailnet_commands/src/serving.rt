@@ -16,7 +16,8 @@ use tailnet_desk::Turns;
 
 /// Answers a head that is refused, and ends the connection.
 fn refuse<O: Sink>(alloc: Global, output: &mut O, status: u16) -> Closed
-    ensures refused { IsRefused (O.holds output.old) (O.holds output.new) (O.write_faults output.old) (O.write_faults output.new) (bad_answer status) result }
+    ensures refused { IsRefused (O.holds output.old) (O.holds output.new)
+        (O.write_faults output.old) (O.write_faults output.new) (bad_answer status) result }
 {
     match send_refusal(alloc, output, status) {
         Ok(()) => Closed::Early,
@@ -37,12 +38,17 @@ fn serve_one<T: Turns, I: Source, O: Sink, C: Clock, N: Entropy>(
     last: bool,
 ) -> Result<(), Closed>
     ensures goes { let at = giving O.holds O.write_faults C.answer N.word N.faults in
+        let tell = told I.left I.read_faults in
         OnOk result (Goes T.turn front.now last buffer.old buffer.new
-        (told I.left I.read_faults input.old (at output.old clock.old entropy.old)) (told I.left I.read_faults input.new (at output.new clock.new entropy.new))
+        (tell input.old (at output.old clock.old entropy.old))
+        (tell input.new (at output.new clock.new entropy.new))
         turns.old turns.new) }
     ensures ends { let at = giving O.holds O.write_faults C.answer N.word N.faults in
-        IfErr result (λ closed. (limit : ℕ) → 0 < limit → last ≡ (limit == 1) → Serves T.turn front.now closed limit buffer.old
-        (told I.left I.read_faults input.old (at output.old clock.old entropy.old)) (told I.left I.read_faults input.new (at output.new clock.new entropy.new))
+        let tell = told I.left I.read_faults in
+        IfErr result (λ closed. (limit : ℕ) → 0 < limit → last ≡ (limit == 1)
+        → Serves T.turn front.now closed limit buffer.old
+        (tell input.old (at output.old clock.old entropy.old))
+        (tell input.new (at output.new clock.new entropy.new))
         turns.old turns.new) }
 {
     match take_request(alloc, input, buffer) {
@@ -71,8 +77,10 @@ pub(crate) fn serve<T: Turns, I: Source, O: Sink, C: Clock, N: Entropy>(
 ) -> Closed
     requires some { 0 < requests }
     ensures serves { let at = giving O.holds O.write_faults C.answer N.word N.faults in
+        let tell = told I.left I.read_faults in
         Serves T.turn front.now result requests []
-        (told I.left I.read_faults input.old (at output.old clock.old entropy.old)) (told I.left I.read_faults input.new (at output.new clock.new entropy.new))
+        (tell input.old (at output.old clock.old entropy.old))
+        (tell input.new (at output.new clock.new entropy.new))
         turns.old turns.new }
 {
     let Ok(mut buffer) = Buffer::new(alloc) else {

@@ -1,21 +1,21 @@
 //! Bytes written whole.
 ghost use Rattle.std.specs.Prelude.{◌≡◌, IfOk, is_err};
-ghost use Rattle.desk_state.specs.declared.reply.Reply.{Reply};
 ghost use Rattle.desk_front.specs.Replies.{reply_bytes};
 ghost use Rattle.tailnet_commands.specs.Exchanges.{bad_answer};
 ghost use Rattle.tailnet_commands.specs.Pieces.{Sent, Wrote};
 
 use crate::closed::Closed;
 use desk_front::Front;
-use desk_state::{Ask, Refusal, Reply};
 use http_front::{no_memory_answer, plain_answer};
 use io_edge::{Failed, Sink};
 use std::alloc::Global;
 use tail_base::NoMemory;
+use tailnet_desk::{Ask, Loss, Reply};
 
 /// Writes the bytes, or a front of them where a write failed.
 pub(crate) fn write_all<O: Sink>(output: &mut O, bytes: &[u8]) -> Result<(), Failed>
-    ensures wrote { Wrote (O.holds output.old) (O.holds output.new) (O.write_faults output.old) (O.write_faults output.new) bytes.now (is_err result) }
+    ensures wrote { Wrote (O.holds output.old) (O.holds output.new)
+        (O.write_faults output.old) (O.write_faults output.new) bytes.now (is_err result) }
 {
     let mut rest = bytes;
     while !rest.is_empty() {
@@ -27,7 +27,8 @@ pub(crate) fn write_all<O: Sink>(output: &mut O, bytes: &[u8]) -> Result<(), Fai
 
 /// Writes the bytes on a connection.
 pub(crate) fn send<O: Sink>(output: &mut O, bytes: &[u8]) -> Result<(), Closed>
-    ensures sent { Sent result (O.holds output.old) (O.holds output.new) (O.write_faults output.old) (O.write_faults output.new) bytes.now }
+    ensures sent { Sent result (O.holds output.old) (O.holds output.new)
+        (O.write_faults output.old) (O.write_faults output.new) bytes.now }
 {
     match write_all(output, bytes) {
         Ok(()) => Ok(()),
@@ -45,9 +46,11 @@ pub(crate) fn send_reply<O: Sink>(
     reply: &Reply,
     close: bool,
 ) -> Result<(), Closed>
-    ensures sent { Sent result (O.holds output.old) (O.holds output.new) (O.write_faults output.old) (O.write_faults output.new) (reply_bytes front.now ask.now reply.now close) }
+    ensures sent { Sent result (O.holds output.old) (O.holds output.new)
+        (O.write_faults output.old) (O.write_faults output.new)
+        (reply_bytes front.now ask.now reply.now close) }
 {
-    if let Reply::Refused(Refusal::NoMemory) = reply {
+    if let Reply::Lost(Loss::NoMemory) = reply {
         return send(output, no_memory_answer(close));
     }
     match front.answer(alloc, ask, reply, close) {
@@ -74,7 +77,8 @@ pub(crate) fn send_refusal<O: Sink>(
     output: &mut O,
     status: u16,
 ) -> Result<(), Closed>
-    ensures sent { Sent result (O.holds output.old) (O.holds output.new) (O.write_faults output.old) (O.write_faults output.new) (bad_answer status) }
+    ensures sent { Sent result (O.holds output.old) (O.holds output.new)
+        (O.write_faults output.old) (O.write_faults output.new) (bad_answer status) }
 {
     match bad_bytes(alloc, status) {
         Ok(bytes) => send(output, &bytes),

@@ -231,9 +231,10 @@ fn assert_run(
     output: &[u8],
     machines: usize,
 ) -> Result<(), NoMemory> {
-    let line = match status {
-        Status::Ok => b"".as_slice(),
-        _ => b"tailnetd: closed early\n".as_slice(),
+    let line = if status == Status::Ok {
+        b"".as_slice()
+    } else {
+        b"tailnetd: closed early\n".as_slice()
     };
     let ran = piped(alloc, SETTINGS, input, &CALM)?;
     assert!(rt; ran.status == status);

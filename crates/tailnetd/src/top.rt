@@ -16,8 +16,8 @@ use tailnet_commands::{Status, note_usage, pipe_command, policy_check};
 
 /// The whole program over its outside: the words after its name, and all that it may touch.
 ///
-/// `pipe` and `policy-check` are the commands so far. It waits for nobody, asks no door and no link, and starts no
-/// thread.
+/// `pipe` and `policy-check` are the commands so far. It waits for nobody, asks no door and no link,
+/// and starts no thread.
 pub fn tailnetd<
     R: Threads + Wait + Sync,
     I: Source,
@@ -46,10 +46,14 @@ pub fn tailnetd<
     link: &mut L,
 ) -> Status
     ensures outcome { let at = giving O.holds O.write_faults C.answer N.word N.faults in
-        Top (command_of (map string_bytes words.now)) result (F.holds files.old) (F.faults files.old) (F.faults files.new)
-        (world P.told P.asked P.faults opener.old (told I.left I.read_faults input.old (at output.old clock.old entropy.old)))
-        (world P.told P.asked P.faults opener.new (told I.left I.read_faults input.new (at output.new clock.new entropy.new)))
-        (E.holds errors.old) (E.holds errors.new) (E.write_faults errors.old) (E.write_faults errors.new) }
+        let tell = told I.left I.read_faults in
+        let around = world P.told P.asked P.faults in
+        Top (command_of (map string_bytes words.now)) result
+        (F.holds files.old) (F.faults files.old) (F.faults files.new)
+        (around opener.old (tell input.old (at output.old clock.old entropy.old)))
+        (around opener.new (tell input.new (at output.new clock.new entropy.new)))
+        (E.holds errors.old) (E.holds errors.new)
+        (E.write_faults errors.old) (E.write_faults errors.new) }
     ensures doors { doors.new ≡ doors.old }
     ensures link { link.new ≡ link.old }
 {

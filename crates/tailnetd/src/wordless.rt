@@ -8,7 +8,9 @@ use tailnet_commands::{Ended, Status, note};
 
 /// Leaves the line of want of memory on errors, and gives its status.
 pub(crate) fn end_wordless<E: Sink>(alloc: Global, errors: &mut E) -> Status
-    ensures noted { Noted (line_of Ended.NoMemory) false (E.holds errors.old) (E.holds errors.new) (E.write_faults errors.old) (E.write_faults errors.new) }
+    ensures noted { Noted (line_of Ended.NoMemory) false
+        (E.holds errors.old) (E.holds errors.new)
+        (E.write_faults errors.old) (E.write_faults errors.new) }
     ensures status { result ≡ Status.NoMemory }
 {
     note(alloc, errors, &Ended::NoMemory);

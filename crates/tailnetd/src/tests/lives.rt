@@ -54,6 +54,13 @@ const LIVES: &str = r#"= sweep-at-the-end
 < registered
 > GET /api/v1/node Bearer/secret
 < 200 {"nodes":[{"addresses":["100.64.0.1","fd7a:115c:a1e0::1"],"advertised":[],"approved":[],"expiry":"0001-01-01T00:00:00Z","id":2,"live":true,"name":"node","online":false,"served":[],"tags":[],"user":"seed@"}]}
+= renewed-as-it-was
+@ 1000000000 1000000000 1000000000 1000001800
+! keep 4
+> POST /machine/register mkey:%1 {"Auth":{"AuthKey":"k1"},"Ephemeral":true,"NodeKey":"nodekey:%a"}
+< registered
+> POST /machine/register mkey:%1 {"Auth":{"AuthKey":"k1"},"Ephemeral":true,"NodeKey":"nodekey:%a"}
+< registered
 = rotation
 > POST /machine/register mkey:%1 {"Auth":{"AuthKey":"k1"},"NodeKey":"nodekey:%a","Hostinfo":{"Hostname":"one"}}
 < registered

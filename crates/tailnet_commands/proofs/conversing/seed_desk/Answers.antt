@@ -1,5 +1,5 @@
 use Rattle.std.proofs.Common.{◌∙◌, ◌≡◌, ap, refl, rules, w64, sym, subst, ℤ, None}
-use Rattle.desk_state.specs.declared.ask.Ask.TheVariants as ask
+use Rattle.tailnet_desk.specs.declared.ask.Ask.TheVariants as ask
 use Rattle.tailnet_desk.specs.declared.entry.Event.TheVariants as event
 use mir.Val.{SFits}
 use Rattle.std.specs.Option.{option_map}
@@ -16,9 +16,8 @@ returns g c =
     record {
       seeded = record {
         turned = record { event = event.Ask (ask.Seed c.args.text) c.clamp-moment.result None; reply = c.ask-reply.result };
-        ask_is = refl;
-        words_are = refl;
-        leads = c.ask-reply.ensures.call;
+        asks = record { moment = c.clamp-moment.result; words = None; event_is = refl; undrawn = λ _. refl };
+        leads = c.ask-reply.ensures.turn;
         moment = subst (λ (z : ℤ). IsWhereTold z (option_map clamped (g.C.Clock.answer c.args.clock.now 0))) (sym at) (clamped_told _ _ c.seconds.ensures.took.first);
         rest = c.seconds.ensures.took.rest;
       };

@@ -17,7 +17,7 @@ returns-in-Ok-open g c =
     let opened = c.in-Ok-open.ensures in
     let talked = rw (c.fields-fields.ensures.value, c.requires.site) at c.talk-closed.ensures.talked in
     record {
-      ran = talked_run c.talk-closed.result c.args.settings c.args.seed c.clamp-moment.result _ _ (g.C.Clock.answer c.seconds.new.self) c.in-Ok-open.desk.state _ _
+      ran = talked_run c.talk-closed.result c.args.settings c.args.seed c.clamp-moment.result _ _ (g.C.Clock.answer c.seconds.new.self) c.in-Ok-open.desk.state _ _ c.fields-fields.ensures.rules c.tables-rules.ensures.sound
           (subst (λ (z : ℤ). IsWhereTold z (option_map clamped (g.C.Clock.answer c.args.clock.now 0))) (sym at) (clamped_told _ _ c.seconds.ensures.took.first))
           c.seconds.ensures.took.rest opened.state
           (where_given _ (g.P.Opener.told c.args.opener.now) _ c.in-Ok.ensures.gives opened.rows)
