@@ -148,30 +148,17 @@ answered_ask turn site sent outcome request last ask old new s t wants_it asked 
       outcome_is = follows.is asked.sent.written _ old.write_faults new.write_faults asked.sent.is;
     }
 
-or_false : (b : Bool) → (b || false) ≡ b
-or_false true = refl
-or_false false = refl
-
-or_true : (b : Bool) → (b || true) ≡ true
-or_true true = refl
-or_true false = refl
-
 -- want of memory before any event
 pub exchange_unanswered : (site : FrontSettings) (request : Request) (last close : Bool) (bytes : List ℕ) → close ≡ (request.close || last) → bytes ≡ answer 503 (codes "{\"error\":\"NoMemory\"}") close
     → IsExchange site last (record { request = request; turns = []; bytes = bytes; ended = ended_by close; broken = false })
 exchange_unanswered site request last close bytes e is = inl (refl, is ∙ ap (λ (b : Bool). answer 503 (codes "{\"error\":\"NoMemory\"}") b) e, ap ended_by e)
 
--- a fixed answer that leaves the connection as the request wants it
-pub exchange_fixed : (site : FrontSettings) (request : Request) (last close : Bool) (status : ℕ) (body : List ℕ) → close ≡ (request.close || last) → wants.Answer status body ≡ wanted_of site request → (status == 400) ≡ false
+-- a fixed answer leaves the connection as the request wants it
+pub exchange_fixed : (site : FrontSettings) (request : Request) (last close : Bool) (status : ℕ) (body : List ℕ) → close ≡ (request.close || last) → wants.Answer status body ≡ wanted_of site request
     → IsExchange site last (record { request = request; turns = []; bytes = answer status body close; ended = ended_by close; broken = false })
-exchange_fixed site request last close status body e w test =
-    let closing : close ≡ ((request.close || last) || (status == 400)) = e ∙ sym (ap (λ (b : Bool). (request.close || last) || b) test ∙ or_false (request.close || last)) in
-    let ending : ended_by close ≡ (if status == 400 then Some Early else ended_by (request.close || last)) = ap ended_by e ∙ sym (ap (λ (b : Bool). if b then Some Early else ended_by (request.close || last)) test) in
-    inr (rw (← w) (refl, ap (λ (b : Bool). answer status body b) closing, ending))
+exchange_fixed site request last close status body e w = inr (rw (← w) (refl, ap (λ (b : Bool). answer status body b) e, ap ended_by e))
 
 -- the answer to a faulty request ends the connection
-pub exchange_faulty : (site : FrontSettings) (request : Request) (last : Bool) (status : ℕ) (body : List ℕ) → status ≡ 400 → wants.Answer status body ≡ wanted_of site request
+pub exchange_faulty : (site : FrontSettings) (request : Request) (last : Bool) (body : List ℕ) → wants.Fault body ≡ wanted_of site request
     → IsExchange site last (record { request = request; turns = []; bytes = answer 400 body true; ended = Some Early; broken = false })
-exchange_faulty site request last status body is w =
-    let w400 : wants.Answer 400 body ≡ wanted_of site request = rw is at w in
-    inr (rw (← w400) (refl, ap (λ (b : Bool). answer 400 body b) (sym (or_true (request.close || last))), refl))
+exchange_faulty site request last body w = inr (rw (← w) (refl, refl, refl))

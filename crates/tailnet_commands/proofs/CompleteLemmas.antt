@@ -35,13 +35,11 @@ pub not_early : (close : Bool) → ended_by close ≡ Some closed.Early → ⊥
 not_early true e = cc
 not_early false e = cc
 
--- only a 400 ends a connection early
+-- only a fault ends a connection early
 pub answered_late : (site : FrontSettings) (close : Bool) (w : Wanted) (x : Exchange) → IsAccepted w → IsAnswered site close w x.turns x.bytes x.ended → x.ended ≡ Some closed.Early → ⊥
 answered_late site close (wants.Ask ask) x ok a e = not_early close (sym a.4 ∙ e)
-answered_late site close (wants.Answer status body) x ok a e = elim (cases_Bool (status == 400)) [
-  | inl t ↦ ok (grind (arith, nat_tests, t))
-  | inr f ↦ not_early close (sym (rw f at a.2) ∙ e)
-]
+answered_late site close (wants.Fault body) x ok a e = ok
+answered_late site close (wants.Answer status body) x ok a e = not_early close (sym a.2 ∙ e)
 
 -- one exchange of an accepted request doesn't end its connection early
 pub late_one : (site : FrontSettings) (last : Bool) (x : Exchange) → IsAccepted (wanted_of site x.request) → IsExchange site last x → x.ended ≡ Some closed.Early → ⊥
@@ -72,9 +70,9 @@ tail_never rest left others extra told is splits (inl (tail, gone, none)) =
     let here : Splits rest others at_end = subst (λ b. Splits b others at_end) (ap (λ l. rest ++ l) (sym nothing) ∙ append-nil rest) splits in
     let same = Splits_unique rest others [] at_end cut here (rest, refl, tail) in
     let clash : at_end ≡ cut = same.1 in cc
-tail_never rest left others extra told is splits (inr (status, tail, answered)) =
-    let same = Splits_unique (rest ++ left) others [] at_end (bad status) splits (Splits-append_bad rest left [] status (rest, refl, tail)) in
-    let clash : at_end ≡ bad status = same.1 in cc
+tail_never rest left others extra told is splits (inr (fault, tail, answered)) =
+    let same = Splits_unique (rest ++ left) others [] at_end (bad fault) splits (Splits-append_bad rest left [] fault (rest, refl, tail)) in
+    let clash : at_end ≡ bad fault = same.1 in cc
 
 -- a connection over accepted whole requests doesn't end early
 pub never_early : {S : Type 0} (turn : S → Event → Reply → S → Type 0) (site : FrontSettings) (limit : ℕ) (old new : Told) (s t : S) (input : List ℕ) (requests : List Request)

@@ -4,6 +4,8 @@ use Rattle.std.specs.Option.{option_or}
 use Rattle.std.proofs.lemmas.List.{append-nil}
 use Rattle.io_edge.specs.Edge.{and_then_left, and_held}
 use Rattle.io_edge.proofs.Told.{left_more, held_more, held_nothing, rose_later}
+use Rattle.http_front.specs.HeadFaults.{head_fault_answer}
+use Rattle.http_front.specs.declared.head_fault.HeadFault.{HeadFault}
 use Rattle.http_front.specs.Requests.{IsWhole, IsTail, bad}
 use Rattle.http_front.specs.Taking.{Takes}
 use Rattle.http_front.specs.declared.request.Request.{Request}
@@ -16,7 +18,7 @@ use Rattle.tailnet_desk.specs.declared.reply.Reply.{Reply}
 use Rattle.desk_front.specs.declared.front_settings.FrontSettings.{FrontSettings}
 use Rattle.tailnet_commands.specs.Outside.{Giving, Took}
 use Rattle.tailnet_commands.specs.Asked.{IsRefused, IsRefusedBy}
-use Rattle.tailnet_commands.specs.Exchanges.{Exchange, IsExchange, AreExchanges, Answered, IsOutcome, breaks, turns_of, answers_of, end_of, bad_answer}
+use Rattle.tailnet_commands.specs.Exchanges.{Exchange, IsExchange, AreExchanges, Answered, IsOutcome, breaks, turns_of, answers_of, end_of}
 use Rattle.tailnet_commands.specs.Pieces.{IsPrefix}
 use Rattle.tailnet_commands.specs.Serve.{Serves, Goes, Ends, IsExtra, Told}
 use Rattle.tailnet_commands.proofs.AnswerLemmas.{took_none}
@@ -49,36 +51,36 @@ serves_none turn site closed limit held read old new s same came later ends =
       ending = ends;
     }
 
-refused_ends : (closed : Closed) (rest : List ℕ) (status : ℕ) (written : List ℕ) (old new : Told) → IsTail rest (bad status) → IsRefusedBy written (bad_answer status) old.giving.write_faults new.giving.write_faults closed
-    → IsPrefix written (bad_answer status) → Ends closed [] rest (bad_answer status) written old new
-refused_ends End rest status written old new tail h front = absurd h
-refused_ends Early rest status written old new tail h front = (h, inr (refl, inr (status, tail, refl)), tt)
-refused_ends ReadFault rest status written old new tail h front = absurd h
-refused_ends WriteFault rest status written old new tail h front = (front, h)
-refused_ends NoMemory rest status written old new tail h front = front
+refused_ends : (closed : Closed) (rest : List ℕ) (fault : HeadFault) (written : List ℕ) (old new : Told) → IsTail rest (bad fault) → IsRefusedBy written (head_fault_answer fault) old.giving.write_faults new.giving.write_faults closed
+    → IsPrefix written (head_fault_answer fault) → Ends closed [] rest (head_fault_answer fault) written old new
+refused_ends End rest fault written old new tail h front = absurd h
+refused_ends Early rest fault written old new tail h front = (h, inr (refl, inr (fault, tail, refl)), tt)
+refused_ends ReadFault rest fault written old new tail h front = absurd h
+refused_ends WriteFault rest fault written old new tail h front = (front, h)
+refused_ends NoMemory rest fault written old new tail h front = front
 
 -- nothing was served, and a refused head was answered
-pub serves_refused : {S : Type 0} (turn : S → Event → Reply → S → Type 0) (site : FrontSettings) (closed : Closed) (limit : ℕ) (held new_held : List ℕ) (status : ℕ) (old new : Told) (s : S)
-    → Takes old.left new.left held new_held (taken.Bad status) → old.read_faults ≤ new.read_faults
+pub serves_refused : {S : Type 0} (turn : S → Event → Reply → S → Type 0) (site : FrontSettings) (closed : Closed) (limit : ℕ) (held new_held : List ℕ) (fault : HeadFault) (old new : Told) (s : S)
+    → Takes old.left new.left held new_held (taken.Bad fault) → old.read_faults ≤ new.read_faults
     → ((k : ℕ) → new.giving.answers k ≡ old.giving.answers k) → ((k : ℕ) → new.giving.words k ≡ old.giving.words k) → old.giving.word_faults ≤ new.giving.word_faults
-    → IsRefused old.giving.held new.giving.held old.giving.write_faults new.giving.write_faults (bad_answer status) closed → Serves turn site closed limit held old new s s
-serves_refused turn site closed limit held new_held status old new s took later answers words faults refused = record {
+    → IsRefused old.giving.held new.giving.held old.giving.write_faults new.giving.write_faults (head_fault_answer fault) closed → Serves turn site closed limit held old new s s
+serves_refused turn site closed limit held new_held fault old new s took later answers words faults refused = record {
   exchanges = [];
   read = took.read;
   rest = held ++ took.read;
-  extra = bad_answer status;
+  extra = head_fault_answer fault;
   written = refused.written;
   from_source = took.moved;
   bytes_read = refl;
   each = tt;
   chain = refl;
   took = took_none old.giving new.giving answers words faults;
-  extra_is = inr (refl, (status, took.answers.0, refl));
+  extra_is = inr (refl, (fault, took.answers.0, refl));
   front = refused.front;
   to_sink = refused.to_sink;
   reads_later = later;
   writes_later = refused.later;
-  ending = refused_ends closed (held ++ took.read) status refused.written old new took.answers.0 refused.is refused.front;
+  ending = refused_ends closed (held ++ took.read) fault refused.written old new took.answers.0 refused.is refused.front;
 }
 
 or_none : (o : Option Closed) → option_or o None ≡ o

@@ -19,7 +19,8 @@ use Rattle.tailnet_commands.specs.declared.status.Status.TheVariants as status
 
 -- the request isn't answered 400
 abbrev pub IsAccepted : Wanted → Type 0
-IsAccepted (wants.Answer status body) = status ≢ 400
+IsAccepted (wants.Fault body) = ⊥
+IsAccepted (wants.Answer status body) = Unit {0}
 IsAccepted (wants.Ask ask) = Unit {0}
 
 -- Nothing stands in the way of a run: the settings file is there and keeps its rules, the tables are served, the

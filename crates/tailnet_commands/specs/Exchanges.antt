@@ -8,7 +8,6 @@ use Rattle.http_front.specs.declared.request.Request.{Request}
 use Rattle.tailnet_desk.specs.Chains.{Turned, Chain}
 use Rattle.tailnet_desk.specs.declared.entry.Event.{Event}
 use Rattle.tailnet_desk.specs.declared.reply.Reply.{Reply}
-use Rattle.desk_front.specs.Faults.{error_body}
 use Rattle.desk_front.specs.Replies.{reply_bytes}
 use Rattle.desk_front.specs.Wanted.{wanted_of}
 use Rattle.desk_front.specs.declared.want.Wanted.{Wanted}
@@ -35,11 +34,11 @@ abbrev pub IsUnanswered : Bool → List Turned → List ℕ → Option Closed �
 IsUnanswered close turns bytes ended =
     (turns ≡ []) × (bytes ≡ answer 503 (codes "{\"error\":\"NoMemory\"}") close) × (ended ≡ ended_by close)
 
--- A fixed answer has no turn; a 400 ends the connection. What is asked is one turn, and its reply is answered.
+-- A fault and a fixed answer have no turn; a fault ends the connection. What is asked is one turn, and its reply is answered.
 abbrev pub IsAnswered : FrontSettings → Bool → Wanted → List Turned → List ℕ → Option Closed → Type 0
+IsAnswered site close (wants.Fault body) turns bytes ended = (turns ≡ []) × (bytes ≡ answer 400 body true) × (ended ≡ Some Early)
 IsAnswered site close (wants.Answer status body) turns bytes ended =
-    (turns ≡ []) × (bytes ≡ answer status body (close || status == 400))
-    × (ended ≡ (if status == 400 then Some Early else ended_by close))
+    (turns ≡ []) × (bytes ≡ answer status body close) × (ended ≡ ended_by close)
 IsAnswered site close (wants.Ask ask) turns bytes ended =
     (t : Turned) × (turns ≡ t ∷ []) × IsTurnOf ask t × (bytes ≡ reply_bytes site ask t.reply close) × (ended ≡ ended_by close)
 
@@ -104,11 +103,3 @@ pub record Answered {T S : Type 0} (turn : S → Event → Reply → S → Type 
   pub to_sink : new.held ≡ and_held old.held written
   pub later : old.write_faults ≤ new.write_faults
   pub outcome_is : IsOutcome outcome exchange.ended written exchange.bytes old.write_faults new.write_faults
-
--- the answer to a head that is refused with a status; it ends the connection
-abbrev pub bad_answer : ℕ → List ℕ
-bad_answer status =
-    if status == 411 then answer 411 (error_body (codes "NoLength")) true
-    else if status == 413 then answer 413 (error_body (codes "BodyTooLong")) true
-    else if status == 431 then answer 431 (error_body (codes "HeadTooLong")) true
-    else answer 400 (error_body (codes "BadHead")) true

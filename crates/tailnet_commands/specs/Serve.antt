@@ -1,6 +1,8 @@
 -- A connection: which requests its bytes are, which turns they were, and which bytes answered them.
 use Rattle.std.specs.Prelude.{◌≡◌, ◌≤◌, ◌<◌, ◌⊎◌, ℕ, Bool, true, false, Option, None, Some, List, [], ◌∷◌, ◌++◌, length}
 use Rattle.io_edge.specs.Edge.{Rose, and_then_left, and_held, IsWhereTold}
+use Rattle.http_front.specs.HeadFaults.{head_fault_answer}
+use Rattle.http_front.specs.declared.head_fault.HeadFault.{HeadFault}
 use Rattle.http_front.specs.Requests.{IsWhole, Leads, IsTail, IsUnfinished, cut, bad}
 use Rattle.tailnet_desk.specs.Chains.{Chain}
 use Rattle.tailnet_desk.specs.declared.entry.Event.{Event}
@@ -8,7 +10,7 @@ use Rattle.tailnet_desk.specs.declared.reply.Reply.{Reply}
 use Rattle.desk_front.specs.declared.front_settings.FrontSettings.{FrontSettings}
 use Rattle.tailnet_commands.specs.Outside.{Giving, Took}
 use Rattle.tailnet_commands.specs.Pieces.{IsPrefix}
-use Rattle.tailnet_commands.specs.Exchanges.{Exchange, IsExchange, AreExchanges, AreUnbroken, requests_of, turns_of, answers_of, end_of, bad_answer}
+use Rattle.tailnet_commands.specs.Exchanges.{Exchange, IsExchange, AreExchanges, AreUnbroken, requests_of, turns_of, answers_of, end_of}
 use Rattle.tailnet_commands.specs.declared.closed.Closed.{Closed}
 use Rattle.tailnet_commands.specs.declared.closed.Closed.TheVariants.{End, Early, ReadFault, WriteFault, NoMemory}
 
@@ -23,7 +25,7 @@ told left read_faults i rest = record { left = left i; read_faults = read_faults
 
 -- bytes that are refused are answered
 abbrev pub IsRefusal : List ℕ → List ℕ → Type 0
-IsRefusal rest extra = (status : ℕ) × IsTail rest (bad status) × (extra ≡ bad_answer status)
+IsRefusal rest extra = (fault : HeadFault) × IsTail rest (bad fault) × (extra ≡ head_fault_answer fault)
 
 -- what the bytes behind the served requests are answered: nothing, unless they are refused and no request ended the connection
 abbrev pub IsExtra : Option Closed → List ℕ → List ℕ → Type 0

@@ -1,6 +1,5 @@
 //! One request and its answer.
 ghost use Rattle.std.specs.Prelude.{◌≡◌, Option, Some, Bool, true, false, codes, ◌||◌, ◌==◌, IfErr, OnOk, Result, Ok, Err, IsErr};
-ghost use Rattle.http.specs.StatusCode.{IsStatusCode};
 ghost use Rattle.http_front.specs.AnswerBytes.{answer};
 ghost use Rattle.tailnet_desk.specs.Asks.{IsShort, draws};
 ghost use Rattle.tailnet_commands.specs.Asked.{Follows, IsAsked};
@@ -12,6 +11,7 @@ ghost use Rattle.tailnet_commands.specs.Pieces.{Sent};
 use crate::closed::Closed;
 use crate::writing::{send, send_reply};
 use desk_front::{Front, Wanted};
+use http::StatusCode;
 use http_front::{Request, no_memory_answer, plain_answer};
 use io_edge::{Clock, Entropy, Sink};
 use moments::Moment;
@@ -80,11 +80,10 @@ fn answer_ask<T: Turns, O: Sink, C: Clock, N: Entropy>(
 fn answer_fixed<O: Sink>(
     alloc: Global,
     output: &mut O,
-    status: u16,
+    status: StatusCode,
     body: &[u8],
     close: bool,
 ) -> Result<(), Closed>
-    requires status { IsStatusCode status }
     ensures sent { Sent result (O.holds output.old) (O.holds output.new)
         (O.write_faults output.old) (O.write_faults output.new) (answer status body.now close) }
 {
@@ -121,9 +120,13 @@ pub(crate) fn answer_request<T: Turns, O: Sink, C: Clock, N: Entropy>(
     let close = closes(request.close, last);
     match front.wanted(alloc, request) {
         Err(NoMemory) => finish(send(output, no_memory_answer(close)), close),
-        Ok(Wanted::Answer { status: 400, body }) => {
-            finish_early(answer_fixed(alloc, output, 400, body.as_slice(), true))
-        }
+        Ok(Wanted::Fault { body }) => finish_early(answer_fixed(
+            alloc,
+            output,
+            StatusCode::BAD_REQUEST,
+            body.as_slice(),
+            true,
+        )),
         Ok(Wanted::Answer { status, body }) => {
             finish(
                 answer_fixed(alloc, output, status, body.as_slice(), close),

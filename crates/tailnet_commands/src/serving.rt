@@ -1,7 +1,7 @@
 //! One connection.
 ghost use Rattle.std.specs.Prelude.{◌≡◌, ◌<◌, ◌==◌, ℕ, [], IfErr, OnOk};
+ghost use Rattle.http_front.specs.HeadFaults.{head_fault_answer};
 ghost use Rattle.tailnet_commands.specs.Asked.{IsRefused};
-ghost use Rattle.tailnet_commands.specs.Exchanges.{bad_answer};
 ghost use Rattle.tailnet_commands.specs.Outside.{giving};
 ghost use Rattle.tailnet_commands.specs.Serve.{Goes, Serves, told};
 
@@ -9,17 +9,17 @@ use crate::answering::answer_request;
 use crate::closed::Closed;
 use crate::writing::send_refusal;
 use desk_front::Front;
-use http_front::{Buffer, Taken, take_request};
+use http_front::{Buffer, HeadFault, Taken, take_request};
 use io_edge::{Clock, Entropy, Sink, Source};
 use std::alloc::Global;
 use tailnet_desk::Turns;
 
 /// Answers a head that is refused, and ends the connection.
-fn refuse<O: Sink>(alloc: Global, output: &mut O, status: u16) -> Closed
+fn refuse<O: Sink>(alloc: Global, output: &mut O, fault: HeadFault) -> Closed
     ensures refused { IsRefused (O.holds output.old) (O.holds output.new)
-        (O.write_faults output.old) (O.write_faults output.new) (bad_answer status) result }
+        (O.write_faults output.old) (O.write_faults output.new) (head_fault_answer fault) result }
 {
-    match send_refusal(alloc, output, status) {
+    match send_refusal(alloc, output, fault) {
         Ok(()) => Closed::Early,
         Err(closed) => closed,
     }
@@ -57,7 +57,7 @@ fn serve_one<T: Turns, I: Source, O: Sink, C: Clock, N: Entropy>(
         }
         Taken::End => Err(Closed::End),
         Taken::Cut => Err(Closed::Early),
-        Taken::Bad(status) => Err(refuse(alloc, output, status)),
+        Taken::Bad(fault) => Err(refuse(alloc, output, fault)),
         Taken::ReadFault => Err(Closed::ReadFault),
         Taken::NoMemory => Err(Closed::NoMemory),
     }

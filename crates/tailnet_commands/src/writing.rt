@@ -1,12 +1,12 @@
 //! Bytes written whole.
 ghost use Rattle.std.specs.Prelude.{◌≡◌, IfOk, is_err};
 ghost use Rattle.desk_front.specs.Replies.{reply_bytes};
-ghost use Rattle.tailnet_commands.specs.Exchanges.{bad_answer};
+ghost use Rattle.http_front.specs.HeadFaults as spec;
 ghost use Rattle.tailnet_commands.specs.Pieces.{Sent, Wrote};
 
 use crate::closed::Closed;
 use desk_front::Front;
-use http_front::{no_memory_answer, plain_answer};
+use http_front::{HeadFault, head_fault_answer, no_memory_answer};
 use io_edge::{Failed, Sink};
 use std::alloc::Global;
 use tail_base::NoMemory;
@@ -59,28 +59,16 @@ pub(crate) fn send_reply<O: Sink>(
     }
 }
 
-/// The answer to a head that is refused with this status.
-fn bad_bytes(alloc: Global, status: u16) -> Result<Vec<u8>, NoMemory>
-    ensures value { IfOk result (λ made. made.items ≡ bad_answer status) }
-{
-    match status {
-        411 => plain_answer(alloc, 411, b"{\"error\":\"NoLength\"}", true),
-        413 => plain_answer(alloc, 413, b"{\"error\":\"BodyTooLong\"}", true),
-        431 => plain_answer(alloc, 431, b"{\"error\":\"HeadTooLong\"}", true),
-        _ => plain_answer(alloc, 400, b"{\"error\":\"BadHead\"}", true),
-    }
-}
-
-/// Writes the answer to a head that is refused with this status.
+/// Writes the answer to a head that is refused.
 pub(crate) fn send_refusal<O: Sink>(
     alloc: Global,
     output: &mut O,
-    status: u16,
+    fault: HeadFault,
 ) -> Result<(), Closed>
     ensures sent { Sent result (O.holds output.old) (O.holds output.new)
-        (O.write_faults output.old) (O.write_faults output.new) (bad_answer status) }
+        (O.write_faults output.old) (O.write_faults output.new) (spec.head_fault_answer fault) }
 {
-    match bad_bytes(alloc, status) {
+    match head_fault_answer(alloc, fault) {
         Ok(bytes) => send(output, &bytes),
         Err(NoMemory) => Err(Closed::NoMemory),
     }

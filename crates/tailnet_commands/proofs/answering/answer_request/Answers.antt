@@ -1,5 +1,4 @@
-use Rattle.std.proofs.Common.{◌≡◌, ◌==◌, refl, sym, true, false, Some, arith}
-use Rattle.std.proofs.lemmas.Bool.Decides.{nat_tests}
+use Rattle.std.proofs.Common.{refl, sym, true, Some, arith}
 use Rattle.http_front.specs.AnswerBytes.{answer}
 use Rattle.tailnet_commands.specs.Exchanges.{ended_by}
 use Rattle.tailnet_commands.specs.declared.closed.Closed.TheVariants.{Early}
@@ -12,23 +11,20 @@ returns-in-Err-clause-answered g c =
     (exchange_unanswered c.args.front.now c.args.request.now c.args.last c.closes-close.result _ c.closes-close.ensures.value c.no_memory_answer.ensures.value)
     (λ k. refl) (λ k. refl) (omega arith) c.send.ensures.sent c.finish.ensures.follows
 
-pub returns-in-Ok-Answer-eq400-default-clause-answered : goal.returns-in-Ok-Answer-eq400-default-clause-answered
-returns-in-Ok-Answer-eq400-default-clause-answered g c =
-    let w = rw c.in-Ok-Answer-eq400-default.field-0-is at c.in-Ok-Answer-eq400-default.ensures.value in
+pub returns-in-Ok-Fault-clause-answered : goal.returns-in-Ok-Fault-clause-answered
+returns-in-Ok-Fault-clause-answered g c =
+    let w = rw c.in-Ok-Fault.field-0-is at c.in-Ok-Fault.ensures.value in
     let sent = rw c.as_slice.ensures.value at c.answer_fixed.ensures.sent in
-    let is : c.in-Ok-Answer-eq400-default.field-0-0 ≡ 400 = omega (arith, c.in-Ok-Answer-eq400-default.field-0-0-test) in
-    answered_fixed _ c.args.front.now c.answer_fixed.result c.finish_early.result c.args.request.now c.args.last (answer 400 c.in-Ok-Answer-eq400-default.body true) (Some Early) _ _ _
-    (exchange_faulty c.args.front.now c.args.request.now c.args.last c.in-Ok-Answer-eq400-default.field-0-0 c.in-Ok-Answer-eq400-default.body is w)
+    answered_fixed _ c.args.front.now c.answer_fixed.result c.finish_early.result c.args.request.now c.args.last (answer 400 c.in-Ok-Fault.body true) (Some Early) _ _ _
+    (exchange_faulty c.args.front.now c.args.request.now c.args.last c.in-Ok-Fault.body w)
     (λ k. refl) (λ k. refl) (omega arith) sent c.finish_early.ensures.follows
 
 pub returns-in-Ok-Answer-clause-answered : goal.returns-in-Ok-Answer-clause-answered
 returns-in-Ok-Answer-clause-answered g c =
     let w = rw c.in-Ok-Answer.field-0-is at c.in-Ok-Answer.ensures.value in
-    let differs = c.in-Ok-Answer.status-test in
-    let other : (c.in-Ok-Answer.status == 400) ≡ false = grind (arith, nat_tests) in
     let sent = rw c.as_slice-in-Ok-Answer.ensures.value at c.answer_fixed-in-Ok-Answer.ensures.sent in
     answered_fixed _ c.args.front.now c.answer_fixed-in-Ok-Answer.result c.finish-in-Ok-Answer.result c.args.request.now c.args.last (answer c.in-Ok-Answer.status c.in-Ok-Answer.body c.closes-close.result) (ended_by c.closes-close.result) _ _ _
-    (exchange_fixed c.args.front.now c.args.request.now c.args.last c.closes-close.result c.in-Ok-Answer.status c.in-Ok-Answer.body c.closes-close.ensures.value w other)
+    (exchange_fixed c.args.front.now c.args.request.now c.args.last c.closes-close.result c.in-Ok-Answer.status c.in-Ok-Answer.body c.closes-close.ensures.value w)
     (λ k. refl) (λ k. refl) (omega arith) sent c.finish-in-Ok-Answer.ensures.follows
 
 pub returns-in-Ok-Ask-clause-answered : goal.returns-in-Ok-Ask-clause-answered

@@ -23,7 +23,7 @@ returns-in-Cut-clause-ends g c = λ limit some is_last.
 
 pub returns-in-Bad-clause-ends : goal.returns-in-Bad-clause-ends
 returns-in-Bad-clause-ends g c = λ limit some is_last.
-    serves_refused _ c.args.front.now c.refuse.result limit _ _ c.in-Bad.status _ _ _ c.in-Bad.ensures.taken c.in-Bad.ensures.later (λ k. refl) (λ k. refl) (omega arith) c.refuse.ensures.refused
+    serves_refused _ c.args.front.now c.refuse.result limit _ _ c.in-Bad.fault _ _ _ c.in-Bad.ensures.taken c.in-Bad.ensures.later (λ k. refl) (λ k. refl) (omega arith) c.refuse.ensures.refused
 
 pub returns-in-ReadFault-clause-ends : goal.returns-in-ReadFault-clause-ends
 returns-in-ReadFault-clause-ends g c = λ limit some is_last.
