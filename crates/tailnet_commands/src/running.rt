@@ -57,6 +57,7 @@ fn run_behind<I: Source, O: Sink, P: Opener, C: Clock, N: Entropy>(
     };
     match Desk::open(alloc, settings, keeper, moment) {
         Ok(mut desk) => {
+            // Its tables keep their rules, as those of each open desk do.
             let _rules = desk.tables();
             let closed = talk(
                 alloc, front, requests, seed, &mut desk, input, output, clock, entropy,
