@@ -1,0 +1,6 @@
+mod Every
+mod Growth
+mod Hiding
+mod MachinePuts
+mod OperatorPuts
+mod Puts

@@ -1,0 +1,32 @@
+//! Who is in a map.
+ghost use Rattle.std.specs.Prelude.{◌≡◌, ℕ, List, Option, Ok, Err};
+ghost use Rattle.net_rows.specs.Sound.{AreSound};
+ghost use Rattle.net_rows.specs.declared.machine.Machine.{Machine};
+ghost use Rattle.tailcfg.specs.declared.response.Response.{Response};
+ghost use Rattle.tailcfg.specs.declared.update.Update as update;
+ghost use Rattle.desk_state.specs.State.{State};
+ghost use Rattle.desk_state.specs.declared.decision.Decision.{Decision};
+ghost use Rattle.desk_state.specs.declared.refusal.Refusal.TheVariants.{NotLive};
+ghost use Rattle.machine_asks.specs.Decision.{decision};
+ghost use Rattle.machine_asks.specs.declared.answer.MachineAnswer.{MachineAnswer};
+ghost use Rattle.machine_asks.specs.declared.answer.MachineAnswer.TheVariants.{Map};
+ghost use Rattle.machine_asks.specs.declared.ask.MachineAsk.{MachineAsk};
+ghost use Rattle.machine_asks.specs.declared.ask.MachineAsk.TheVariants.{OneMap, Update};
+ghost use Rattle.tailnet_laws.specs.Shown.{Hides, IsExpired};
+
+/// A machine whose node key has expired is in no map that a machine is answered.
+pub fn expired_machines_are_in_no_map()
+    ensures hides { (s : State) (m : Machine) (x : MachineAsk) (words : Option (List ℕ))
+        (d : Decision MachineAnswer) (map : Response) → AreSound s.rows → IsExpired s m
+        → decision s x words ≡ Ok d → d.answer ≡ Map map → Hides map m.id }
+{}
+
+/// And it is told that it isn't live, when it asks for its map or tells of itself.
+pub fn expired_machines_get_no_map()
+    ensures map { (s : State) (m : Machine) (told : Option update.Update)
+        (words : Option (List ℕ)) → AreSound s.rows → IsExpired s m
+        → decision s (OneMap m.machine m.node told) words ≡ Err NotLive }
+    ensures update { (s : State) (m : Machine) (told : update.Update)
+        (words : Option (List ℕ)) → AreSound s.rows → IsExpired s m
+        → decision s (Update m.machine m.node told) words ≡ Err NotLive }
+{}
