@@ -108,6 +108,9 @@ none_live s m sound h a inside live e =
     let clash : true ≡ false = sym live ∙ ap (is_live s) same ∙ not_live s m h.past in
     absurd (cc)
 
+pub no_peer : (s : State) (m v : Machine) (p : NodeRow) → AreSound s.rows → IsExpired s m → Contains (fresh s.settings s.rows (live_ids s) v).peers p → p.id ≢ m.id
+no_peer s m v p sound h inside e = let live = peer_live s v p inside in none_live s m sound h live.0 live.1 live.2 (sym live.3 ∙ e)
+
 -- the machine that asks has a row, and is live
 pub asking_live : (s : State) (mk : MachineKey) (node : NodeKey) → Every (λ (v : Machine). Contains s.rows.machines v × (is_live s v ≡ true)) (asking s mk node)
 asking_live s mk node =

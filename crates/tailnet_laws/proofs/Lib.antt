@@ -1,6 +1,11 @@
+mod Entered
 mod Every
+mod GoneIds
 mod Growth
 mod Hiding
 mod MachinePuts
 mod OperatorPuts
 mod Puts
+mod SpentKeys
+mod Steps
+mod Taken

@@ -2,6 +2,14 @@
 //! anything: each states a law.
 #![tactic(auto)]
 
+mod entrances;
+mod ids;
+mod keys;
 mod maps;
 
-pub use maps::{expired_machines_are_in_no_map, expired_machines_get_no_map};
+pub use entrances::machines_enter_by_key_or_admission;
+pub use ids::gone_ids_stay_gone;
+pub use keys::{registrations_take_keys, single_use_keys_admit_once, used_keys_are_refused};
+pub use maps::{
+    expired_machines_are_in_no_map, expired_machines_are_no_peers, expired_machines_get_no_map,
+};

@@ -1,0 +1,5 @@
+use Rattle.tailnet_laws.proofs.SpentKeys.{used_key_refused}
+use Rattle.tailnet_laws.proofs.keys.used_keys_are_refused.Goals as goal
+
+pub returns : goal.returns
+returns c = record { refused = used_key_refused }
