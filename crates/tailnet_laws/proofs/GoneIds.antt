@@ -1,5 +1,5 @@
 -- An id that is gone is no row's again.
-use Rattle.std.proofs.Common.{◌≡◌, ◌<◌, ℕ, List, inl, inr, sym, ◌∙◌, arith}
+use Rattle.std.proofs.Common.{◌<◌, ℕ, List, inl, inr, sym, ◌∙◌, arith}
 use Rattle.tail_base.specs.declared.key.MachineKey.{MachineKey}
 use Rattle.settings.specs.Settings.{AreSettings}
 use Rattle.net_rows.specs.Shelf.{HasRow}

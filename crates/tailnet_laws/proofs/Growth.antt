@@ -1,9 +1,8 @@
 -- What tables have after a change: what they had, and what it puts.
-use Rattle.std.proofs.Common.{◌≡◌, ◌≢◌, ◌⊎◌, ◌<◌, ◌≤◌, inl, inr, ℕ, List, [], ◌∷◌, Option, Some, None, refl, sym, ap, ◌∙◌, subst, arith}
+use Rattle.std.proofs.Common.{◌≡◌, ◌⊎◌, inl, inr, List, [], ◌∷◌, Option, Some, None, refl, sym, ap, subst}
 use Rattle.std.specs.Prelude.{Contains}
 use Rattle.tail_base.specs.declared.key.MachineKey.{MachineKey}
 use Rattle.net_rows.specs.Rows.{after, put, put_all, take_all_out, take_out}
-use Rattle.net_rows.specs.Shelf.{HasRow}
 use Rattle.net_rows.specs.declared.change.Change.{Change}
 use Rattle.net_rows.specs.declared.change.Row.{Row}
 use Rattle.net_rows.specs.declared.change.Row.TheVariants as row

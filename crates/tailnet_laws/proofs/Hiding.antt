@@ -5,9 +5,8 @@ use Rattle.std.specs.Str.{bytes_eq}
 use Rattle.std.proofs.lemmas.Bool.{and_parts, cases_Bool, not-false}
 use Rattle.tail_base.specs.declared.key.MachineKey.{MachineKey}
 use Rattle.tail_base.specs.declared.key.NodeKey.{NodeKey}
-use Rattle.tail_base.specs.Steps.{◌>>=◌, or_fault, refuse_if}
+use Rattle.tail_base.specs.Steps.{◌>>=◌}
 use Rattle.tail_base.proofs.Bools.{bytes_eq-from}
-use Rattle.tail_base.proofs.StepLemmas.{bind_parts}
 use Rattle.net_rows.specs.Rows.{machine_of, pending_of}
 use Rattle.net_rows.specs.declared.key.AuthKey.{AuthKey}
 use Rattle.net_rows.specs.declared.pending.Pending.{Pending}

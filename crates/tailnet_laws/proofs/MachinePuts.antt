@@ -1,14 +1,11 @@
 -- Which rows machines' asks put, and a seed.
-use Rattle.std.proofs.Common.{◌≡◌, ◌<◌, ℕ, Bool, true, false, not, ◌&&◌, List, Option, Some, None, Result, Ok, inl, inr, refl, sym, ap, nat_lt, length, arith, if◌then◌else◌}
+use Rattle.std.proofs.Common.{◌≡◌, ◌<◌, ℕ, Bool, true, false, not, ◌&&◌, List, Option, Some, None, Ok, inl, inr, refl, nat_lt, length, if◌then◌else◌}
 use Rattle.std.specs.Prelude.{Contains}
 use Rattle.std.specs.Str.{bytes_eq}
 use Rattle.std.proofs.lemmas.Bool.{ltb-true}
 use Rattle.tail_base.specs.declared.key.MachineKey.{MachineKey}
-use Rattle.tail_base.specs.declared.key.NodeKey.{NodeKey}
-use Rattle.tail_base.specs.Steps.{or_fault, refuse_if}
 use Rattle.net_rows.specs.Room.{has_room}
 use Rattle.net_rows.specs.Rows.{key_of, machine_of, pending_of}
-use Rattle.net_rows.specs.declared.change.Change.{Change}
 use Rattle.net_rows.specs.declared.change.Kind.TheVariants as kind
 use Rattle.net_rows.specs.declared.key.AuthKey.{AuthKey}
 use Rattle.net_rows.specs.declared.machine.Machine.{Machine}
@@ -30,10 +27,10 @@ use Rattle.machine_asks.specs.Asking.{asking}
 use Rattle.machine_asks.specs.ByKey.{admitted_by_key, by_key, changes_nothing, entrant_of_key, usable_key}
 use Rattle.machine_asks.specs.Decision.{decision}
 use Rattle.machine_asks.specs.Logout.{expired_row, is_logout, logout, logout_again, logout_now, machine_removed, node_key_replaced, rotates}
-use Rattle.machine_asks.specs.OneMap.{after_change, map_decision, map_for, one_map}
+use Rattle.machine_asks.specs.OneMap.{after_change, map_decision, map_for}
 use Rattle.machine_asks.specs.Register.{register, registered_again, repeats}
 use Rattle.machine_asks.specs.Seed.{is_past_seed, seed, seed_change}
-use Rattle.machine_asks.specs.Update.{told_row, update, updated}
+use Rattle.machine_asks.specs.Update.{told_row, updated}
 use Rattle.machine_asks.specs.Waiting.{entry_change, has_place, new_entry, wait_anew, wait_as, waiting_entered, waits, waits_on}
 use Rattle.machine_asks.specs.declared.answer.MachineAnswer.{MachineAnswer}
 use Rattle.machine_asks.specs.declared.answer.MachineAnswer.TheVariants.{Updated}

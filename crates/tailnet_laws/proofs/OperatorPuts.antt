@@ -1,5 +1,5 @@
 -- Which rows operators' asks put.
-use Rattle.std.proofs.Common.{◌≡◌, ℕ, ℤ, Bool, not, List, Option, Some, None, Result, Ok, inl, inr, refl, unwrap_or, ◌+◌, ◌==◌, length, if◌then◌else◌}
+use Rattle.std.proofs.Common.{◌≡◌, ℕ, ℤ, Bool, not, List, Option, Some, None, inl, inr, refl, unwrap_or, ◌+◌, ◌==◌, length, if◌then◌else◌}
 use Rattle.std.specs.Cmp.Lexicographic.{pointwise, slice_cmp}
 use Rattle.std.specs.Ordering.{nat_cmp}
 use Rattle.std.specs.Prelude.{Contains}
@@ -38,8 +38,8 @@ use Rattle.admin_asks.specs.declared.operator_answer.OperatorAnswer.TheVariants 
 use Rattle.admin_asks.specs.declared.operator_ask.OperatorAsk.{OperatorAsk}
 use Rattle.admin_asks.specs.declared.operator_ask.OperatorAsk.TheVariants as ask
 use Rattle.tailnet_laws.specs.Entering.{IsAdmission, IsEntryOf}
-use Rattle.tailnet_laws.proofs.Every.{Every, either_of, every_bind, every_err, every_if, every_ok, every_or, every_refuse}
-use Rattle.tailnet_laws.proofs.Puts.{ArePut, IsKeyPut, Puts, placed_put, puts_none, puts_some}
+use Rattle.tailnet_laws.proofs.Every.{Every, either_of, every_bind, every_ok, every_or, every_refuse}
+use Rattle.tailnet_laws.proofs.Puts.{IsKeyPut, Puts, placed_put, puts_none, puts_some}
 
 module _ (s : State) (x : OperatorAsk) where
   abbrev Operates : Decision OperatorAnswer → Type 0

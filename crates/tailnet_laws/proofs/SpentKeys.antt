@@ -1,19 +1,15 @@
 -- A single-use key admits one machine.
-use Rattle.std.proofs.Common.{◌≡◌, ◌++◌, ◌<◌, ◌≤◌, ◌⊎◌, ℕ, ℤ, Bool, true, false, not, ◌&&◌, List, [], ◌∷◌, Option, Some, None, Result, Ok, Err, inl, inr, refl, sym, ap, ◌∙◌, subst, arith}
+use Rattle.std.proofs.Common.{◌≡◌, ◌++◌, ◌<◌, ◌≤◌, ◌⊎◌, ℕ, Bool, true, false, not, ◌&&◌, List, [], ◌∷◌, Option, Some, None, Result, Ok, Err, inl, inr, refl, sym, ap, ◌∙◌, subst, arith}
 use Rattle.std.specs.Prelude.{Contains}
 use Rattle.std.specs.Str.{bytes_eq}
-use Rattle.tail_base.specs.declared.key.MachineKey.{MachineKey}
-use Rattle.tail_base.specs.Steps.{◌>>=◌, or_fault, refuse_if}
+use Rattle.tail_base.specs.Steps.{◌>>=◌, refuse_if}
 use Rattle.tail_base.proofs.Bools.{bytes_eq-from, bytes_eq-true}
-use Rattle.std.proofs.lemmas.Bool.{cases_Bool}
 use Rattle.settings.specs.Settings.{AreSettings}
 use Rattle.net_rows.specs.Rows.{after, key_of, take_all_out}
 use Rattle.net_rows.specs.Shelf.{row_at}
 use Rattle.net_rows.specs.Sound.{AreSound}
 use Rattle.net_rows.specs.declared.change.Change.{Change}
 use Rattle.net_rows.specs.declared.key.AuthKey.{AuthKey}
-use Rattle.net_rows.specs.declared.machine.Machine.{Machine}
-use Rattle.net_rows.specs.declared.pending.Pending.{Pending}
 use Rattle.net_rows.specs.declared.rows.Rows.{Rows}
 use Rattle.net_rows.proofs.Members.{find_member, find_none}
 use Rattle.net_rows.proofs.PutLemmas.{put_there}
@@ -23,7 +19,7 @@ use Rattle.desk_state.specs.Decisions.{answered, rows_after}
 use Rattle.desk_state.specs.State.{State, at_moment, is_ahead}
 use Rattle.desk_state.specs.declared.decision.Decision.{Decision}
 use Rattle.desk_state.specs.declared.refusal.Refusal.{Refusal}
-use Rattle.desk_state.specs.declared.refusal.Refusal.TheVariants.{KeyExpired, KeyUnknown, KeyUsed}
+use Rattle.desk_state.specs.declared.refusal.Refusal.TheVariants.{KeyExpired, KeyUsed}
 use Rattle.machine_rows.specs.Rows.{row_change}
 use Rattle.machine_asks.specs.ByKey.{usable_key}
 use Rattle.machine_asks.specs.Decision as machine
@@ -32,7 +28,6 @@ use Rattle.machine_asks.specs.declared.ask.MachineAsk.{MachineAsk}
 use Rattle.tailnet_desk.specs.Asks.{IsShortEvent}
 use Rattle.tailnet_desk.specs.History.{Legal, replay, state_after}
 use Rattle.tailnet_desk.specs.Step.{outcome}
-use Rattle.tailnet_desk.specs.declared.ask.Ask.{Ask}
 use Rattle.tailnet_desk.specs.declared.ask.Ask.TheVariants as ask
 use Rattle.tailnet_desk.specs.declared.entry.Entry.{Entry}
 use Rattle.tailnet_desk.specs.declared.entry.Event.{Event}
