@@ -6,6 +6,7 @@ import re
 
 FIRST_MOMENT = -62135596800  # 0001-01-01T00:00:00Z, which as a time is as absent
 LAST_MOMENT = 253402300799  # 9999-12-31T23:59:59Z
+SECONDS_OF_400_YEARS = 146097 * 86400
 ZERO_KEY = "0" * 64
 
 DATE_TIME = re.compile(
@@ -27,11 +28,13 @@ def moment_of(text):
     sign, offset_hours, offset_minutes = match.groups()[6:]
     if sign and (int(offset_hours) > 23 or int(offset_minutes) > 59):
         return None
+    # (by its offset a time of the year 0 may lie in the year 1; the calendar repeats after 400 years)
+    cycles = 1 if year == 0 else 0
     try:
-        local = datetime.datetime(year, month, day, hour, minute, second)
+        local = datetime.datetime(year + 400 * cycles, month, day, hour, minute, second)
     except ValueError:
         return None
-    moment = FIRST_MOMENT + round((local - FIRST_DAY).total_seconds())
+    moment = FIRST_MOMENT + round((local - FIRST_DAY).total_seconds()) - cycles * SECONDS_OF_400_YEARS
     if sign:
         offset = int(offset_hours) * 3600 + int(offset_minutes) * 60
         moment += -offset if sign == "+" else offset

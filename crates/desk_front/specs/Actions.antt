@@ -17,14 +17,20 @@ if_method method name a = if bytes_eq method name then Some a else None
 abbrev pub action_of : Route → List ℕ → Option Action
 action_of route.Register method = if_method method (codes "POST") (Machine machine.Register)
 action_of route.Map method = if_method method (codes "POST") (Machine machine.Map)
-action_of route.Users method = option_or (if_method method (codes "GET") (Operator operator.Users)) (if_method method (codes "POST") (Operator operator.AddUser))
+action_of route.Users method =
+    option_or (if_method method (codes "GET") (Operator operator.Users))
+    (if_method method (codes "POST") (Operator operator.AddUser))
 action_of route.User method = if_method method (codes "DELETE") (Operator operator.DropUser)
-action_of route.Keys method = option_or (if_method method (codes "GET") (Operator operator.Keys)) (if_method method (codes "POST") (Operator operator.AddKey))
+action_of route.Keys method =
+    option_or (if_method method (codes "GET") (Operator operator.Keys))
+    (if_method method (codes "POST") (Operator operator.AddKey))
 action_of route.Key method = if_method method (codes "DELETE") (Operator operator.ExpireKey)
 action_of route.Nodes method = if_method method (codes "GET") (Operator operator.Nodes)
 action_of route.Node method = if_method method (codes "DELETE") (Operator operator.DropNode)
 action_of route.NodeExpire method = if_method method (codes "POST") (Operator operator.ExpireNode)
 action_of route.NodeRename method = if_method method (codes "POST") (Operator operator.Rename)
 action_of route.NodeTags method = if_method method (codes "POST") (Operator operator.SetTags)
-action_of route.Waiting method = option_or (if_method method (codes "GET") (Operator operator.Waiting)) (if_method method (codes "POST") (Operator operator.Admit))
+action_of route.Waiting method =
+    option_or (if_method method (codes "GET") (Operator operator.Waiting))
+    (if_method method (codes "POST") (Operator operator.Admit))
 action_of route.Sweep method = if_method method (codes "POST") (Operator operator.Sweep)

@@ -13,17 +13,20 @@ use Rattle.desk_front.specs.declared.action.OperatorAction.TheVariants as action
 use Rattle.desk_front.specs.declared.want.Wanted.{Wanted}
 use Rattle.desk_front.specs.declared.want.Wanted.TheVariants as wants
 
--- the value of the first `Authorization` line is `Bearer`, a space and the token (RFC 6750, section 2.1)
+-- the value of the first `Authorization` line is `Bearer`, a space and the token (RFC 6750,
+-- section 2.1)
 abbrev pub is_authorized : List ℕ → Option (List ℕ) → Bool
 is_authorized token None = false
-is_authorized token (Some given) = bytes_eq (take 7 given) (codes "Bearer ") && bytes_eq (drop 7 given) token
+is_authorized token (Some given) =
+    bytes_eq (take 7 given) (codes "Bearer ") && bytes_eq (drop 7 given) token
 
 -- an operator's ask
 abbrev pub operator_ask : OperatorAsk → Wanted
 operator_ask x = wants.Ask (Operator x)
 
 abbrev pub add_user_wants : List ℕ → Wanted
-add_user_wants body = unless_faulty (λ name. operator_ask (ask.AddUser name)) (user_form_of_body body)
+add_user_wants body =
+    unless_faulty (λ name. operator_ask (ask.AddUser name)) (user_form_of_body body)
 
 abbrev pub drop_user : Option (List ℕ) → Wanted
 drop_user (Some login) = operator_ask (ask.DropUser login)
@@ -37,16 +40,21 @@ abbrev pub add_key_wants : List ℕ → Wanted
 add_key_wants body = unless_faulty (λ form. operator_ask (ask.AddKey form)) (key_form_of_body body)
 
 abbrev pub expire_node_wants : ℕ → List ℕ → Wanted
-expire_node_wants id body = unless_faulty (λ expiry. operator_ask (ask.ExpireNode id expiry)) (expiry_form_of_body body)
+expire_node_wants id body =
+    unless_faulty (λ expiry. operator_ask (ask.ExpireNode id expiry)) (expiry_form_of_body body)
 
 abbrev pub rename_wants : ℕ → List ℕ → Wanted
-rename_wants id body = unless_faulty (λ name. operator_ask (ask.Rename id name)) (rename_form_of_body body)
+rename_wants id body =
+    unless_faulty (λ name. operator_ask (ask.Rename id name)) (rename_form_of_body body)
 
 abbrev pub set_tags_wants : ℕ → List ℕ → Wanted
-set_tags_wants id body = unless_faulty (λ tags. operator_ask (ask.SetTags id tags)) (tags_form_of_body body)
+set_tags_wants id body =
+    unless_faulty (λ tags. operator_ask (ask.SetTags id tags)) (tags_form_of_body body)
 
 abbrev pub admit_wants : List ℕ → Wanted
-admit_wants body = unless_faulty (λ (form : AdmitForm). operator_ask (ask.Admit form.pending form.login)) (admit_form_of_body body)
+admit_wants body =
+    unless_faulty (λ (form : AdmitForm). operator_ask (ask.Admit form.pending form.login))
+    (admit_form_of_body body)
 
 abbrev pub sweep_wants : List ℕ → Wanted
 sweep_wants body = unless_faulty (λ _. operator_ask ask.Sweep) (empty_form_of_body body)

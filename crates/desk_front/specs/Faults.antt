@@ -18,14 +18,14 @@ field_body name at = codes "{\"error\":\"" ++ name ++ codes "\",\"field\":\"" ++
 abbrev pub fault_answer : ℕ → List ℕ → Wanted
 fault_answer status name = wants.Answer status (error_body name)
 
--- the fixed answer that names a fault and its field
+-- a field's fault
 abbrev pub field_answer : List ℕ → List ℕ → Wanted
-field_answer name at = wants.Answer 400 (field_body name at)
+field_answer name at = wants.Fault (field_body name at)
 
 -- a fault of the body; out of memory is none
 abbrev pub body_answer : WireFault → Wanted
-body_answer fault.NotJson = fault_answer 400 (codes "NotJson")
-body_answer fault.Compressed = fault_answer 400 (codes "Compressed")
+body_answer fault.NotJson = wants.Fault (error_body (codes "NotJson"))
+body_answer fault.Compressed = wants.Fault (error_body (codes "Compressed"))
 body_answer (fault.Missing f) = field_answer (codes "Missing") (field_name f)
 body_answer (fault.BadField f) = field_answer (codes "BadField") (field_name f)
 body_answer fault.NoMemory = fault_answer 503 (codes "NoMemory")

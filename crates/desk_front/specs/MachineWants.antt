@@ -21,7 +21,9 @@ use Rattle.desk_front.specs.declared.want.Wanted.TheVariants as wants
 
 -- the machine key of a text that isn't zero
 abbrev pub unless_zero : List ℕ → HeaderKey
-unless_zero key = if bytes_eq key (replicate 32 0) then header.Unreadable else header.Key (record { 0 = key })
+unless_zero key =
+    if bytes_eq key (replicate 32 0) then header.Unreadable
+    else header.Key (record { 0 = key })
 
 abbrev pub read_key : Option (List ℕ) → HeaderKey
 read_key None = header.Unreadable
@@ -38,10 +40,11 @@ machine_ask x = wants.Ask (Machine x)
 
 -- a registration of the machine, or the first fault of its body
 abbrev pub register_wants : MachineKey → List ℕ → Wanted
-register_wants machine body = unless_faulty (λ form. machine_ask (ask.Register machine form)) (register_of_body body)
+register_wants machine body =
+    unless_faulty (λ form. machine_ask (ask.Register machine form)) (register_of_body body)
 
--- Polls aren't served yet. A request that omits the peers and isn't read-only is an update alone; any other is answered
--- with the map, and is an update too unless it is read-only.
+-- Polls aren't served yet. A request that omits the peers and isn't read-only is an update alone;
+-- any other is answered with the map, and is an update too unless it is read-only.
 abbrev pub map_wants : MachineKey → MapAsk → Wanted
 map_wants machine m =
     if m.stream then body_answer (fault.BadField field.Stream)

@@ -48,8 +48,10 @@ refusal_body KeyUsed = error_body (codes "KeyUsed")
 refusal_body TagUndefined = error_body (codes "TagUndefined")
 refusal_body NodeKeyTaken = error_body (codes "NodeKeyTaken")
 refusal_body NotLive = error_body (codes "NotLive")
-refusal_body (Full kind) = codes "{\"error\":\"Full\",\"what\":\"" ++ scarce_name kind ++ codes "\"}"
-refusal_body (AddressesSpent family) = codes "{\"error\":\"AddressesSpent\",\"family\":" ++ decimal family ++ codes "}"
+refusal_body (Full kind) =
+    codes "{\"error\":\"Full\",\"what\":\"" ++ scarce_name kind ++ codes "\"}"
+refusal_body (AddressesSpent family) =
+    codes "{\"error\":\"AddressesSpent\",\"family\":" ++ decimal family ++ codes "}"
 refusal_body UserHasMachines = error_body (codes "UserHasMachines")
 refusal_body PendingUnknown = error_body (codes "PendingUnknown")
 refusal_body EntropyFault = error_body (codes "EntropyFault")

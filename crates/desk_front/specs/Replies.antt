@@ -27,4 +27,5 @@ reply_body url (Lost loss) = loss_body loss
 
 -- the bytes of a reply to an ask, after which the connection ends or goes on
 unfoldable pub reply_bytes : FrontSettings → Ask → Reply → Bool → List ℕ
-reply_bytes settings ask reply close = answer (reply_status (is_machine_ask ask) reply) (reply_body settings.server_url reply) close
+reply_bytes settings ask reply close =
+    answer (reply_status (is_machine_ask ask) reply) (reply_body settings.server_url reply) close

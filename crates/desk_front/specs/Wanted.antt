@@ -1,4 +1,5 @@
--- What a request wants: the path first, then the method, then the machine's key or the operator's token, then the body.
+-- What a request wants: the path first, then the method, then the machine's key or the operator's
+-- token, then the body.
 use Rattle.std.specs.Prelude.{Option, None, Some, codes, if◌then◌else◌}
 use Rattle.http_front.specs.declared.request.Request.{Request}
 use Rattle.settings.specs.declared.fields.SettingsFields.{SettingsFields}
@@ -21,7 +22,8 @@ front_settings settings = record { token = settings.token; server_url = settings
 -- an operator has to give the token
 abbrev pub operator_wants : FrontSettings → Request → Found → OperatorAction → Wanted
 operator_wants settings r found a =
-    if is_authorized settings.token r.token then admin_wants a found.id (owner_in r.path found) r.body
+    if is_authorized settings.token r.token then
+    admin_wants a found.id (owner_in r.path found) r.body
     else fault_answer 401 (codes "BadToken")
 
 -- who asks: a machine with its key, or an operator

@@ -12,6 +12,7 @@ use admin_wire::{
     AdmitForm, read_admit_form, read_empty_form, read_expiry_form, read_key_form, read_rename_form,
     read_tags_form, read_user_form,
 };
+use http::StatusCode;
 use path_routes::text_of;
 use std::alloc::Global;
 use tail_base::{Bytes, NoMemory, Text};
@@ -56,7 +57,7 @@ fn drop_user_wants(alloc: Global, owner: &[u8]) -> Result<Wanted, NoMemory>
         Some(login) => Ok(operator_ask(OperatorAsk::DropUser {
             login: Text::from_str(alloc, login)?,
         })),
-        None => fault_answer(alloc, 404, "NoPath"),
+        None => fault_answer(alloc, StatusCode::NOT_FOUND, "NoPath"),
     }
 }
 

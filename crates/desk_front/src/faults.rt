@@ -1,11 +1,12 @@
 //! Fixed answers.
 ghost use Rattle.std.specs.Prelude.{◌≡◌, IfOk, IsErr};
-ghost use Rattle.http.specs.StatusCode.{IsStatusCode};
 ghost use Rattle.wire_json.specs.declared.fault.WireFault.TheVariants as faults;
 ghost use Rattle.desk_front.specs.Faults as spec;
 ghost use Rattle.desk_front.specs.Wants.{IsSound};
+ghost use Rattle.desk_front.specs.declared.want.Wanted.TheVariants as wants;
 
 use crate::want::Wanted;
+use http::StatusCode;
 use std::alloc::Global;
 use tail_base::{NoMemory, Text};
 use wire_json::WireFault;
@@ -33,8 +34,11 @@ fn field_body(alloc: Global, name: &str, field: &str) -> Result<Text, NoMemory>
 }
 
 /// The answer that names a fault.
-pub(crate) fn fault_answer(alloc: Global, status: u16, name: &str) -> Result<Wanted, NoMemory>
-    requires status { IsStatusCode status }
+pub(crate) fn fault_answer(
+    alloc: Global,
+    status: StatusCode,
+    name: &str,
+) -> Result<Wanted, NoMemory>
     ensures value { IfOk result (λ w. w ≡ spec.fault_answer status name.now) }
     ensures sound { IfOk result IsSound }
 {
@@ -44,14 +48,23 @@ pub(crate) fn fault_answer(alloc: Global, status: u16, name: &str) -> Result<Wan
     })
 }
 
-/// The answer that names a fault and its field.
+/// A field's fault.
 pub(crate) fn field_answer(alloc: Global, name: &str, field: &str) -> Result<Wanted, NoMemory>
     ensures value { IfOk result (λ w. w ≡ spec.field_answer name.now field.now) }
     ensures sound { IfOk result IsSound }
 {
-    Ok(Wanted::Answer {
-        status: 400,
+    Ok(Wanted::Fault {
         body: field_body(alloc, name, field)?,
+    })
+}
+
+/// A fault that has no field.
+fn named_fault(alloc: Global, name: &str) -> Result<Wanted, NoMemory>
+    ensures value { IfOk result (λ w. w ≡ wants.Fault (spec.error_body name.now)) }
+    ensures sound { IfOk result IsSound }
+{
+    Ok(Wanted::Fault {
+        body: error_body(alloc, name)?,
     })
 }
 
@@ -62,8 +75,8 @@ pub(crate) fn body_answer(alloc: Global, fault: WireFault) -> Result<Wanted, NoM
     ensures sound { IfOk result IsSound }
 {
     match fault {
-        WireFault::NotJson => fault_answer(alloc, 400, "NotJson"),
-        WireFault::Compressed => fault_answer(alloc, 400, "Compressed"),
+        WireFault::NotJson => named_fault(alloc, "NotJson"),
+        WireFault::Compressed => named_fault(alloc, "Compressed"),
         WireFault::Missing(field) => field_answer(alloc, "Missing", field.name()),
         WireFault::BadField(field) => field_answer(alloc, "BadField", field.name()),
         WireFault::NoMemory => Err(NoMemory),

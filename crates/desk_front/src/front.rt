@@ -11,6 +11,7 @@ use crate::front_settings::FrontSettings;
 use crate::machine::{header_key, machine_wants};
 use crate::replies::reply_answer;
 use crate::want::Wanted;
+use http::StatusCode;
 use http_front::Request;
 use path_routes::{Found, Paths, owner_in};
 use settings::Settings;
@@ -62,7 +63,7 @@ impl Front {
         ensures sound { IfOk result IsSound }
     {
         if !is_authorized(&self.settings.token, &request.token) {
-            return fault_answer(alloc, 401, "BadToken");
+            return fault_answer(alloc, StatusCode::UNAUTHORIZED, "BadToken");
         }
         let owner = owner_in(request.path.as_slice(), found);
         admin_wants(alloc, action, found.id, owner, request.body.as_slice())
@@ -90,26 +91,27 @@ impl Front {
 
     /// What a request wants of the desk, or its fixed answer.
     ///
-    /// The path comes first: one that isn't in the table is 404 `NoPath`. Then the method: another one
-    /// than the path's is 405 `BadMethod`. Then who asks: at a path of machines the key in the first
-    /// `Ts-Machine-Key` line, whose fault is 400; at a path of operators the token, without which the
-    /// answer is 401 `BadToken`. Then the body, whose first fault is 400.
+    /// The path comes first: one that isn't in the table is 404 `NoPath`. Then the method: another
+    /// one than the path's is 405 `BadMethod`. Then who asks: at a path of machines the key in the
+    /// first `Ts-Machine-Key` line, whose fault is 400; at a path of operators the token, without
+    /// which the answer is 401 `BadToken`. Then the body, whose first fault is 400.
     #[tactic(auto, unfolding(crate::specs::Wanted::wanted_of))]
     pub fn wanted(&self, alloc: Global, request: &Request) -> Result<Wanted, NoMemory>
         ensures value { IfOk result (λ w. w ≡ spec.wanted_of self.now request.now) }
-        // An ask is within the limits of rows, and the status of a fixed answer is one of HTTP's.
+        // An ask is within the limits of rows.
         ensures sound { IfOk result IsSound }
     {
         let Some(found) = self.paths.found(request.path.as_slice()) else {
-            return fault_answer(alloc, 404, "NoPath");
+            return fault_answer(alloc, StatusCode::NOT_FOUND, "NoPath");
         };
         match action_of(found.route, &request.method) {
             Some(action) => self.caller_wants(alloc, request, found, action),
-            None => fault_answer(alloc, 405, "BadMethod"),
+            None => fault_answer(alloc, StatusCode::METHOD_NOT_ALLOWED, "BadMethod"),
         }
     }
 
-    /// The bytes of the answer to a reply to an ask; `close` says whether the connection ends after it.
+    /// The bytes of the answer to a reply to an ask; `close` says whether the connection ends after
+    /// it.
     pub fn answer(
         &self,
         alloc: Global,

@@ -51,7 +51,8 @@ fn register_wants(alloc: Global, machine: MachineKey, body: &[u8]) -> Result<Wan
 }
 
 /// A poll isn't served yet. A request without a stream that omits the peers and isn't read-only is
-/// an update alone; any other is answered with the map, and is an update too unless it is read-only.
+/// an update alone; any other is answered with the map, and is an update too unless it is
+/// read-only.
 fn map_wants(alloc: Global, machine: MachineKey, asked: MapAsk) -> Result<Wanted, NoMemory>
     requires short { IsShortUpdate asked.update }
     ensures value { IfOk result (λ w. w ≡ spec.map_wants machine asked) }

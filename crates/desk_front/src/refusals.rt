@@ -1,11 +1,11 @@
 //! The answers to refusals, and to asks that were lost.
 ghost use Rattle.std.specs.Prelude.{◌≡◌, IfOk};
-ghost use Rattle.http.specs.StatusCode.{IsStatusCode};
 ghost use Rattle.desk_state.specs.declared.refusal.Refusal.{Refusal};
 ghost use Rattle.desk_front.specs.Refusals as spec;
 
 use crate::faults::error_body;
 use desk_state::{Refusal, Scarce};
+use http::StatusCode;
 use std::alloc::Global;
 use tail_base::{NoMemory, Text};
 use tailnet_desk::Loss;
@@ -64,44 +64,46 @@ pub(crate) fn refusal_body(alloc: Global, refusal: &Refusal) -> Result<Text, NoM
 }
 
 /// A machine that isn't known is unauthorized; an operator asks for what isn't there.
-fn missing_status(is_machine: bool) -> u16
+fn missing_status(is_machine: bool) -> StatusCode
     ensures value { result ≡ spec.missing_status is_machine }
 {
-    if is_machine { 401 } else { 404 }
+    if is_machine {
+        StatusCode::UNAUTHORIZED
+    } else {
+        StatusCode::NOT_FOUND
+    }
 }
 
 /// The status of a refusal, to a machine or to an operator.
-pub(crate) fn refusal_status(is_machine: bool, refusal: &Refusal) -> u16
+pub(crate) fn refusal_status(is_machine: bool, refusal: &Refusal) -> StatusCode
     ensures value { result ≡ spec.refusal_status is_machine refusal.now }
-    ensures status { IsStatusCode result }
 {
     match refusal {
         Refusal::UnknownMachine => missing_status(is_machine),
         Refusal::KeyUnknown => missing_status(is_machine),
-        Refusal::KeyExpired => 401,
-        Refusal::KeyUsed => 401,
-        Refusal::NotLive => 401,
-        Refusal::TagUndefined => 403,
-        Refusal::UnknownUser => 404,
-        Refusal::PendingUnknown => 404,
-        Refusal::NameTaken => 409,
-        Refusal::BadName => 409,
-        Refusal::NodeKeyTaken => 409,
-        Refusal::UserHasMachines => 409,
-        Refusal::EntropyFault => 500,
-        Refusal::Full(_) => 507,
-        Refusal::AddressesSpent { .. } => 507,
+        Refusal::KeyExpired => StatusCode::UNAUTHORIZED,
+        Refusal::KeyUsed => StatusCode::UNAUTHORIZED,
+        Refusal::NotLive => StatusCode::UNAUTHORIZED,
+        Refusal::TagUndefined => StatusCode::FORBIDDEN,
+        Refusal::UnknownUser => StatusCode::NOT_FOUND,
+        Refusal::PendingUnknown => StatusCode::NOT_FOUND,
+        Refusal::NameTaken => StatusCode::CONFLICT,
+        Refusal::BadName => StatusCode::CONFLICT,
+        Refusal::NodeKeyTaken => StatusCode::CONFLICT,
+        Refusal::UserHasMachines => StatusCode::CONFLICT,
+        Refusal::EntropyFault => StatusCode::INTERNAL_SERVER_ERROR,
+        Refusal::Full(_) => StatusCode::INSUFFICIENT_STORAGE,
+        Refusal::AddressesSpent { .. } => StatusCode::INSUFFICIENT_STORAGE,
     }
 }
 
 /// The status of a loss.
-pub(crate) fn loss_status(loss: Loss) -> u16
+pub(crate) fn loss_status(loss: Loss) -> StatusCode
     ensures value { result ≡ spec.loss_status loss }
-    ensures status { IsStatusCode result }
 {
     match loss {
-        Loss::NoMemory => 503,
-        Loss::KeeperFault => 500,
+        Loss::NoMemory => StatusCode::SERVICE_UNAVAILABLE,
+        Loss::KeeperFault => StatusCode::INTERNAL_SERVER_ERROR,
     }
 }
 

@@ -1,11 +1,11 @@
 //! The bytes of a reply.
 ghost use Rattle.std.specs.Prelude.{◌≡◌, IfOk};
-ghost use Rattle.http.specs.StatusCode.{IsStatusCode};
 ghost use Rattle.desk_front.specs.Replies.{is_machine_ask, reply_body, reply_bytes, reply_status};
 
 use crate::bodies::{answer_body, bytes_of};
 use crate::front_settings::FrontSettings;
 use crate::refusals::{loss_body, loss_status, refusal_body, refusal_status};
+use http::StatusCode;
 use http_front::plain_answer;
 use std::alloc::Global;
 use tail_base::{NoMemory, Text};
@@ -22,12 +22,11 @@ fn is_machine_ask(ask: &Ask) -> bool
     }
 }
 
-fn reply_status(is_machine: bool, reply: &Reply) -> u16
+fn reply_status(is_machine: bool, reply: &Reply) -> StatusCode
     ensures value { result ≡ reply_status is_machine reply.now }
-    ensures status { IsStatusCode result }
 {
     match reply {
-        Reply::Done(_) => 200,
+        Reply::Done(_) => StatusCode::OK,
         Reply::Refused(refusal) => refusal_status(is_machine, refusal),
         Reply::Lost(loss) => loss_status(*loss),
     }

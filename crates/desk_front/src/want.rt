@@ -1,4 +1,5 @@
 //! What requests want.
+use http::StatusCode;
 use tail_base::Text;
 use tailnet_desk::Ask;
 
@@ -6,5 +7,11 @@ use tailnet_desk::Ask;
 #[derive(Drop)]
 pub enum Wanted {
     Ask(Ask),
-    Answer { status: u16, body: Text },
+
+    /// It names no machine, or its body isn't what its path takes: it is answered 400 (RFC 9110,
+    /// section 15.5.1), and the connection ends.
+    Fault { body: Text },
+
+    /// It is answered with this status, and the connection goes on.
+    Answer { status: StatusCode, body: Text },
 }

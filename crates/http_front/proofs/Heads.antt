@@ -9,7 +9,7 @@ use Rattle.httparse.specs.declared.spans.HeaderSpan.{HeaderSpan}
 use Rattle.httparse.specs.declared.spans.RequestSpans.{RequestSpans}
 use Rattle.httparse.proofs.GrammarLemmas.{ReadsRequest-append}
 use Rattle.http_front.specs.Requests.{head_limit, HasHead, head_of}
-use Rattle.http_front.specs.Seen.{seen}
+use Rattle.http_front.specs.Looks.{spanned_head}
 
 -- a head in the front of the bytes is a head of the bytes
 pub has_head : (front behind : List ℕ) (headers : List HeaderSpan) (r : RequestSpans) (h : RequestHead)
@@ -23,8 +23,8 @@ has_head front behind headers r h within x short =
       fits = omega arith;
     }
 
-pub seen_is : (front : List ℕ) (headers : List HeaderSpan) (r : RequestSpans) (h : RequestHead) → IsRequestAt front headers r h → seen front headers r ≡ head_of h
-seen_is front headers r h x =
+pub spanned_head_is : (front : List ℕ) (headers : List HeaderSpan) (r : RequestSpans) (h : RequestHead) → IsRequestAt front headers r h → spanned_head front headers r ≡ head_of h
+spanned_head_is front headers r h x =
     let method = x.method in let path = x.path in let version = x.version in let fields = x.fields in cc
 
 pub never_none : (front : List ℕ) → NeverHasRequest front → HasNoRequest front

@@ -6,3 +6,4 @@ pub mod PathLemmas
 pub mod MethodLemmas
 pub mod Heads
 pub mod Looks
+pub mod Needs

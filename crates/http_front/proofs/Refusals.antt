@@ -9,6 +9,7 @@ use Rattle.std.proofs.lemmas.Bool.{cases_lt}
 use Rattle.std.proofs.lemmas.List.{take-append-le, take_all}
 use Rattle.std.proofs.lemmas.List.Elements.{All-from_recursion, recursion_from_All}
 use Rattle.httparse.specs.Grammar.{RequestHead, IsRequestHead, IsToken, AllPass, LineEnd, lf, IsField, print_blank, print_request, is_uri_byte, ReadsRequest, HasNoRequest, MayBecomeRequest}
+use Rattle.http_front.specs.declared.head_fault.HeadFault.{HeadFault}
 use Rattle.http_front.specs.declared.request.Request.{Request}
 use Rattle.http_front.specs.Requests.{head_limit, BeginsHead, IsNoHead, IsBad, bad, Splits}
 use Rattle.http_front.proofs.Streams.{HasHead-append, Leads-append}
@@ -95,8 +96,8 @@ no_head_in_front bytes more x = elim (cases_lt (length bytes) head_limit) [
   | inr long ↦ subst IsNoHead (sym (take-append-le head_limit bytes more long)) x
 ]
 
-pub IsBad-append : (bytes more : List ℕ) (status : ℕ) → IsBad bytes status → IsBad (bytes ++ more) status
-IsBad-append bytes more status x = elim x [
+pub IsBad-append : (bytes more : List ℕ) (fault : HeadFault) → IsBad bytes fault → IsBad (bytes ++ more) fault
+IsBad-append bytes more fault x = elim x [
   | inl w ↦ inl (record { head = w.head; rest = w.rest ++ more; has = HasHead-append bytes w.head w.rest more w.has; length_is = w.length_is })
   | inr z ↦ elim z [
     | inl w ↦
@@ -110,5 +111,5 @@ IsBad-append bytes more status x = elim x [
   ]
 ]
 
-pub Splits-append_bad : (bytes more : List ℕ) (requests : List Request) (status : ℕ) → Splits bytes requests (bad status) → Splits (bytes ++ more) requests (bad status)
-Splits-append_bad bytes more requests status x = (x.0 ++ more, Leads-append bytes requests x.0 more x.1, IsBad-append x.0 more status x.2)
+pub Splits-append_bad : (bytes more : List ℕ) (requests : List Request) (fault : HeadFault) → Splits bytes requests (bad fault) → Splits (bytes ++ more) requests (bad fault)
+Splits-append_bad bytes more requests fault x = (x.0 ++ more, Leads-append bytes requests x.0 more x.1, IsBad-append x.0 more fault x.2)

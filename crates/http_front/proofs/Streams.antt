@@ -4,6 +4,7 @@ use Rattle.std.proofs.Math.Seq.{take-append-add}
 use Rattle.std.proofs.lemmas.List.{take_all, length-take}
 use Rattle.httparse.specs.Grammar.{RequestHead, print_request, ReadsRequest, HasNoRequest, MayBecomeRequest}
 use Rattle.httparse.proofs.GrammarLemmas.{request_unique, ReadsRequest-append}
+use Rattle.http_front.specs.declared.head_fault.HeadFault.{HeadFault}
 use Rattle.http_front.specs.declared.request.Request.{Request}
 use Rattle.http_front.specs.Requests.{head_of, length_of, request_of, head_limit, HasHead, IsWhole, LacksBody, IsUnfinished, IsBad, Tail, at_end, cut, bad, IsTail, Leads, Splits}
 
@@ -54,7 +55,7 @@ HasHead-front bytes h rest x =
 begun_once : (bytes : List ℕ) (h : RequestHead) (rest : List ℕ) → HasHead bytes h rest → HasNoRequest (take head_limit bytes) → ⊥
 begun_once bytes h rest x none = let front = HasHead-front bytes h rest x in none h front.0 front.1
 
-same_length : (bytes : List ℕ) (h k : RequestHead) (r q : List ℕ) (a b : Result ℕ ℕ) → HasHead bytes h r → HasHead bytes k q → length_of (head_of h) ≡ a → length_of (head_of k) ≡ b → a ≡ b
+same_length : (bytes : List ℕ) (h k : RequestHead) (r q : List ℕ) (a b : Result ℕ HeadFault) → HasHead bytes h r → HasHead bytes k q → length_of (head_of h) ≡ a → length_of (head_of k) ≡ b → a ≡ b
 same_length bytes h k r q a b x y e f = sym e ∙ ap (λ h. length_of (head_of h)) (HasHead_unique bytes h k r q x y).0 ∙ f
 
 unbegun : (bytes : List ℕ) (h : RequestHead) (rest : List ℕ) → HasHead bytes h rest → HasNoRequest bytes → ⊥
@@ -72,7 +73,7 @@ whole_not_unfinished bytes a r x y = elim y [
       omega (arith, length-append a.body r)
 ]
 
-whole_not_bad : (bytes : List ℕ) (a : Request) (r : List ℕ) (n : ℕ) → IsWhole bytes a r → IsBad bytes n → ⊥
+whole_not_bad : (bytes : List ℕ) (a : Request) (r : List ℕ) (n : HeadFault) → IsWhole bytes a r → IsBad bytes n → ⊥
 whole_not_bad bytes a r n x y = elim y [
   | inl u ↦
       let same = same_length bytes x.head u.head (a.body ++ r) u.rest _ _ x.has u.has x.length_is u.length_is in
@@ -80,7 +81,7 @@ whole_not_bad bytes a r n x y = elim y [
   | inr v ↦ elim v [ inl u ↦ begun_once bytes x.head (a.body ++ r) x.has u.1.begins.none | inr u ↦ begun_once bytes x.head (a.body ++ r) x.has u.1.none ]
 ]
 
-unfinished_not_bad : (bytes : List ℕ) (n : ℕ) → IsUnfinished bytes → IsBad bytes n → ⊥
+unfinished_not_bad : (bytes : List ℕ) (n : HeadFault) → IsUnfinished bytes → IsBad bytes n → ⊥
 unfinished_not_bad bytes n x y = elim x [
   | inl w ↦ elim y [
     | inl u ↦ unbegun bytes u.head u.rest u.has w.1.none
@@ -95,7 +96,7 @@ unfinished_not_bad bytes n x y = elim x [
   ]
 ]
 
-bad_once : (bytes : List ℕ) (n m : ℕ) → IsBad bytes n → IsBad bytes m → n ≡ m
+bad_once : (bytes : List ℕ) (n m : HeadFault) → IsBad bytes n → IsBad bytes m → n ≡ m
 bad_once bytes n m x y = elim x [
   | inl w ↦ elim y [
     | inl u ↦ (let same = same_length bytes w.head u.head w.rest u.rest _ _ w.has u.has w.length_is u.length_is in cc)
@@ -124,7 +125,7 @@ has_some bytes h rest x =
 unfinished_lacks : (bytes : List ℕ) → LacksBody bytes → 0 < length bytes
 unfinished_lacks bytes x = has_some bytes x.head x.rest x.has
 
-bad_some : (bytes : List ℕ) (n : ℕ) → IsBad bytes n → 0 < length bytes
+bad_some : (bytes : List ℕ) (n : HeadFault) → IsBad bytes n → 0 < length bytes
 bad_some bytes n x = elim x [
   | inl w ↦ has_some bytes w.head w.rest w.has
   | inr z ↦ elim z [ inl w ↦ (let long = w.1.long in omega arith) | inr w ↦ (let some = w.1.some in omega (arith, length-take head_limit bytes)) ]

@@ -1,6 +1,7 @@
+pub mod HeadFaults
 pub mod Lines
 pub mod Requests
 pub mod Target
-pub mod Seen
+pub mod Looks
 pub mod Taking
 pub mod AnswerBytes

@@ -2,13 +2,15 @@
 use Rattle.std.specs.Prelude.{ℕ, List, [], ◌∷◌, length, Bool, true, false, ◌&&◌, nat_le, nat_lt, if◌then◌else◌, Option, Some, None, Result, Ok, Err}
 use Rattle.std.specs.Str.{str_eq_ignore_ascii_case, bytes_eq, all_ascii_digits}
 use Rattle.std.specs.Str.Parse.{digits_value}
+use Rattle.http_front.specs.declared.head_fault.HeadFault.{HeadFault}
+use Rattle.http_front.specs.declared.head_fault.HeadFault.TheVariants.{BadHead, NoLength, BodyTooLong}
 
 -- a name and a value
-abbrev pub Line : Type 0
-Line = List ℕ × List ℕ
+abbrev pub FieldLine : Type 0
+FieldLine = List ℕ × List ℕ
 
 -- the values of the lines of that name, in order
-abbrev pub values_of : List ℕ → List Line → List (List ℕ)
+abbrev pub values_of : List ℕ → List FieldLine → List (List ℕ)
 values_of name [] = []
 values_of name (l ∷ ls) = if str_eq_ignore_ascii_case l.0 name then l.1 ∷ values_of name ls else values_of name ls
 
@@ -39,16 +41,17 @@ is_length v = nat_lt 0 (length v) && (nat_le (length v) 10 && all_ascii_digits v
 abbrev pub length_value : List ℕ → Option ℕ
 length_value v = if is_length v then Some (digits_value 10 v) else None
 
--- that number where a body may be so long; 400 (Bad Request) where there is none, 413 (Content Too Large) where it is over the limit
-abbrev pub limited : Option ℕ → Result ℕ ℕ
-limited None = Err 400
-limited (Some n) = if nat_le n body_limit then Ok n else Err 413
+-- that number, if a body may be so long
+abbrev pub limited : Option ℕ → Result ℕ HeadFault
+limited None = Err BadHead
+limited (Some n) = if nat_le n body_limit then Ok n else Err BodyTooLong
 
--- the length that the first value states where all values are the same; without a value no body, or 411 (Length Required) where one is wanted
-abbrev pub agreed : Bool → Option (List ℕ) → List (List ℕ) → Result ℕ ℕ
-agreed wanted None vs = if wanted then Err 411 else Ok 0
-agreed wanted (Some v) vs = if all_are v vs then limited (length_value v) else Err 400
+-- the length that the first value states, if all values are the same; without a value there is no body, unless one must be
+-- stated
+abbrev pub agreed : Bool → Option (List ℕ) → List (List ℕ) → Result ℕ HeadFault
+agreed wanted None vs = if wanted then Err NoLength else Ok 0
+agreed wanted (Some v) vs = if all_are v vs then limited (length_value v) else Err BadHead
 
--- the length of a body by the values of its `Content-Length` lines, or the status of the refusal
-unfoldable pub body_length : Bool → List (List ℕ) → Result ℕ ℕ
+-- the length of a body by the values of its `Content-Length` lines, or why the head is refused
+unfoldable pub body_length : Bool → List (List ℕ) → Result ℕ HeadFault
 body_length wanted vs = agreed wanted (first_of vs) vs

@@ -4,8 +4,10 @@ use Rattle.std.specs.Str.{bytes_eq}
 use Rattle.std.specs.List.{before_first}
 use Rattle.httparse.specs.Grammar.{RequestHead, print_request, ReadsRequest, HasNoRequest, MayBecomeRequest}
 use Rattle.httparse.specs.Spans.{name_and_value}
+use Rattle.http_front.specs.declared.head_fault.HeadFault.{HeadFault}
+use Rattle.http_front.specs.declared.head_fault.HeadFault.TheVariants.{BadHead, HeadTooLong, NoLength}
 use Rattle.http_front.specs.declared.request.Request.{Request}
-use Rattle.http_front.specs.Lines.{Line, values_of, first_of, any_is, body_length}
+use Rattle.http_front.specs.Lines.{FieldLine, values_of, first_of, any_is, body_length}
 
 -- ---- one head
 
@@ -14,7 +16,7 @@ pub record Head : Type 0 where
   pub method : List ℕ
   pub target : List ℕ
   pub minor : ℕ
-  pub lines : List Line
+  pub lines : List FieldLine
 
 -- what a head of the grammar states
 abbrev pub head_of : RequestHead → Head
@@ -28,17 +30,17 @@ line_limit = 64
 abbrev pub wants_length : List ℕ → Bool
 wants_length method = bytes_eq method (codes "POST") || bytes_eq method (codes "PUT")
 
--- one rule: its status where the head breaks it, else what the next rules say
-unfoldable pub refuse_if : Bool → ℕ → Result ℕ ℕ → Result ℕ ℕ
-refuse_if broken status next = if broken then Err status else next
+-- one rule: why the head is refused if it breaks it, else what the next rules say
+unfoldable pub refuse_if : Bool → HeadFault → Result ℕ HeadFault → Result ℕ HeadFault
+refuse_if broken fault next = if broken then Err fault else next
 
--- the length of the body, or the status of the first rule that the head breaks
-unfoldable pub length_of : Head → Result ℕ ℕ
+-- the length of the body, or the first rule that the head breaks
+unfoldable pub length_of : Head → Result ℕ HeadFault
 length_of h =
-    refuse_if (nat_lt line_limit (length h.lines)) 431 (
-    refuse_if (not (h.minor == 1)) 400 (
-    refuse_if (not (length (values_of (codes "Host") h.lines) == 1)) 400 (
-    refuse_if (nat_lt 0 (length (values_of (codes "Transfer-Encoding") h.lines))) 411 (
+    refuse_if (nat_lt line_limit (length h.lines)) HeadTooLong (
+    refuse_if (not (h.minor == 1)) BadHead (
+    refuse_if (not (length (values_of (codes "Host") h.lines) == 1)) BadHead (
+    refuse_if (nat_lt 0 (length (values_of (codes "Transfer-Encoding") h.lines))) NoLength (
     body_length (wants_length h.method) (values_of (codes "Content-Length") h.lines)))))
 
 -- the part of a target before its query
@@ -98,37 +100,37 @@ pub record LacksBody (bytes : List ℕ) : Type 0 where
 abbrev pub IsUnfinished : List ℕ → Type 0
 IsUnfinished bytes = ((length bytes ≤ head_limit) × BeginsHead bytes) ⊎ LacksBody bytes
 
--- the bytes have a head that breaks a rule, and this is the status of the first
-pub record IsRefused (bytes : List ℕ) (status : ℕ) : Type 0 where
+-- the bytes have a head that breaks a rule, and this is the first
+pub record IsRefused (bytes : List ℕ) (fault : HeadFault) : Type 0 where
   pub head : RequestHead
   pub rest : List ℕ
   pub has : HasHead bytes head rest
-  pub length_is : length_of (head_of head) ≡ Err status
+  pub length_is : length_of (head_of head) ≡ Err fault
 
 -- the bytes begin a head that doesn't end within the limit
 pub record IsTooLong (bytes : List ℕ) : Type 0 where
   pub long : head_limit < length bytes
   pub begins : BeginsHead (take head_limit bytes)
 
--- the bytes are refused with that status: a head that breaks a rule, a head that is too long, or no head
-abbrev pub IsBad : List ℕ → ℕ → Type 0
-IsBad bytes status =
-    IsRefused bytes status
-    ⊎ (((status ≡ 431) × IsTooLong bytes) ⊎ ((status ≡ 400) × IsNoHead (take head_limit bytes)))
+-- the bytes are refused: a head that breaks a rule, a head that is too long, or no head
+abbrev pub IsBad : List ℕ → HeadFault → Type 0
+IsBad bytes fault =
+    IsRefused bytes fault
+    ⊎ (((fault ≡ HeadTooLong) × IsTooLong bytes) ⊎ ((fault ≡ BadHead) × IsNoHead (take head_limit bytes)))
 
 -- ---- the whole of it
 
--- what stands behind the last whole request: nothing, a part of a request, or what is refused with a status
+-- what stands behind the last whole request: nothing, a part of a request, or what is refused
 pub data Tail : Type 0 where
   at_end : Tail
   cut : Tail
-  bad : ℕ → Tail
+  bad : HeadFault → Tail
 
 -- the bytes, which begin with no whole request, are that tail
 abbrev pub IsTail : List ℕ → Tail → Type 0
 IsTail bytes at_end = bytes ≡ []
 IsTail bytes cut = (0 < length bytes) × IsUnfinished bytes
-IsTail bytes (bad status) = IsBad bytes status
+IsTail bytes (bad fault) = IsBad bytes fault
 
 -- the bytes are these whole requests, and then rest
 abbrev pub Leads : List ℕ → List Request → List ℕ → Type 0

@@ -1,8 +1,8 @@
 -- What one call takes out of a source and a buffer.
-use Rattle.std.specs.Prelude.{◌≡◌, ℕ, ◌<◌, List, [], ◌++◌, length, Option}
+use Rattle.std.specs.Prelude.{◌≡◌, ℕ, ◌<◌, ◌≤◌, List, [], ◌∷◌, ◌++◌, length, Option}
 use Rattle.io_edge.specs.Edge.{and_then_left, IsWhereTold}
 use Rattle.http_front.specs.Requests.{IsWhole, IsUnfinished, IsBad, at_end, cut, bad, IsTail}
-use Rattle.http_front.specs.Seen.{most}
+use Rattle.http_front.specs.Looks.{most}
 use Rattle.http_front.specs.declared.request.Taken.{Taken}
 use Rattle.http_front.specs.declared.request.Taken.TheVariants as taken
 use Rattle.http_front.specs.declared.buffer.Step.{Step}
@@ -15,26 +15,45 @@ abbrev pub Answers : List ℕ → List ℕ → Option (List ℕ) → Taken → T
 Answers bytes held left (taken.Request request) = IsWhole bytes request held
 Answers bytes held left taken.End = IsTail bytes at_end × (held ≡ bytes) × IsWhereTold [] left
 Answers bytes held left taken.Cut = IsTail bytes cut × (held ≡ bytes) × IsWhereTold [] left
-Answers bytes held left (taken.Bad status) = IsTail bytes (bad status) × (held ≡ bytes)
+Answers bytes held left (taken.Bad fault) = IsTail bytes (bad fault) × (held ≡ bytes)
 Answers bytes held left taken.ReadFault = (0 < length bytes → IsUnfinished bytes) × (held ≡ bytes)
 Answers bytes held left taken.NoMemory = held ≡ bytes
+
+-- the most bytes that one read takes: 4 KiB
+abbrev pub piece_limit : ℕ
+piece_limit = 4096
+
+-- the bytes are neither a whole request nor refused
+abbrev pub WantsMore : List ℕ → Type 0
+WantsMore held = (0 < length held → IsUnfinished held) × (length held < most)
+
+-- nothing was asked of the source
+abbrev pub IsIdle : Option (List ℕ) → Option (List ℕ) → ℕ → ℕ → Type 0
+IsIdle left left_after faults faults_after = (left_after ≡ left) × (faults_after ≡ faults)
+
+-- Nothing was read, or at last a piece of at most 4 KiB behind bytes that wanted more: so at most one piece is read ahead.
+abbrev pub IsNeeded : List ℕ → List ℕ → Type 0
+IsNeeded held [] = Unit {0}
+IsNeeded held (byte ∷ more) =
+    (front piece : List ℕ) × ((byte ∷ more) ≡ front ++ piece) × (length piece ≤ piece_limit) × WantsMore (held ++ front)
 
 -- these bytes were read behind those held, and the answer is about both
 pub record Takes (left left_after : Option (List ℕ)) (held held_after : List ℕ) (answer : Taken) : Type 0 where
   pub read : List ℕ
   pub moved : left ≡ and_then_left read left_after
+  pub needed : IsNeeded held read
   pub answers : Answers (held ++ read) held_after left_after answer
 
 -- what one look at the bytes held does with them
 abbrev pub Steps : List ℕ → List ℕ → Step → Type 0
 Steps held after (step.Request request) = IsWhole held request after
-Steps held after step.More = (after ≡ held) × (0 < length held → IsUnfinished held) × (length held < most)
-Steps held after (step.Bad status) = (after ≡ held) × IsBad held status
+Steps held after step.More = (after ≡ held) × WantsMore held
+Steps held after (step.Bad fault) = (after ≡ held) × IsBad held fault
 Steps held after step.NoMemory = after ≡ held
 
 -- what one read adds to them
 abbrev pub Refills : Option (List ℕ) → Option (List ℕ) → List ℕ → List ℕ → Refill → Type 0
-Refills left left_after held after refill.Some = (read : List ℕ) × (0 < length read) × (left ≡ and_then_left read left_after) × (after ≡ held ++ read)
+Refills left left_after held after refill.Some = (read : List ℕ) × (0 < length read) × (length read ≤ piece_limit) × (left ≡ and_then_left read left_after) × (after ≡ held ++ read)
 Refills left left_after held after refill.End = (left ≡ left_after) × (after ≡ held) × IsWhereTold [] left_after
 Refills left left_after held after refill.Failed = (left ≡ left_after) × (after ≡ held)
 Refills left left_after held after refill.NoMemory = (left ≡ left_after) × (after ≡ held)

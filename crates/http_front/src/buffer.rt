@@ -5,6 +5,7 @@ ghost use Rattle.http_front.specs.Taking.{Steps, Refills};
 ghost use Rattle.http_front.specs.declared.buffer.Refill.TheVariants.{Failed};
 
 use crate::cutting::cut_request;
+use crate::head_fault::HeadFault;
 use crate::looking::{Look, ROOM, look_at};
 use crate::request::Request;
 use httparse::spans::{EMPTY_HEADER_SPAN, HeaderSpan};
@@ -21,7 +22,7 @@ const PIECE: usize = 4096;
 pub enum Step {
     Request(Request),
     More,
-    Bad(u16),
+    Bad(HeadFault),
     NoMemory,
 }
 
@@ -110,7 +111,7 @@ impl Buffer {
         let held = &self.bytes[self.at..];
         match look_at(held, &mut self.headers) {
             Look::More => Step::More,
-            Look::Bad(status) => Step::Bad(status),
+            Look::Bad(fault) => Step::Bad(fault),
             Look::Whole(head, size) => match cut_request(alloc, held, &self.headers, &head, size) {
                 Ok(request) => {
                     self.at += head.len + size;

@@ -3,7 +3,7 @@ ghost use Rattle.std.specs.Prelude.{◌≡◌, ◌≤◌, ◌+◌, length, take,
 ghost use Rattle.httparse.specs.Grammar.{IsToken};
 ghost use Rattle.httparse.specs.Spans.{span_bytes};
 ghost use Rattle.http_front.specs.Requests.{head_limit, request_of};
-ghost use Rattle.http_front.specs.Seen.{seen};
+ghost use Rattle.http_front.specs.Looks.{spanned_head};
 
 use crate::lines::{any_named_is, bytes_of, first_named};
 use crate::looking::HEAD_LIMIT;
@@ -48,7 +48,7 @@ pub fn cut_request(
     requires there { head.now.len + size ≤ length bytes.now }
     requires token { IsToken (span_bytes (take head_limit bytes.now) head.now.method) }
     ensures value { IfOk result (λ made. made
-        ≡ request_of (seen (take head_limit bytes.now) headers.now head.now) (take size (drop head.now.len bytes.now))) }
+        ≡ request_of (spanned_head (take head_limit bytes.now) headers.now head.now) (take size (drop head.now.len bytes.now))) }
 {
     let front = &bytes[..bytes.len().min(HEAD_LIMIT)];
     let lines = &headers[..head.headers];

@@ -4,8 +4,9 @@ ghost use Rattle.std.specs.Str.{all_ascii_digits};
 ghost use Rattle.std.specs.Str.Parse.{digits_value};
 ghost use Rattle.http_front.specs.Lines.{length_value, limited, body_length};
 ghost use Rattle.http_front.specs.Requests.{wants_length, length_of};
-ghost use Rattle.http_front.specs.Seen.{seen, values_seen};
+ghost use Rattle.http_front.specs.Looks.{spanned_head, spanned_values};
 
+use crate::head_fault::HeadFault;
 use crate::lines::{all_named_are, bytes_of, count_named, first_named};
 use httparse::spans::{HeaderSpan, RequestSpans};
 
@@ -51,30 +52,30 @@ fn length_value(digits: &[u8]) -> Option<u64>
     }
 }
 
-/// That number as the length of a body, or the status of the refusal.
-fn limited(value: Option<u64>) -> Result<u64, u16>
+/// That number as the length of a body, or why the head is refused.
+fn limited(value: Option<u64>) -> Result<u64, HeadFault>
     ensures value { result ≡ limited value }
 {
     match value {
         Some(length) if length <= BODY_LIMIT => Ok(length),
-        Some(_) => Err(413),
-        None => Err(400),
+        Some(_) => Err(HeadFault::BodyTooLong),
+        None => Err(HeadFault::BadHead),
     }
 }
 
 #[tactic(auto, unfolding(crate::specs::Lines::body_length))]
-fn body_length(buffer: &[u8], headers: &[HeaderSpan], wanted: bool) -> Result<u64, u16>
+fn body_length(buffer: &[u8], headers: &[HeaderSpan], wanted: bool) -> Result<u64, HeadFault>
     ensures value { result
-        ≡ body_length wanted (values_seen buffer.now headers.now (codes "Content-Length")) }
+        ≡ body_length wanted (spanned_values buffer.now headers.now (codes "Content-Length")) }
 {
     match first_named(buffer, headers, b"Content-Length") {
-        None if wanted => Err(411),
+        None if wanted => Err(HeadFault::NoLength),
         None => Ok(0),
         Some(value) => {
             if all_named_are(buffer, headers, b"Content-Length", value) {
                 limited(length_value(value))
             } else {
-                Err(400)
+                Err(HeadFault::BadHead)
             }
         }
     }
@@ -86,24 +87,28 @@ fn wants_length(method: &[u8]) -> bool
     method == b"POST".as_slice() || method == b"PUT".as_slice()
 }
 
-/// The length of the body, or the status of the first rule that the head breaks.
+/// The length of the body, or the first rule that the head breaks.
 #[tactic(auto, unfolding(crate::specs::Requests::length_of, crate::specs::Requests::refuse_if))]
-pub fn length_of(buffer: &[u8], headers: &[HeaderSpan], head: &RequestSpans) -> Result<u64, u16>
+pub fn length_of(
+    buffer: &[u8],
+    headers: &[HeaderSpan],
+    head: &RequestSpans,
+) -> Result<u64, HeadFault>
     requires lines { head.now.headers ≤ length headers.now }
-    ensures value { result ≡ length_of (seen buffer.now headers.now head.now) }
+    ensures value { result ≡ length_of (spanned_head buffer.now headers.now head.now) }
 {
     let lines = &headers[..head.headers];
     if lines.len() > LINE_LIMIT {
-        return Err(431);
+        return Err(HeadFault::HeadTooLong);
     }
     if head.version != 1 {
-        return Err(400);
+        return Err(HeadFault::BadHead);
     }
     if count_named(buffer, lines, b"Host") != 1 {
-        return Err(400);
+        return Err(HeadFault::BadHead);
     }
     if count_named(buffer, lines, b"Transfer-Encoding") > 0 {
-        return Err(411);
+        return Err(HeadFault::NoLength);
     }
     body_length(buffer, lines, wants_length(bytes_of(buffer, head.method)))
 }

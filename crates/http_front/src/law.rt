@@ -1,6 +1,7 @@
 //! What the definition of the requests of a byte string comes to. None of these functions does
 //! anything: each states a law.
 ghost use Rattle.std.specs.Prelude.{◌≡◌, ℕ, List, [], ◌++◌};
+ghost use Rattle.http_front.specs.declared.head_fault.HeadFault.{HeadFault};
 ghost use Rattle.http_front.specs.declared.request.Request.{Request};
 ghost use Rattle.http_front.specs.Requests.{Tail, at_end, bad, Leads, Splits};
 
@@ -28,6 +29,6 @@ pub fn served_first()
 
 /// A refusal stays, whatever bytes come behind: it doesn't matter in which pieces they are read.
 pub fn refusals_stay()
-    ensures stays { (bytes more : List ℕ) (requests : List Request) (status : ℕ)
-        → Splits bytes requests (bad status) → Splits (bytes ++ more) requests (bad status) }
+    ensures stays { (bytes more : List ℕ) (requests : List Request) (fault : HeadFault)
+        → Splits bytes requests (bad fault) → Splits (bytes ++ more) requests (bad fault) }
 {}

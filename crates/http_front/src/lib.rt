@@ -5,6 +5,7 @@ mod answering;
 mod buffer;
 mod cutting;
 mod head;
+mod head_fault;
 mod law;
 mod lines;
 mod looking;
@@ -12,8 +13,9 @@ mod request;
 mod taking;
 mod target;
 
-pub use answering::{no_memory_answer, plain_answer};
+pub use answering::{head_fault_answer, no_memory_answer, plain_answer};
 pub use buffer::Buffer;
+pub use head_fault::HeadFault;
 pub use law::{one_reading, refusals_stay, served_first, whole_requests};
 pub use request::{Request, Taken};
 pub use taking::take_request;

@@ -3,7 +3,7 @@ ghost use Rattle.std.specs.Prelude.{◌≡◌, length, Option, option_map};
 ghost use Rattle.httparse.specs.Spans.{span_bytes, header_bytes};
 ghost use Rattle.std.specs.Str.{str_eq_ignore_ascii_case};
 ghost use Rattle.http_front.specs.Lines.{first_of, any_is, all_are};
-ghost use Rattle.http_front.specs.Seen.{values_seen};
+ghost use Rattle.http_front.specs.Looks.{spanned_values};
 
 use httparse::spans::{HeaderSpan, Span};
 
@@ -31,7 +31,7 @@ fn is_named(buffer: &[u8], header: HeaderSpan, name: &[u8]) -> bool
 
 /// How many lines have that name.
 pub fn count_named(buffer: &[u8], headers: &[HeaderSpan], name: &[u8]) -> usize
-    ensures value { result ≡ length (values_seen buffer.now headers.now name.now) }
+    ensures value { result ≡ length (spanned_values buffer.now headers.now name.now) }
 {
     let mut count = 0;
     let mut rest = headers;
@@ -46,7 +46,7 @@ pub fn count_named(buffer: &[u8], headers: &[HeaderSpan], name: &[u8]) -> usize
 
 /// The value of the first line of that name.
 pub fn first_named<'b>(buffer: &'b [u8], headers: &[HeaderSpan], name: &[u8]) -> Option<&'b [u8]>
-    ensures value { option_map (λ v. v.now) result ≡ first_of (values_seen buffer.now headers.now name.now) }
+    ensures value { option_map (λ v. v.now) result ≡ first_of (spanned_values buffer.now headers.now name.now) }
 {
     let mut rest = headers;
     while let [header, more @ ..] = rest {
@@ -60,7 +60,7 @@ pub fn first_named<'b>(buffer: &'b [u8], headers: &[HeaderSpan], name: &[u8]) ->
 
 /// Whether some line of that name has the word as its value, without regard to case.
 pub fn any_named_is(buffer: &[u8], headers: &[HeaderSpan], name: &[u8], word: &[u8]) -> bool
-    ensures value { result ≡ any_is word.now (values_seen buffer.now headers.now name.now) }
+    ensures value { result ≡ any_is word.now (spanned_values buffer.now headers.now name.now) }
 {
     let mut rest = headers;
     while let [header, more @ ..] = rest {
@@ -74,7 +74,7 @@ pub fn any_named_is(buffer: &[u8], headers: &[HeaderSpan], name: &[u8], word: &[
 
 /// Whether all lines of that name have that value, byte for byte.
 pub fn all_named_are(buffer: &[u8], headers: &[HeaderSpan], name: &[u8], value: &[u8]) -> bool
-    ensures value { result ≡ all_are value.now (values_seen buffer.now headers.now name.now) }
+    ensures value { result ≡ all_are value.now (spanned_values buffer.now headers.now name.now) }
 {
     let mut rest = headers;
     while let [header, more @ ..] = rest {

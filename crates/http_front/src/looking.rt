@@ -1,8 +1,9 @@
 //! What the bytes held so far are.
 ghost use Rattle.std.specs.Prelude.{◌≡◌, length};
-ghost use Rattle.http_front.specs.Seen.{Sees};
+ghost use Rattle.http_front.specs.Looks.{IsLook};
 
 use crate::head::length_of;
+use crate::head_fault::HeadFault;
 use crate::target::ends_in_target;
 use httparse::spans::{HeaderSpan, RequestSpans, parse_request};
 use httparse::{Error, Status};
@@ -22,13 +23,13 @@ pub enum Look {
     /// No whole request yet.
     More,
 
-    /// They are refused with this status.
-    Bad(u16),
+    /// They are refused.
+    Bad(HeadFault),
 }
 
 pub fn look_at(bytes: &[u8], headers: &mut [HeaderSpan]) -> Look
     requires room { length headers.old ≡ 5461 }
-    ensures sees { Sees bytes.now headers.new result }
+    ensures look { IsLook bytes.now headers.new result }
 {
     if bytes.is_empty() {
         return Look::More;
@@ -38,22 +39,22 @@ pub fn look_at(bytes: &[u8], headers: &mut [HeaderSpan]) -> Look
         Ok(Status::Complete(head)) => match length_of(front, headers, &head) {
             Ok(size) if size as usize <= bytes.len() - head.len => Look::Whole(head, size as usize),
             Ok(_) => Look::More,
-            Err(status) => Look::Bad(status),
+            Err(fault) => Look::Bad(fault),
         },
         Ok(Status::Partial) => {
             if bytes.len() > HEAD_LIMIT {
-                Look::Bad(431)
+                Look::Bad(HeadFault::HeadTooLong)
             } else {
                 Look::More
             }
         }
         Err(error) => match error {
-            Error::TooManyHeaders => Look::Bad(431),
+            Error::TooManyHeaders => Look::Bad(HeadFault::HeadTooLong),
             _ => {
                 if !ends_in_target(front) {
-                    Look::Bad(400)
+                    Look::Bad(HeadFault::BadHead)
                 } else if bytes.len() > HEAD_LIMIT {
-                    Look::Bad(431)
+                    Look::Bad(HeadFault::HeadTooLong)
                 } else {
                     Look::More
                 }

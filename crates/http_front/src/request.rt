@@ -1,4 +1,5 @@
 //! Requests.
+use crate::head_fault::HeadFault;
 use http::Method;
 use tail_base::Bytes;
 
@@ -33,8 +34,8 @@ pub enum Taken {
     /// The input ended inside a request.
     Cut,
 
-    /// The bytes are refused, with this status.
-    Bad(u16),
+    /// The bytes are refused.
+    Bad(HeadFault),
 
     /// The source failed.
     ReadFault,

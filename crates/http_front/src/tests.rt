@@ -1,4 +1,5 @@
 use crate::{Buffer, Taken, no_memory_answer, plain_answer, take_request};
+use http::StatusCode;
 use io_edge::MemorySource;
 use std::alloc::Global;
 use std::test::Fail;
@@ -15,7 +16,7 @@ fn status_of(alloc: Global, bytes: Vec<u8>) -> Result<u16, Fail> {
         Taken::Request(_) => 200,
         Taken::End => 0,
         Taken::Cut => 1,
-        Taken::Bad(status) => status,
+        Taken::Bad(fault) => fault.status().as_u16(),
         Taken::ReadFault | Taken::NoMemory => 2,
     })
 }
@@ -152,7 +153,12 @@ fn a_fault_loses_nothing(rt: HostRuntime) -> Result<(), Fail> {
 
 #[test]
 fn answers(rt: HostRuntime) -> Result<(), Fail> {
-    let Ok(answer) = plain_answer(rt.alloc(), 404, b"{\"error\":\"NoPath\"}", true) else {
+    let Ok(answer) = plain_answer(
+        rt.alloc(),
+        StatusCode::NOT_FOUND,
+        b"{\"error\":\"NoPath\"}",
+        true,
+    ) else {
         return Ok(());
     };
     assert_eq!(rt;

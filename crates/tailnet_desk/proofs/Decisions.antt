@@ -1,5 +1,5 @@
 -- From settings and tables that keep their rules, and an ask that is short, what is decided is sound.
-use Rattle.std.proofs.Common.{◌≡◌, ℕ, List, Option, Some, None, Result, Ok, Err, refl, sym}
+use Rattle.std.proofs.Common.{◌≡◌, ℕ, List, Option, None, Result, Ok, Err, refl, sym}
 use Rattle.net_rows.specs.Damage.{damage}
 use Rattle.net_rows.specs.declared.rows.Rows.{Rows}
 use Rattle.settings.specs.Settings.{AreSettings}
@@ -21,7 +21,7 @@ use Rattle.tailnet_desk.specs.declared.ask.Ask.TheVariants as ask
 use Rattle.tailnet_desk.specs.declared.reply.Answer.TheVariants as answer
 
 pub answered_sound : {A B : Type 0} (f : A → B) (rows : Rows) (r : Result (Decision A) Refusal) → IsSound rows r → IsSound rows (r >>= λ d. Ok (answered f d))
-answered_sound f rows (Err e) h = proper_err rows e
+answered_sound {A} {B} f rows (Err e) h x c is some = proper_err rows e x c is some
 answered_sound {A} {B} f rows (Ok d) h x c is some = let same : answered f d ≡ x = cc in h d c refl (rw (sym same) at some)
 
 pub decision_sound : (s : State) (x : Ask) (words : Option (List ℕ)) → AreSettings s.settings → damage s.rows ≡ None → IsShort x → IsSound s.rows (decision s x words)

@@ -1,5 +1,5 @@
 -- Machines that rise by id are offline in that order.
-use Rattle.std.proofs.Common.{◌≡◌, ◌<◌, ℤ, List, [], ◌∷◌, inl, inr, arith, ap}
+use Rattle.std.proofs.Common.{◌≡◌, ℤ, List, [], ◌∷◌, inl, inr, ap}
 use Rattle.std.specs.Prelude.{Contains, map}
 use Rattle.desk_state.specs.State.{offline_at}
 use Rattle.desk_state.specs.declared.presence.MachinePresence.{MachinePresence}

@@ -1,5 +1,5 @@
 -- Legal histories keep the rules of the tables.
-use Rattle.std.proofs.Common.{◌≡◌, ◌++◌, ℕ, List, [], ◌∷◌, Option, Some, None, Result, Ok, Err, refl, sym, ap, subst, arith}
+use Rattle.std.proofs.Common.{◌≡◌, ◌++◌, ℕ, List, [], ◌∷◌, Option, Some, None, Result, Ok, Err, refl, sym, subst, arith}
 use Rattle.net_rows.specs.Damage.{damage}
 use Rattle.net_rows.specs.Sound.{AreSound}
 use Rattle.net_rows.specs.declared.change.Change.{Change}
@@ -7,7 +7,6 @@ use Rattle.net_rows.specs.declared.change.Counters.{Counters}
 use Rattle.net_rows.specs.declared.rows.Rows.{Rows}
 use Rattle.net_rows.proofs.Sounds.{no_damage, sound_of}
 use Rattle.settings.specs.Settings.{AreSettings}
-use Rattle.settings.specs.declared.fields.SettingsFields.{SettingsFields}
 use Rattle.desk_state.specs.Decisions.{IsNoLess, IsSound, rows_after}
 use Rattle.desk_state.specs.State.{State, at_moment}
 use Rattle.desk_state.specs.declared.decision.Decision.{Decision}

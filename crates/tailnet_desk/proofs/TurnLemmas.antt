@@ -1,7 +1,10 @@
 -- What is carried out, refused or lost is one turn.
-use Rattle.std.proofs.Common.{◌≡◌, ◌≢◌, ◌≤◌, ◌⊎◌, ◌∙◌, ℕ, ℤ, List, Option, Some, None, Result, Ok, Err, inl, inr, refl, sym, ap, arith}
+use Rattle.std.proofs.Common.{◌≡◌, ◌≢◌, ◌≤◌, ◌⊎◌, ◌∙◌, ℕ, ℤ, List, Option, Some, None, Result, Ok, Err, inl, refl, sym, ap, subst, arith}
+use Rattle.std.specs.Prelude.{IfSome}
 use Rattle.io_edge.specs.Edge.{IsWhereTold, Rose}
 use Rattle.moments.specs.Moments.{later_of}
+use Rattle.net_rows.specs.Damage.{damage}
+use Rattle.net_rows.specs.Rows.{after}
 use Rattle.net_rows.specs.declared.change.Change.{Change}
 use Rattle.net_rows.specs.declared.rows.Rows.{Rows}
 use Rattle.row_keeper.specs.Calls.{one_more}
@@ -13,11 +16,10 @@ use Rattle.desk_state.specs.declared.presence.MachinePresence.{MachinePresence}
 use Rattle.desk_state.specs.declared.refusal.Refusal.{Refusal}
 use Rattle.tailnet_desk.specs.Asks.{IsShort}
 use Rattle.tailnet_desk.specs.Carried.{Carried, Committed, Failed, Perhaps}
-use Rattle.tailnet_desk.specs.Seated.{Keeping, Point}
+use Rattle.tailnet_desk.specs.Seated.{Keeping, Point, Seated, keeping_of, point_of}
 use Rattle.tailnet_desk.specs.Step.{decision, outcome, settled, step}
 use Rattle.tailnet_desk.specs.Turns.{IsTurn}
 use Rattle.tailnet_desk.specs.declared.ask.Ask.{Ask}
-use Rattle.tailnet_desk.specs.declared.entry.Event.{Event}
 use Rattle.tailnet_desk.specs.declared.entry.Event.TheVariants as event
 use Rattle.tailnet_desk.specs.declared.reply.Answer.{Answer}
 use Rattle.tailnet_desk.specs.declared.reply.Loss.TheVariants.{NoMemory, KeeperFault}
@@ -48,6 +50,13 @@ pub failed_parts : (change : Option Change) (rows : Rows) (k l : Keeping) → Ea
     → (rows_after rows change ≢ rows) × (l.calls ≡ one_more k.calls) × Rose k.faults l.faults
 failed_parts None rows k l sound h = absurd h
 failed_parts (Some c) rows k l sound h = ((sound c refl).differs, h.0, h.1)
+
+pub each_of : (rows : Rows) (r : Result (Decision Answer) Refusal) (d : Decision Answer) → r ≡ Ok d → IsSound rows r → EachSound rows d.change
+each_of rows r d is sound = λ c some. sound d c is some
+
+pub each_holds : (rows : Rows) (change : Option Change) → EachSound rows change → IfSome change (λ c. damage (after rows c) ≡ None)
+each_holds rows None each = tt
+each_holds rows (Some c) each = (each c refl).sound
 
 -- a state in its parts
 abbrev pub state_with : SettingsFields → Rows → List MachinePresence → ℤ → State
@@ -120,3 +129,19 @@ lost_turn p q x m words short state same kept = record {
   calls = inl (ap (λ (k : Keeping). k.calls) same);
   idle = λ unchanged. same;
 }
+
+-- the same at a desk, whose time was brought forward before
+pub carried_at : {K : Type 0} (told : K → Option Rows) (faults calls : K → ℕ) (was q : Seated K) (mid : State) (keeper : K)
+    (x : Ask) (m : ℤ) (words : Option (List ℕ)) (d : Decision Answer) (reply : Reply)
+    → mid ≡ at_moment was.state m → keeper ≡ was.keeper → IsShort x → decision mid x words ≡ Ok d → IsSound mid.rows (decision mid x words)
+    → Carried mid d reply q.state (keeping_of told faults calls keeper) (keeping_of told faults calls q.keeper)
+    → faults keeper ≤ faults q.keeper → IsWhereTold q.state.rows (told q.keeper)
+    → IsTurn (point_of told faults calls was) (event.Ask x m words) reply (point_of told faults calls q)
+carried_at {K} told faults calls was q mid keeper x m words d reply mid_is keeper_is short is sound c later kept =
+    let is' : decision (at_moment was.state m) x words ≡ Ok d = subst (λ s. decision s x words ≡ Ok d) mid_is is in
+    let sound' : IsSound was.state.rows (decision (at_moment was.state m) x words) = subst (λ (s : State). IsSound s.rows (decision s x words)) mid_is sound in
+    let c' = subst (λ s. Carried s d reply q.state (keeping_of told faults calls was.keeper) (keeping_of told faults calls q.keeper)) mid_is
+    (subst (λ k. Carried mid d reply q.state (keeping_of told faults calls k) (keeping_of told faults calls q.keeper)) keeper_is c) in
+    let later' : faults was.keeper ≤ faults q.keeper = subst (λ k. faults k ≤ faults q.keeper) keeper_is later in
+    carried_turn (point_of told faults calls was) (point_of told faults calls q) x m words d reply short is'
+    (each_of was.state.rows (decision (at_moment was.state m) x words) d is' sound') c' later' kept

@@ -2,6 +2,7 @@
 ghost use Rattle.std.specs.Prelude.{◌≡◌, ℕ, List, Option};
 ghost use Rattle.tail_base.specs.Steps.{Gives};
 ghost use Rattle.desk_state.specs.Decisions.{answered};
+ghost use Rattle.tailnet_desk.specs.Asks.{IsShort};
 ghost use Rattle.tailnet_desk.specs.Step.{decision};
 ghost use Rattle.tailnet_desk.specs.declared.reply.Answer.TheVariants as answer;
 
@@ -71,6 +72,7 @@ pub(crate) fn decide(
     ask: &Ask,
     words: Option<[u64; 4]>,
 ) -> Result<Decision<Answer>, Failure<Refusal>>
+    requires short { IsShort ask.now }
     ensures value { Gives (λ d. d) result (decision at.now ask.now words) }
 {
     match ask {

@@ -73,7 +73,7 @@ fn make_room(
 ) -> Result<(), NoMemory>
     ensures rows { tables.new.rows ≡ tables.old.rows }
     ensures presence { presence.new.0 ≡ presence.old.0 }
-    ensures reserved { OnOk result (IfSome change (λ c. Suffices tables.new.spare c.now.puts)) }
+    ensures reserved { OnOk result (IfSome change.entry (λ c. Suffices tables.new.spare c.now.puts)) }
     ensures room { OnOk result (offline ≤ presence.new.1) }
 {
     if let Some(change) = change {
@@ -158,13 +158,17 @@ impl<K: Keeper> Desk<K> {
         ensures kept { Kept self.old.state change ended.now offline.now result self.new.state
             (keeping_of K.told K.faults K.calls self.old.keeper) (keeping_of K.told K.faults K.calls self.new.keeper) }
         ensures later { K.faults self.old.keeper ≤ K.faults self.new.keeper }
+        ensures told { IsWhereTold self.new.state.rows (K.told self.new.keeper) }
     {
-        make_room(
+        let room = make_room(
             &mut self.tables,
             &mut self.presence,
             change.as_ref(),
             offline.len(),
-        )?;
+        );
+        if room.is_err() {
+            return Err(EdgeFault::NoMemory);
+        }
         if let Some(change) = change {
             self.keeper.commit(alloc, &change)?;
             forget(&mut self.presence, change.gone.as_slice());
@@ -181,6 +185,7 @@ impl<K: Keeper> Desk<K> {
         ensures carried { Carried self.old.state decision result self.new.state
             (keeping_of K.told K.faults K.calls self.old.keeper) (keeping_of K.told K.faults K.calls self.new.keeper) }
         ensures later { K.faults self.old.keeper ≤ K.faults self.new.keeper }
+        ensures told { IsWhereTold self.new.state.rows (K.told self.new.keeper) }
     {
         let Decision {
             change,

@@ -46,6 +46,9 @@ pub(crate) fn go_offline(presence: &mut Shelf<MachinePresence>, ids: &[u32], now
     ensures presence { presence.new.0 ≡ all_offline now presence.old.0 ids.now }
 {
     for id in ids {
-        presence.put(offline_at(*id, now));
+        presence.put(MachinePresence {
+            id: *id,
+            presence: Presence::OfflineSince(now),
+        });
     }
 }

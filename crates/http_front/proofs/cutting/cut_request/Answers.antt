@@ -2,7 +2,7 @@ use Rattle.std.proofs.Common.{sym, subst, ◌≡◌, ◌+◌, ◌-◌, ap, ◌�
 use Rattle.httparse.specs.Grammar.{IsToken}
 use Rattle.httparse.specs.Spans.{span_bytes}
 use Rattle.http_front.specs.Requests.{path_of, request_of, head_limit}
-use Rattle.http_front.specs.Seen.{seen}
+use Rattle.http_front.specs.Looks.{spanned_head}
 use Rattle.http_front.proofs.Looks.{front_is, request_is}
 use Rattle.http_front.proofs.cutting.cut_request.Goals as goal
 
@@ -17,7 +17,7 @@ returns c =
           (c.in_ok-from_slice.ensures.value ∙ c.path_of.ensures.value ∙ ap path_of c.bytes_of-2.ensures.value)
           (c.in_ok-token.ensures.value ∙ c.first_named.ensures.value) (c.in_ok-machine.ensures.value ∙ c.first_named-2.ensures.value)
           c.any_named_is.ensures.value
-          ∙ ap (request_of (seen (take head_limit c.args.bytes.now) c.args.headers.now c.args.head.now))
+          ∙ ap (request_of (spanned_head (take head_limit c.args.bytes.now) c.args.headers.now c.args.head.now))
           (c.in_ok-from_slice-2.ensures.value ∙ ap (λ n. take n (drop c.args.head.now.len c.args.bytes.now)) size_is);
     }
 

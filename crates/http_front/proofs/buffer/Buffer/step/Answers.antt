@@ -17,8 +17,8 @@ returns-in-Ok c =
       steps = stepped (drop at bytes) _ _ c.args.self.now _ c.look_at.new.headers c.deref-in-Whole.result.now c.in-Whole.head c.in-Whole.size c.in-Ok.request
           held held (sym c.self.view_is)
           (c.deref-in-Whole.ensures.value ∙ take_at c.look_at.new.headers _ c.self.inside.headers.len (omega arith))
-          c.in-Whole.ensures.sees c.in-Ok.ensures.value (sym (drop-drop (c.in-Whole.head.len + c.in-Whole.size) at bytes));
+          c.in-Whole.ensures.look c.in-Ok.ensures.value (sym (drop-drop (c.in-Whole.head.len + c.in-Whole.size) at bytes));
     }
 
 pub cut_request-requires-clause-token : goal.cut_request-requires-clause-token
-cut_request-requires-clause-token c = seen_token _ _ c.in-Whole.head c.in-Whole.size c.in-Whole.ensures.sees
+cut_request-requires-clause-token c = seen_token _ _ c.in-Whole.head c.in-Whole.size c.in-Whole.ensures.look

@@ -10,8 +10,8 @@ use Rattle.http_front.specs.declared.looking.Look.{Look}
 use Rattle.http_front.specs.declared.looking.Look.TheVariants as look
 
 -- the head that the parser's spans show
-abbrev pub seen : List ℕ → List HeaderSpan → RequestSpans → Head
-seen buffer headers r = record {
+abbrev pub spanned_head : List ℕ → List HeaderSpan → RequestSpans → Head
+spanned_head buffer headers r = record {
   method = span_bytes buffer r.method;
   target = span_bytes buffer r.path;
   minor = r.version;
@@ -19,14 +19,14 @@ seen buffer headers r = record {
 }
 
 -- the values of the lines of that name that the spans show
-abbrev pub values_seen : List ℕ → List HeaderSpan → List ℕ → List (List ℕ)
-values_seen buffer headers name = values_of name (map (header_bytes buffer) headers)
+abbrev pub spanned_values : List ℕ → List HeaderSpan → List ℕ → List (List ℕ)
+spanned_values buffer headers name = values_of name (map (header_bytes buffer) headers)
 
 -- the spans are those of a head whose body is of that size, and all of it is there
-pub record IsSeen (bytes : List ℕ) (headers : List HeaderSpan) (r : RequestSpans) (size : ℕ) : Type 0 where
+pub record IsSpanned (bytes : List ℕ) (headers : List HeaderSpan) (r : RequestSpans) (size : ℕ) : Type 0 where
   pub head : RequestHead
   pub has : HasHead bytes head (drop r.len bytes)
-  pub seen_is : seen (take head_limit bytes) headers r ≡ head_of head
+  pub head_is : spanned_head (take head_limit bytes) headers r ≡ head_of head
   pub length_is : length_of (head_of head) ≡ Ok size
   pub there : r.len + size ≤ length bytes
   pub count : r.headers ≤ length headers
@@ -36,7 +36,7 @@ abbrev pub most : ℕ
 most = 1064961
 
 -- what the look says of the bytes
-abbrev pub Sees : List ℕ → List HeaderSpan → Look → Type 0
-Sees bytes headers (look.Whole r size) = IsSeen bytes headers r size
-Sees bytes headers look.More = (0 < length bytes → IsUnfinished bytes) × (length bytes < most)
-Sees bytes headers (look.Bad status) = IsBad bytes status
+abbrev pub IsLook : List ℕ → List HeaderSpan → Look → Type 0
+IsLook bytes headers (look.Whole r size) = IsSpanned bytes headers r size
+IsLook bytes headers look.More = (0 < length bytes → IsUnfinished bytes) × (length bytes < most)
+IsLook bytes headers (look.Bad fault) = IsBad bytes fault
