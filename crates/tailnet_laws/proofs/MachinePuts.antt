@@ -38,7 +38,7 @@ use Rattle.machine_asks.specs.declared.ask.MachineAsk.{MachineAsk}
 use Rattle.machine_asks.specs.declared.ask.MachineAsk.TheVariants as ask
 use Rattle.tailnet_laws.specs.Entering.{IsKeyed}
 use Rattle.tailnet_laws.proofs.Every.{Every, either_of, every_bind, every_err, every_if, every_of_row, every_ok, every_or, every_refuse}
-use Rattle.tailnet_laws.proofs.Hiding.{asking_live}
+use Rattle.tailnet_laws.proofs.LiveMachines.{asking_live}
 use Rattle.tailnet_laws.proofs.Puts.{IsKeyPut, IsKeyUsed, IsMachinePut, Puts, placed_put, puts_none, puts_some}
 
 -- a key of a text that may be used

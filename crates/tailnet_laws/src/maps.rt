@@ -6,7 +6,7 @@ ghost use Rattle.tailcfg.specs.declared.node_row.NodeRow.{NodeRow};
 ghost use Rattle.tailcfg.specs.declared.response.Response.{Response};
 ghost use Rattle.tailcfg.specs.declared.update.Update as update;
 ghost use Rattle.map_delta.specs.Fresh.{fresh};
-ghost use Rattle.desk_state.specs.State.{State};
+ghost use Rattle.desk_state.specs.State.{State, at_moment};
 ghost use Rattle.desk_state.specs.declared.decision.Decision.{Decision};
 ghost use Rattle.desk_state.specs.declared.refusal.Refusal.TheVariants.{NotLive};
 ghost use Rattle.machine_asks.specs.Decision.{decision};
@@ -15,13 +15,21 @@ ghost use Rattle.machine_asks.specs.declared.answer.MachineAnswer.{MachineAnswer
 ghost use Rattle.machine_asks.specs.declared.answer.MachineAnswer.TheVariants.{Map};
 ghost use Rattle.machine_asks.specs.declared.ask.MachineAsk.{MachineAsk};
 ghost use Rattle.machine_asks.specs.declared.ask.MachineAsk.TheVariants.{OneMap, Update};
+ghost use Rattle.tailnet_desk.specs.Step.{moment_of, step};
+ghost use Rattle.tailnet_desk.specs.declared.entry.Event.{Event};
+ghost use Rattle.tailnet_desk.specs.declared.reply.Answer.TheVariants as answer;
+ghost use Rattle.tailnet_desk.specs.declared.reply.Reply.TheVariants.{Done};
 ghost use Rattle.tailnet_laws.specs.Shown.{Hides, IsExpired};
 
-/// A machine whose node key has expired is in no map that a machine is answered.
+/// A machine whose node key has expired is in no map that is decided on for a machine, and so in none
+/// that a step replies.
 pub fn expired_machines_are_in_no_map()
     ensures hides { (s : State) (m : Machine) (x : MachineAsk) (words : Option (List ℕ))
         (d : Decision MachineAnswer) (map : Response) → AreSound s.rows → IsExpired s m
         → decision s x words ≡ Ok d → d.answer ≡ Map map → Hides map m.id }
+    ensures replies { (s : State) (m : Machine) (e : Event) (map : Response) → AreSound s.rows
+        → IsExpired (at_moment s (moment_of e)) m
+        → (step s e).reply ≡ Done (answer.Machine (Map map)) → Hides map m.id }
 {}
 
 /// It is no peer in a map that is computed afresh, whoever the viewer is.

@@ -1,4 +1,4 @@
-use Rattle.tailnet_laws.proofs.SpentKeys.{used_key_refused}
+use Rattle.tailnet_laws.proofs.UsedKeys.{used_key_refused}
 use Rattle.tailnet_laws.proofs.keys.used_keys_are_refused.Goals as goal
 
 pub returns : goal.returns
