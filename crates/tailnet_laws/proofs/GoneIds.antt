@@ -18,7 +18,7 @@ use Rattle.tailnet_laws.proofs.Growth.{Grown}
 use Rattle.tailnet_laws.proofs.Puts.{IsKeyPut}
 use Rattle.tailnet_laws.proofs.Steps.{Lasts, legal_keeps}
 
--- a row of an id that has been given was there, with another content or the same
+-- a row of an id below the next one was there, with the same content or another
 module _ (t : Rows) (enters : MachineKey → Type 0) (u : Rows) (n : ℕ) (grown : Grown t (IsKeyPut t) enters u) where
   user_was : n < t.next.user → HasRow (λ (r : User). r.id) u.users n → HasRow (λ (r : User). r.id) t.users n
   user_was given (a, inside, is) = elim (grown.users a inside) [ inl new ↦ absurd (omega (arith, new, is, given)) | inr was ↦ (a, was, is) ]
@@ -40,26 +40,26 @@ module _ (t : Rows) (enters : MachineKey → Type 0) (u : Rows) (n : ℕ) (grown
 
 user_lasts : (n : ℕ) → Lasts (λ t. IsGoneUser t n)
 user_lasts n t enters u grown rises gone = record {
-  given = omega (arith, gone.given, rises.user);
-  none = λ row. gone.none (user_was t enters u n grown gone.given row);
+  below = omega (arith, gone.below, rises.user);
+  none = λ row. gone.none (user_was t enters u n grown gone.below row);
 }
 
 key_lasts : (n : ℕ) → Lasts (λ t. IsGoneKey t n)
 key_lasts n t enters u grown rises gone = record {
-  given = omega (arith, gone.given, rises.key);
-  none = λ row. gone.none (key_was t enters u n grown gone.given row);
+  below = omega (arith, gone.below, rises.key);
+  none = λ row. gone.none (key_was t enters u n grown gone.below row);
 }
 
 pending_lasts : (n : ℕ) → Lasts (λ t. IsGonePending t n)
 pending_lasts n t enters u grown rises gone = record {
-  given = omega (arith, gone.given, rises.pending);
-  none = λ row. gone.none (pending_was t enters u n grown gone.given row);
+  below = omega (arith, gone.below, rises.pending);
+  none = λ row. gone.none (pending_was t enters u n grown gone.below row);
 }
 
 machine_lasts : (n : ℕ) → Lasts (λ t. IsGoneMachine t n)
 machine_lasts n t enters u grown rises gone = record {
-  given = omega (arith, gone.given, rises.machine);
-  none = λ row. gone.none (machine_was t enters u n grown gone.given row);
+  below = omega (arith, gone.below, rises.machine);
+  none = λ row. gone.none (machine_was t enters u n grown gone.below row);
 }
 
 pub gone_users_stay : (s : State) (count : ℕ) (es : List Entry) (id : ℕ) → AreSettings s.settings → AreSound s.rows → Legal s count es → IsGoneUser s.rows id → IsGoneUser (replay s es).rows id

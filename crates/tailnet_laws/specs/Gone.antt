@@ -3,9 +3,9 @@ use Rattle.std.specs.Prelude.{◌<◌, ℕ, List}
 use Rattle.net_rows.specs.Shelf.{HasRow}
 use Rattle.net_rows.specs.declared.rows.Rows.{Rows}
 
--- The id is below the next one, so that it has been given, and no row has it.
+-- The id is below the next one, as that of each row that was removed, and no row has it.
 pub record IsGone {T : Type 0} (id : T → ℕ) (rows : List T) (next n : ℕ) : Type 0 where
-  pub given : n < next
+  pub below : n < next
   pub none : HasRow id rows n → ⊥
 
 abbrev pub IsGoneUser : Rows → ℕ → Type 0

@@ -1,5 +1,6 @@
 -- Registrations by a single-use key.
 use Rattle.std.specs.Prelude.{◌≡◌, ℕ, List, false, Option, Some, Ok}
+use Rattle.tail_base.specs.declared.key.MachineKey.{MachineKey}
 use Rattle.net_rows.specs.declared.key.AuthKey.{AuthKey}
 use Rattle.net_rows.specs.declared.machine.Machine.{Machine}
 use Rattle.net_rows.specs.declared.pending.Pending.{Pending}
@@ -24,11 +25,12 @@ pub record PutsByKey (s : State) (d : Decision MachineAnswer) (key : AuthKey) : 
   pub pending : Option Pending
   pub change : d.change ≡ Some (row_change s.rows machine next (Some key) pending)
 
--- The decision puts a machine's row by the key of this text, which may be used.
-pub record PutsByText (s : State) (d : Decision MachineAnswer) (text : List ℕ) : Type 0 where
+-- The decision puts the row of the machine of this key by the pre-auth key of this text, which may be used.
+pub record PutsByText (s : State) (d : Decision MachineAnswer) (mk : MachineKey) (text : List ℕ) : Type 0 where
   pub key : AuthKey
   pub usable : usable_key s text ≡ Ok key
   pub puts : PutsByKey s d key
+  pub whose : puts.machine.machine ≡ mk
 
 -- What is decided puts a machine's row by the key of this id, which isn't reusable.
 pub record TakesKey (s : State) (x : MachineAsk) (words : Option (List ℕ)) (id : ℕ) : Type 0 where

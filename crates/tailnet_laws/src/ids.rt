@@ -7,8 +7,8 @@ ghost use Rattle.tailnet_desk.specs.History.{Legal, replay};
 ghost use Rattle.tailnet_desk.specs.declared.entry.Entry.{Entry};
 ghost use Rattle.tailnet_laws.specs.Gone.{IsGoneKey, IsGoneMachine, IsGonePending, IsGoneUser};
 
-/// An id that was given to a row, and that no row has any more, is no row's again in any legal
-/// history.
+/// An id below the next one of its kind, as that of each row that was removed, and that no row has,
+/// is no row's again in any legal history.
 pub fn gone_ids_stay_gone()
     ensures users { (s : State) (count : ℕ) (es : List Entry) (id : ℕ)
         → AreSettings s.settings → AreSound s.rows → Legal s count es

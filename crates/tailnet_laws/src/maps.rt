@@ -21,8 +21,8 @@ ghost use Rattle.tailnet_desk.specs.declared.reply.Answer.TheVariants as answer;
 ghost use Rattle.tailnet_desk.specs.declared.reply.Reply.TheVariants.{Done};
 ghost use Rattle.tailnet_laws.specs.Shown.{Hides, IsExpired};
 
-/// A machine whose node key has expired is in no map that is decided on for a machine, and so in none
-/// that a step replies.
+/// A machine whose node key has expired is in no map that is decided on for a machine, and so in
+/// none that a step replies.
 pub fn expired_machines_are_in_no_map()
     ensures hides { (s : State) (m : Machine) (x : MachineAsk) (words : Option (List ℕ))
         (d : Decision MachineAnswer) (map : Response) → AreSound s.rows → IsExpired s m
