@@ -1,4 +1,5 @@
 pub mod EndLemmas
+pub mod FitLemmas
 pub mod MatchLemmas
 pub mod ReachLemmas
 pub mod SetLemmas

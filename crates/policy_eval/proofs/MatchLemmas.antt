@@ -1,7 +1,8 @@
 -- Lists that go together place by place.
-use Rattle.std.proofs.Common.{◌≡◌, ◌<◌, ◌+◌, ℕ, zero, suc, Bool, List, [], ◌∷◌, ◌++◌, length, add-one, drop, drop-cons, get_or, take, append_assoc, arith, refl, ap, sym, ◌∙◌, inl, inr, subst, if◌then◌else◌}
+use Rattle.std.proofs.Common.{◌≡◌, ◌<◌, ◌≤◌, ◌+◌, ℕ, zero, suc, Bool, List, [], ◌∷◌, ◌++◌, length, add-one, drop, drop-cons, get_or, take, append_assoc, arith, refl, ap, sym, ◌∙◌, inl, inr, subst, if◌then◌else◌}
 use Rattle.std.specs.Prelude.{Contains, filter, map, slice_index_or}
 use Rattle.std.proofs.lemmas.Bool.{cases_Bool}
+use Rattle.std.proofs.Math.Seq.{take-length}
 use Rattle.std.proofs.lemmas.List.{take_more}
 use Rattle.net_rows.proofs.Members.{cut_last}
 use Rattle.policy_eval.specs.Expansion.{AreMatched}
@@ -62,3 +63,10 @@ gathered_more {A} {B} test f xs i out new x all lt is told put =
     let step = taken_more test f out x (drop (i + 1) xs) in
     let whole : out ++ map f (filter test (x ∷ drop (i + 1) xs)) ≡ all = ap (λ (zs : List A). out ++ map f (filter test zs)) (sym cut) ∙ told in
     ap (λ (zs : List B). zs ++ map f (filter test (drop (i + 1) xs))) put ∙ (step ∙ whole)
+
+-- what is told of the elements up to the end is told of all
+pub told_all : {A : Type 0} (P : A → Type 0) (xs : List A) (i : ℕ) → i ≤ length xs → length xs ≤ i → ((a : A) → Contains (take i xs) a → P a) → (a : A) → Contains xs a → P a
+told_all {A} P xs i below past told a m =
+    let end : i ≡ length xs = omega arith in
+    let whole : take i xs ≡ xs = ap (λ (n : ℕ). take n xs) end ∙ take-length xs in
+    told a (subst (λ (zs : List A). Contains zs a) (sym whole) m)

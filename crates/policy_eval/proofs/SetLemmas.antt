@@ -21,11 +21,11 @@ use Rattle.policy_eval.specs.declared.site.Site.{Site}
 use Rattle.tail_base.proofs.Bools.{same_tests}
 use Rattle.net_rows.proofs.Members.{find_member, find_none, list_any_found, list_any_is}
 
-or_false : (a : Bool) → (a || false) ≡ a
+pub or_false : (a : Bool) → (a || false) ≡ a
 or_false true = refl
 or_false false = refl
 
-or_assoc : (a b c : Bool) → ((a || b) || c) ≡ (a || (b || c))
+pub or_assoc : (a b c : Bool) → ((a || b) || c) ≡ (a || (b || c))
 or_assoc true b c = refl
 or_assoc false b c = refl
 
@@ -52,17 +52,17 @@ held_found : (groups : List Group) (selector : Selector) (addr : Address) (sites
     → list_any (site_named groups selector addr) sites ≡ option_map_or (names_holder groups selector) (option_map holder_of o) false
 held_found groups selector addr sites h None e =
     false_from_ne_true (list_any (site_named groups selector addr) sites) (λ found.
-      let x = list_any_found (site_named groups selector addr) sites found in
-      let p = and_parts (site_has addr x.0) (names_holder groups selector (holder_of x.0)) x.2 in
-      both_ways (site_has addr x.0) (find_none (site_has addr) sites e x.0 x.1) p.0)
+    let x = list_any_found (site_named groups selector addr) sites found in
+    let p = and_parts (site_has addr x.0) (names_holder groups selector (holder_of x.0)) x.2 in
+    both_ways (site_has addr x.0) (find_none (site_has addr) sites e x.0 x.1) p.0)
 held_found groups selector addr sites h (Some y) e =
     let at = find_member (site_has addr) sites y e in
     same_tests (list_any (site_named groups selector addr) sites) (names_holder groups selector (holder_of y))
     (λ found.
-      let x = list_any_found (site_named groups selector addr) sites found in
-      let p = and_parts (site_has addr x.0) (names_holder groups selector (holder_of x.0)) x.2 in
-      let same : x.0 ≡ y = h addr x.0 y x.1 at.0 p.0 at.1 in
-      subst (λ (z : Site). names_holder groups selector (holder_of z) ≡ true) same p.1)
+    let x = list_any_found (site_named groups selector addr) sites found in
+    let p = and_parts (site_has addr x.0) (names_holder groups selector (holder_of x.0)) x.2 in
+    let same : x.0 ≡ y = h addr x.0 y x.1 at.0 p.0 at.1 in
+    subst (λ (z : Site). names_holder groups selector (holder_of z) ≡ true) same p.1)
     (λ named. list_any_is (site_named groups selector addr) sites y at.0 (and_from (site_has addr y) (names_holder groups selector (holder_of y)) at.1 named))
 
 -- of the sites that have the address and whose holders are named there is one exactly where the

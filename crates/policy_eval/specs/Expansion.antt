@@ -66,4 +66,4 @@ pub record RuleFits (groups : List Group) (sites : List Site) (r : Rule) (sets :
 pub record SetsFit (x : Expansion) (sets : List RuleSets) : Type 0 where
   pub distinct : AreDistinct x.sites
   pub sound : AreSoundRules x.rules
-  pub sets : AreMatched (RuleFits x.groups x.sites) x.rules sets
+  pub matched : AreMatched (RuleFits x.groups x.sites) x.rules sets

@@ -10,7 +10,7 @@ ghost use Rattle.policy_eval.specs.Sites.{AreDistinct};
 
 use crate::end::End;
 use crate::granting::some_rule_grants;
-use crate::rule_sets::{RuleSets, sets_of_rules};
+use crate::rule_sets::{RuleSets, set_at, sets_at, sets_of_rules};
 use crate::rules::{groups_of, look_at_rules, rules_of};
 use crate::site::{Site, sites_of};
 use net_rows::Tables;
@@ -94,7 +94,8 @@ impl Expanded {
         ensures held { (d : Rule) → IsSetOf result.now (source_covers self.now.groups self.now.sites
             (slice_index_or self.now.rules rule d)) }
     {
-        &self.sets.as_slice()[rule].sources
+        let sets = sets_at(self.sets.as_slice(), rule);
+        &sets.sources
     }
 
     /// The addresses that that destination of that rule covers; none for `autogroup:self`.
@@ -106,7 +107,8 @@ impl Expanded {
             (entry_covers self.now.groups self.now.sites
             (slice_index_or (slice_index_or self.now.rules rule d).dests entry e)) }
     {
-        &self.sets.as_slice()[rule].dests.as_slice()[entry]
+        let sets = sets_at(self.sets.as_slice(), rule);
+        set_at(sets.dests.as_slice(), entry)
     }
 
     /// Whether some rule grants the flow. It takes no memory.

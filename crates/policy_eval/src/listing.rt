@@ -2,6 +2,8 @@
 ghost use Rattle.std.specs.Prelude.{◌≡◌, ◌<◌, ◌||◌, OnOk, true};
 ghost use Rattle.std.specs.List.{list_any};
 ghost use Rattle.net_addr.specs.Bits.{Address, family_size};
+ghost use Rattle.net_addr.specs.Blocks.{holds};
+ghost use Rattle.net_rows.specs.Damage.{address_eq};
 ghost use Rattle.policy_rows.specs.Internet.{is_internet};
 ghost use Rattle.range_sets.specs.Sets.{some_holds};
 ghost use Rattle.policy_eval.specs.Covers.{covers};
@@ -10,11 +12,20 @@ ghost use Rattle.policy_eval.specs.Expansion.{site_named};
 ghost use Rattle.policy_eval.specs.Sites.{AreDistinct, site_has};
 
 use crate::site::Site;
-use net_addr::Prefix;
+use net_addr::{Addr, Prefix};
 use policy_rows::{Group, Selector, internet_nets, is_named, not_internet};
 use range_sets::RangeSet;
 use std::alloc::Global;
 use tail_base::{Items, NoMemory};
+
+/// Adds a prefix.
+#[tactic(auto, using(crate::proofs::SetLemmas::set_steps))]
+fn add_one(out: &mut Items<Prefix>, net: Prefix) -> Result<(), NoMemory>
+    ensures held { OnOk result ((addr : Address)
+        → some_holds out.new addr ≡ (some_holds out.old addr || holds net addr)) }
+{
+    out.push(net)
+}
 
 /// Adds prefixes.
 #[tactic(auto, using(crate::proofs::SetLemmas::set_steps))]
@@ -23,7 +34,7 @@ fn add_all(out: &mut Items<Prefix>, more: &[Prefix]) -> Result<(), NoMemory>
         → some_holds out.new addr ≡ (some_holds out.old addr || some_holds more.now addr)) }
 {
     for net in more {
-        out.push(*net)?;
+        add_one(out, *net)?;
     }
     Ok(())
 }
@@ -50,14 +61,23 @@ fn add_internet(alloc: Global, out: &mut Items<Prefix>) -> Result<(), NoMemory>
     add_all(out, public.as_slice())
 }
 
+/// Adds an address.
+#[tactic(auto, using(crate::proofs::SetLemmas::set_steps))]
+fn add_address(out: &mut Items<Prefix>, own: Addr) -> Result<(), NoMemory>
+    ensures held { OnOk result ((addr : Address)
+        → some_holds out.new addr ≡ (some_holds out.old addr || address_eq own addr)) }
+{
+    add_one(out, Prefix::of_addr(own))
+}
+
 /// Adds the addresses of a site.
 #[tactic(auto, using(crate::proofs::SetLemmas::set_steps))]
 fn add_addresses(out: &mut Items<Prefix>, site: &Site) -> Result<(), NoMemory>
     ensures held { OnOk result ((addr : Address)
         → some_holds out.new addr ≡ (some_holds out.old addr || site_has addr site.now)) }
 {
-    out.push(Prefix::of_addr(site.v4))?;
-    out.push(Prefix::of_addr(site.v6))
+    add_address(out, site.v4)?;
+    add_address(out, site.v6)
 }
 
 /// Adds the addresses of a site, where the selector names its holder.
@@ -93,7 +113,7 @@ fn add_sites(
 ) -> Result<(), NoMemory>
     ensures held { OnOk result ((addr : Address) → some_holds out.new addr
         ≡ (some_holds out.old addr
-            || list_any (site_named groups.now selector.now addr) sites.now)) }
+        || list_any (site_named groups.now selector.now addr) sites.now)) }
 {
     for site in sites {
         add_named(out, groups, selector, site)?;

@@ -1,9 +1,10 @@
 //! The sets of addresses that rules cover.
-ghost use Rattle.std.specs.Prelude.{◌≡◌, ◌<◌, ◌||◌, IfOk};
+ghost use Rattle.std.specs.Prelude.{◌≡◌, ◌<◌, IfOk, length, slice_index_or};
 ghost use Rattle.net_addr.specs.Bits.{Address, family_size};
-ghost use Rattle.range_sets.specs.Sets.{has, some_holds};
+ghost use Rattle.range_sets.specs.Sets.{Ranges, some_holds};
 ghost use Rattle.policy_eval.specs.Expansion.{AreMatched, EntryFits, IsSetOf, RuleFits, entry_covers, source_covers};
 ghost use Rattle.policy_eval.specs.Sites.{AreDistinct};
+ghost use Rattle.policy_eval.specs.declared.rule_sets.RuleSets.{RuleSets};
 
 use crate::listing::add_covered;
 use crate::site::Site;
@@ -112,4 +113,20 @@ pub(crate) fn sets_of_rules(
         made.push(sets)?;
     }
     Ok(made)
+}
+
+/// The sets at a place.
+pub(crate) fn sets_at(sets: &[RuleSets], place: usize) -> &RuleSets
+    requires inside { place < length sets.now }
+    ensures value { (d : RuleSets) → result.now ≡ slice_index_or sets.now place d }
+{
+    &sets[place]
+}
+
+/// The set at a place.
+pub(crate) fn set_at(sets: &[RangeSet], place: usize) -> &RangeSet
+    requires inside { place < length sets.now }
+    ensures value { (d : Ranges) → result.now ≡ slice_index_or sets.now place d }
+{
+    &sets[place]
 }

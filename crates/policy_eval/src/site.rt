@@ -85,10 +85,11 @@ fn sites_among(
 }
 
 /// The sites of the machines that are live, whose ids are listed.
-#[tactic(auto, using(crate::proofs::SiteLemmas::one_site))]
 pub fn sites_of(alloc: Global, tables: &Tables, live: &[u32]) -> Result<Items<Site>, NoMemory>
     ensures value { IfOk result (λ sites. sites ≡ sites_of tables.now.rows live.now) }
     ensures distinct { IfOk result AreDistinct }
 {
-    sites_among(alloc, tables, tables.machines(), live)
+    let machines = tables.machines();
+    let sites = sites_among(alloc, tables, machines, live)?;
+    Ok(sites)
 }

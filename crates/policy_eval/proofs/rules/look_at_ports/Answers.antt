@@ -5,4 +5,4 @@ use Rattle.policy_eval.proofs.rules.look_at_ports.Goals as goal
 
 pub loop-entry-preserved : goal.loop-entry-preserved
 loop-entry-preserved c =
-    told_more (λ (e : Dest). IsPorts e.ports) c.args.entries.now c.loop-entry.entry-index c.entry-item.result c.loop-entry-test.true c.entry-item.is c.loop-entry.invariant c.ranges.ensures.sound
+    told_more (λ (e : Dest). IsPorts e.ports) c.args.entries.now c.loop-entry.entry-index c.entry-item.result c.loop-entry-test.true c.entry-item.is c.loop-entry.invariant c.ranges-in-loop-entry.ensures.sound
