@@ -1,5 +1,5 @@
 -- The end at a site's own address.
-use Rattle.std.proofs.Common.{◌≡◌, Bool, true, List, refl, ap, sym}
+use Rattle.std.proofs.Common.{◌≡◌, true, List, refl, ap}
 use Rattle.std.specs.Prelude.{Contains, Option, Some, None}
 use Rattle.std.specs.List.{find}
 use Rattle.std.specs.Option.{option_map}
@@ -8,7 +8,6 @@ use Rattle.net_addr.specs.Bits.{Address}
 use Rattle.net_rows.proofs.Members.{find_member, find_none}
 use Rattle.policy_eval.specs.Ends.{end_at, holder_of}
 use Rattle.policy_eval.specs.Sites.{AreDistinct, site_has}
-use Rattle.policy_eval.specs.declared.end.End.{End}
 use Rattle.policy_eval.specs.declared.end.Holder.{Holder}
 use Rattle.policy_eval.specs.declared.site.Site.{Site}
 

@@ -5,7 +5,7 @@ use Rattle.range_sets.specs.Sets.{Ranges}
 use Rattle.policy_rows.specs.declared.dest.Dest.{Dest}
 use Rattle.policy_rows.specs.declared.group.Group.{Group}
 use Rattle.policy_rows.specs.declared.rule.Rule.{Rule}
-use Rattle.policy_eval.specs.Expansion.{AreMatched, EntryFits, Expansion, IsSetOf, RuleFits, SetsFit, entry_covers, source_covers}
+use Rattle.policy_eval.specs.Expansion.{AreMatched, EntryFits, Expansion, RuleFits, SetsFit}
 use Rattle.policy_eval.specs.declared.rule_sets.RuleSets.{RuleSets}
 use Rattle.policy_eval.specs.declared.site.Site.{Site}
 use Rattle.policy_eval.proofs.MatchLemmas.{matched_at, matched_length}

@@ -1,5 +1,5 @@
 -- A search over flows is a search over rules and their destinations.
-use Rattle.std.proofs.Common.{◌≡◌, ◌<◌, ◌^◌, ◌&&◌, ◌==◌, ◌||◌, ℕ, Bool, true, false, not, List, [], ◌∷◌, arith, refl, inl, inr}
+use Rattle.std.proofs.Common.{◌≡◌, ◌<◌, ◌^◌, ◌&&◌, ◌==◌, ℕ, Bool, true, false, not, List, arith, refl}
 use Rattle.std.specs.Prelude.{Contains, Option, Some, None}
 use Rattle.std.specs.List.{list_any}
 use Rattle.std.proofs.lemmas.Bool.{and_from, and_parts, or_left, or_right, eq-eqb}
@@ -10,8 +10,8 @@ use Rattle.net_addr.specs.Bits.{Address, family_size}
 use Rattle.net_addr.specs.Searches.{some_address}
 use Rattle.net_addr.proofs.SearchLemmas.{address_finds, address_found}
 use Rattle.net_rows.proofs.Members.{list_any_found, list_any_is}
-use Rattle.port_sets.specs.Protocols.{IsProtos, has_member, is_ported, members}
-use Rattle.port_sets.specs.Ranges.{IsPorts, holds}
+use Rattle.port_sets.specs.Protocols.{IsProtos, has_member, is_ported}
+use Rattle.port_sets.specs.Ranges.{holds}
 use Rattle.port_sets.proofs.RangeLemmas.{one_held}
 use Rattle.policy_rows.specs.declared.dest.Dest.{Dest}
 use Rattle.policy_rows.specs.declared.group.Group.{Group}
@@ -19,7 +19,7 @@ use Rattle.policy_rows.specs.declared.policy.Policy.{Policy}
 use Rattle.policy_rows.specs.declared.rule.Rule.{Rule}
 use Rattle.policy_eval.specs.Covers.{dest_covers}
 use Rattle.policy_eval.specs.Ends.{end_at}
-use Rattle.policy_eval.specs.Grants.{entry_grants, grants, groups_of, ports_hold, rule_grants, rules_of, some_rule_grants, some_source}
+use Rattle.policy_eval.specs.Grants.{entry_grants, groups_of, ports_hold, rule_grants, rules_of, some_rule_grants, some_source}
 use Rattle.policy_eval.specs.Reach.{AreSoundRules, IsSoundRule, entry_reaches, reaches_into, rule_reaches}
 use Rattle.policy_eval.specs.declared.end.End.{End}
 use Rattle.policy_eval.specs.declared.site.Site.{Site}

@@ -1,12 +1,11 @@
 -- The addresses that prefixes hold, as lists of prefixes grow.
 use Rattle.std.proofs.Common.{◌≡◌, ◌+◌, ℕ, Bool, true, false, ◌&&◌, ◌||◌, List, [], ◌∷◌, ◌++◌, arith, eqb, leb, refl, ap, sym, ◌∙◌, subst}
-use Rattle.std.specs.Prelude.{Contains, Option, Some, None}
+use Rattle.std.specs.Prelude.{Option, Some, None}
 use Rattle.std.specs.Bool.{beq}
 use Rattle.std.specs.List.{find, list_any}
 use Rattle.std.specs.Option.{option_map, option_map_or}
 use Rattle.std.proofs.lemmas.Bool.{and_from, and_parts, both_ways, false_from_ne_true}
 use Rattle.std.proofs.lemmas.Bool.Decides.{nat_tests}
-use Rattle.std.proofs.lemmas.List.Folds.{list_any-append}
 use Rattle.net_addr.specs.Bits.{Address, Block}
 use Rattle.net_addr.specs.Blocks.{holds, prefix_of_addr}
 use Rattle.net_rows.specs.Damage.{address_eq}

@@ -1,10 +1,10 @@
 -- In tables that keep their rules an address has at most one site.
-use Rattle.std.proofs.Common.{◌≡◌, ◌==◌, ℕ, Bool, true, false, List, [], ◌∷◌, arith, refl, ap, sym, ◌∙◌, inl, inr, subst}
+use Rattle.std.proofs.Common.{◌≡◌, ◌==◌, ℕ, Bool, true, false, List, [], ◌∷◌, ap, sym, ◌∙◌, inl, inr, subst}
 use Rattle.std.specs.Prelude.{Contains, Some, None, filter, map}
 use Rattle.std.specs.Bool.{beq}
 use Rattle.std.proofs.lemmas.Bool.{and_parts, cases_Bool, eqb-true, or_cases}
 use Rattle.tail_base.proofs.Bools.{beq-true}
-use Rattle.net_addr.specs.Bits.{Address, Block}
+use Rattle.net_addr.specs.Bits.{Address}
 use Rattle.net_addr.specs.Blocks.{holds}
 use Rattle.net_addr.specs.Tailnet.{tailnet_v4, tailnet_v6}
 use Rattle.net_addr.proofs.BlockLemmas.{holds_parts}

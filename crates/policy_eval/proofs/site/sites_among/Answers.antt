@@ -1,6 +1,3 @@
-use Rattle.std.proofs.Common.{◌≡◌, ◌∷◌, ◌++◌, ◌∙◌, ◌+◌, [], List, get_or, drop, ap, sym}
-use Rattle.std.specs.Prelude.{map, filter}
-use Rattle.net_rows.specs.declared.machine.Machine.{Machine}
 use Rattle.policy_eval.specs.Sites.{is_among, site_of}
 use Rattle.policy_eval.proofs.MatchLemmas.{gathered_more}
 use Rattle.policy_eval.proofs.site.sites_among.Goals as goal

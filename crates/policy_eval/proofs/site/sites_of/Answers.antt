@@ -1,4 +1,4 @@
-use Rattle.std.proofs.Common.{◌≡◌, ◌∙◌, List, ap, sym, subst}
+use Rattle.std.proofs.Common.{◌∙◌, List, ap, sym, subst}
 use Rattle.std.specs.Prelude.{filter, map}
 use Rattle.net_rows.specs.declared.machine.Machine.{Machine}
 use Rattle.policy_eval.specs.Sites.{AreDistinct, is_among, site_of}
