@@ -1,0 +1,12 @@
+use Rattle.std.proofs.Common.{◌∙◌, List, ap, sym, subst}
+use Rattle.std.specs.Prelude.{filter, map}
+use Rattle.net_rows.specs.declared.machine.Machine.{Machine}
+use Rattle.policy_eval.specs.Sites.{AreDistinct, is_among, site_of}
+use Rattle.policy_eval.specs.declared.site.Site.{Site}
+use Rattle.policy_eval.proofs.SiteLemmas.{one_site}
+use Rattle.policy_eval.proofs.site.sites_of.Goals as goal
+
+pub returns-clause-distinct : goal.returns-clause-distinct
+returns-clause-distinct c =
+    let all = ap (λ (ms : List Machine). map (site_of c.args.tables.now.rows.users) (filter (is_among c.args.live.now) ms)) c.machines-machines.ensures.value in
+    subst (λ (ss : List Site). AreDistinct ss) (sym (c.in_ok-sites.ensures.value ∙ all)) (one_site c.args.tables.now.rows c.args.live.now c.machines-machines.ensures.sound)

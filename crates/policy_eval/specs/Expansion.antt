@@ -1,0 +1,69 @@
+-- A policy expanded over sites: for each rule the sets of addresses that it covers.
+use Rattle.std.specs.Prelude.{◌≡◌, ◌<◌, ◌&&◌, ℕ, Bool, List, [], ◌∷◌, Option}
+use Rattle.net_addr.specs.Bits.{Address, family_size}
+use Rattle.range_sets.specs.Sets.{Ranges, has}
+use Rattle.policy_rows.specs.declared.dest.Dest.{Dest}
+use Rattle.policy_rows.specs.declared.group.Group.{Group}
+use Rattle.policy_rows.specs.declared.policy.Policy.{Policy}
+use Rattle.policy_rows.specs.declared.rule.Rule.{Rule}
+use Rattle.policy_rows.specs.declared.selector.Selector.{Selector}
+use Rattle.net_rows.specs.declared.rows.Rows.{Rows}
+use Rattle.policy_eval.specs.Covers.{covers, names_holder}
+use Rattle.policy_eval.specs.Ends.{end_at, holder_of}
+use Rattle.policy_eval.specs.Grants.{groups_of, rules_of, some_source}
+use Rattle.policy_eval.specs.Reach.{AreSoundRules}
+use Rattle.policy_eval.specs.Sites.{AreDistinct, site_has, sites_of}
+use Rattle.policy_eval.specs.declared.rule_sets.RuleSets.{RuleSets}
+use Rattle.policy_eval.specs.declared.site.Site.{Site}
+
+-- What was expanded over which sites.
+pub record Expansion : Type 0 where
+  pub groups : List Group
+  pub rules : List Rule
+  pub sites : List Site
+
+-- a policy expanded over the machines that are live, whose ids these are
+abbrev pub expansion_of : Option Policy → Rows → List ℕ → Expansion
+expansion_of policy rows live = record {
+  groups = groups_of policy;
+  rules = rules_of policy;
+  sites = sites_of rows live;
+}
+
+-- of the addresses that there are, the set has those that pass the test
+abbrev pub IsSetOf : Ranges → (Address → Bool) → Type 0
+IsSetOf set test = (addr : Address) → addr.bits < family_size addr.v6 → has set addr ≡ test addr
+
+-- a source of the rule covers the address and its holder
+abbrev pub source_covers : List Group → List Site → Rule → Address → Bool
+source_covers groups sites r addr = some_source groups r (end_at sites addr)
+
+-- the destination covers them; `autogroup:self`, which takes a source, covers none
+abbrev pub entry_covers : List Group → List Site → Dest → Address → Bool
+entry_covers groups sites entry addr = covers groups entry.to (end_at sites addr)
+
+-- the site has the address, and the selector names its holder
+abbrev pub site_named : List Group → Selector → Address → Site → Bool
+site_named groups selector addr site = site_has addr site && names_holder groups selector (holder_of site)
+
+-- the lists are of one length, and go together place by place
+abbrev pub AreMatched : {A B : Type 0} → (A → B → Type 0) → List A → List B → Type 0
+AreMatched Fits [] [] = Unit {0}
+AreMatched Fits [] (y ∷ ys) = ⊥
+AreMatched Fits (x ∷ xs) [] = ⊥
+AreMatched Fits (x ∷ xs) (y ∷ ys) = Fits x y × AreMatched Fits xs ys
+
+-- the set of a destination
+abbrev pub EntryFits : List Group → List Site → Dest → Ranges → Type 0
+EntryFits groups sites entry set = IsSetOf set (entry_covers groups sites entry)
+
+-- the sets of a rule
+pub record RuleFits (groups : List Group) (sites : List Site) (r : Rule) (sets : RuleSets) : Type 0 where
+  pub sources : IsSetOf sets.sources (source_covers groups sites r)
+  pub dests : AreMatched (EntryFits groups sites) r.dests sets.dests
+
+-- the sets are those of the rules, place by place
+pub record SetsFit (x : Expansion) (sets : List RuleSets) : Type 0 where
+  pub distinct : AreDistinct x.sites
+  pub sound : AreSoundRules x.rules
+  pub matched : AreMatched (RuleFits x.groups x.sites) x.rules sets

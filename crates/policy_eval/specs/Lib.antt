@@ -1,0 +1,6 @@
+pub mod Covers
+pub mod Ends
+pub mod Expansion
+pub mod Grants
+pub mod Reach
+pub mod Sites

@@ -1,0 +1,31 @@
+//! Laws of the definitions. None of these functions does anything: each states a law.
+ghost use Rattle.std.specs.Prelude.{◌≡◌, ℕ, Bool, Contains, List, None, Option, Some, true};
+ghost use Rattle.std.specs.List.{list_any};
+ghost use Rattle.net_addr.specs.Bits.{Address};
+ghost use Rattle.net_rows.specs.Damage.{damage};
+ghost use Rattle.net_rows.specs.declared.rows.Rows.{Rows};
+ghost use Rattle.policy_rows.specs.declared.policy.Policy.{Policy};
+ghost use Rattle.policy_eval.specs.Ends.{end_at, holder_of};
+ghost use Rattle.policy_eval.specs.Grants.{groups_of, rules_of};
+ghost use Rattle.policy_eval.specs.Reach.{AreSoundRules, reaches_into, rule_reaches};
+ghost use Rattle.policy_eval.specs.Sites.{AreDistinct, site_has, sites_of};
+ghost use Rattle.policy_eval.specs.declared.end.End.{End};
+ghost use Rattle.policy_eval.specs.declared.site.Site.{Site};
+
+/// A search over protocols, ports and addresses is one over rules and their destinations.
+pub fn a_reach_is_by_rules()
+    ensures same { (policy : Option Policy) (sites : List Site) (target : Address → Bool) (s : End)
+        → AreSoundRules (rules_of policy)
+        → reaches_into policy sites target s
+        ≡ list_any (rule_reaches (groups_of policy) sites target s) (rules_of policy) }
+{}
+
+/// In tables that keep their rules an address has at most one site; and where it has one, that site
+/// holds the end.
+pub fn an_address_has_one_site()
+    ensures one { (rows : Rows) (live : List ℕ) → damage rows ≡ None
+        → AreDistinct (sites_of rows live) }
+    ensures own { (sites : List Site) (addr : Address) (site : Site) → AreDistinct sites
+        → Contains sites site → site_has addr site ≡ true
+        → end_at sites addr ≡ record { addr = Some addr; holder = Some (holder_of site) } }
+{}

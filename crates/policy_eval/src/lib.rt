@@ -1,0 +1,18 @@
+//! Policies in force over the live machines of a tailnet: which flows they grant, and which addresses
+//! their rules cover.
+#![tactic(auto)]
+
+mod covering;
+mod end;
+mod expanded;
+mod granting;
+mod laws;
+mod listing;
+mod rule_sets;
+mod rules;
+mod site;
+
+pub use end::{End, Holder};
+pub use expanded::Expanded;
+pub use laws::{a_reach_is_by_rules, an_address_has_one_site};
+pub use site::{Site, sites_of};
