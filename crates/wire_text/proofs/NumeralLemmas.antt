@@ -64,5 +64,5 @@ hex_more n large small =
     ]
 
 -- a text, and then another
-pub appended : {a b d fs gs ds : List ℕ} → b ≡ a ++ fs → d ≡ b ++ gs → ds ≡ fs ++ gs → d ≡ a ++ ds
-appended {a} {b} {d} {fs} {gs} p q r = q ∙ ap (λ xs. xs ++ gs) p ∙ append_assoc a fs gs ∙ ap (λ xs. a ++ xs) (sym r)
+pub appended : (a fs gs : List ℕ) {b d ds : List ℕ} → b ≡ a ++ fs → d ≡ b ++ gs → ds ≡ fs ++ gs → d ≡ a ++ ds
+appended a fs gs p q r = q ∙ ap (λ xs. xs ++ gs) p ∙ append_assoc a fs gs ∙ ap (λ xs. a ++ xs) (sym r)
