@@ -30,10 +30,10 @@ found_by_halves ids k (Ok i) up inside at = sym (list_any_at (λ other. other ==
 found_by_halves ids k (Err i) up inside at =
     let parts = at (λ a b d le below. rises (get_or ids a d) (get_or ids b d) k (up a b d le below)) in
     sym (list_any_none (λ other. other == k) ids (λ j d below.
-        elim (cases_lt j i) [
-          | inl before ↦ less (get_or ids j d) k (parts.0 j d (omega arith) before)
-          | inr behind ↦ greater (get_or ids j d) k (parts.1 j d behind below)
-        ]))
+    elim (cases_lt j i) [
+      | inl before ↦ less (get_or ids j d) k (parts.0 j d (omega arith) before)
+      | inr behind ↦ greater (get_or ids j d) k (parts.1 j d behind below)
+    ]))
 
 -- ids that were found to rise do
 pub found_to_rise : (ids : List ℕ) (r : Bool) → IsAllAdjacentAnswer (λ x y b. is_some_and is_le (Some (nat_cmp x y)) ≡ b) ids r → r ≡ true → IsNonDecreasingBy (λ id. id) ids

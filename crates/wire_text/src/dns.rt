@@ -90,11 +90,7 @@ impl TokenForm for Resolver {
     }
 }
 
-fn write_each_resolver(
-    addrs: &[Addr],
-    room: &mut String,
-    out: &mut Writer,
-) -> Result<(), NoMemory>
+fn write_each_resolver(addrs: &[Addr], room: &mut String, out: &mut Writer) -> Result<(), NoMemory>
     ensures adds { OnOk result (Adds (each_tokens resolver_data addrs.now) out.old out.new) }
 {
     for addr in addrs {

@@ -32,11 +32,7 @@ impl TokenForm for Span {
     }
 }
 
-fn write_each_span(
-    prefixes: &[Prefix],
-    room: &mut String,
-    out: &mut Writer,
-) -> Result<(), NoMemory>
+fn write_each_span(prefixes: &[Prefix], room: &mut String, out: &mut Writer) -> Result<(), NoMemory>
     ensures adds { OnOk result (Adds (each_tokens span_data prefixes.now) out.old out.new) }
 {
     for prefix in prefixes {

@@ -29,17 +29,17 @@ impl<'a> Model for ResponseParts<'a> {
     ghost Value = { Response };
 
     ghost view = { λ a. record {
-        handle = option_copied a.handle;
-        seq = a.seq;
-        node = option_copied a.node;
-        filter = option_copied a.filter;
-        dns = option_copied a.dns;
-        domain = option_copied a.domain;
-        peers = a.peers.now;
-        changed = a.changed.now;
-        removed = a.removed.now;
-        patches = a.patches.now;
-        profiles = a.profiles.now;
+      handle = option_copied a.handle;
+      seq = a.seq;
+      node = option_copied a.node;
+      filter = option_copied a.filter;
+      dns = option_copied a.dns;
+      domain = option_copied a.domain;
+      peers = a.peers.now;
+      changed = a.changed.now;
+      removed = a.removed.now;
+      patches = a.patches.now;
+      profiles = a.profiles.now;
     } };
 }
 

@@ -55,11 +55,7 @@ fn by_suffix(alloc: Global, routes: &[DnsRoute]) -> Result<Vec<&DnsRoute>, NoMem
     Ok(made)
 }
 
-fn write_members(
-    routes: &[&DnsRoute],
-    room: &mut String,
-    out: &mut Writer,
-) -> Result<(), NoMemory>
+fn write_members(routes: &[&DnsRoute], room: &mut String, out: &mut Writer) -> Result<(), NoMemory>
     ensures adds { OnOk result
         (Adds (closing_tokens (route_members (behind routes.now))) out.old out.new) }
 {

@@ -7,4 +7,4 @@ use Rattle.wire_text.proofs.TokenLemmas.{then}
 use Rattle.wire_text.proofs.dns.write_type_member.Goals as goal
 
 pub returns : goal.returns
-returns c = record { adds = subst (λ t. Adds (key (codes "Type") ∷ data_tokens (string t)) c.args.out.now c.write_text.new.out) c.record_type.ensures.value (then c.in_ok-write_name.ensures.adds c.in_ok-write_text.ensures.adds); }
+returns c = record { adds = subst (λ t. Adds (key (codes "Type") ∷ data_tokens (string t)) c.args.out.now c.write_text.new.out) c.record_type.ensures.value (then c.in_ok-write_name.ensures.adds c.in_ok-write_text.ensures.adds) }

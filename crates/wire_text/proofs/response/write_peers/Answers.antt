@@ -30,11 +30,11 @@ returns c =
     } in
     record {
       adds = subst (λ (s : Response). Adds (closing_tokens (peer_members s)) c.args.out.now c.end_object.new.out) c.response.view_is (
-        next_some (codes "Peers") (some_array node_data r.peers) (from_changed r) refl c.in_ok-write_list.ensures.adds (
-        next_some (codes "PeersChanged") (some_array node_data r.changed) (from_patches r) refl c.in_ok-write_list-2.ensures.adds (
-        next_some (codes "PeersChangedPatch") (some_array patch_data r.patches) (from_removed r) refl c.in_ok-write_list-3.ensures.adds (
-        next_some (codes "PeersRemoved") (some_array number_data r.removed) (from_seq r) refl c.in_ok-write_list-4.ensures.adds (
-        next_some (codes "Seq") (option_map number_data r.seq) (from_profiles r) refl c.in_ok-write_option.ensures.adds (
-        next_some (codes "UserProfiles") (some_array profile_data r.profiles) ([]) refl c.in_ok-write_list-5.ensures.adds (
-        last c.in_ok-end_object.ensures.adds)))))));
+          next_some (codes "Peers") (some_array node_data r.peers) (from_changed r) refl c.in_ok-write_list.ensures.adds (
+          next_some (codes "PeersChanged") (some_array node_data r.changed) (from_patches r) refl c.in_ok-write_list-2.ensures.adds (
+          next_some (codes "PeersChangedPatch") (some_array patch_data r.patches) (from_removed r) refl c.in_ok-write_list-3.ensures.adds (
+          next_some (codes "PeersRemoved") (some_array number_data r.removed) (from_seq r) refl c.in_ok-write_list-4.ensures.adds (
+          next_some (codes "Seq") (option_map number_data r.seq) (from_profiles r) refl c.in_ok-write_option.ensures.adds (
+          next_some (codes "UserProfiles") (some_array profile_data r.profiles) ([]) refl c.in_ok-write_list-5.ensures.adds (
+          last c.in_ok-end_object.ensures.adds)))))));
     }

@@ -33,10 +33,10 @@ returns c =
     } in
     record {
       adds = subst (λ (s : Response). Adds (data_tokens (response_data s)) c.args.out.now c.write_peers.new.out) c.response.view_is (opened _ c.in_ok-begin_object.ensures.adds (
-        next_some (codes "DNSConfig") (option_map dns_data r.dns) (from_domain r) refl c.in_ok-write_lent.ensures.adds (
-        next_some (codes "Domain") (option_map string r.domain) (from_handle r) refl c.in_ok-write_lent-2.ensures.adds (
-        next_some (codes "MapSessionHandle") (option_map string r.handle) (from_node r) refl c.in_ok-write_lent-3.ensures.adds (
-        next_some (codes "Node") (option_map node_data r.node) (from_filter r) refl c.in_ok-write_lent-4.ensures.adds (
-        next_some (codes "PacketFilter") (option_map (array_data rule_data) r.filter) (from_peers r) refl c.in_ok-write_lent-5.ensures.adds (
-        subst (λ (s : Response). Adds (closing_tokens (peer_members s)) c.write_lent-5.new.out c.write_peers.new.out) (sym c.response.view_is) c.in_ok-write_peers.ensures.adds)))))));
+          next_some (codes "DNSConfig") (option_map dns_data r.dns) (from_domain r) refl c.in_ok-write_lent.ensures.adds (
+          next_some (codes "Domain") (option_map string r.domain) (from_handle r) refl c.in_ok-write_lent-2.ensures.adds (
+          next_some (codes "MapSessionHandle") (option_map string r.handle) (from_node r) refl c.in_ok-write_lent-3.ensures.adds (
+          next_some (codes "Node") (option_map node_data r.node) (from_filter r) refl c.in_ok-write_lent-4.ensures.adds (
+          next_some (codes "PacketFilter") (option_map (array_data rule_data) r.filter) (from_peers r) refl c.in_ok-write_lent-5.ensures.adds (
+          subst (λ (s : Response). Adds (closing_tokens (peer_members s)) c.write_lent-5.new.out c.write_peers.new.out) (sym c.response.view_is) c.in_ok-write_peers.ensures.adds)))))));
     }

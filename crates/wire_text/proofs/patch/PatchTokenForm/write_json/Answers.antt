@@ -26,9 +26,9 @@ returns c =
     let p = c.args.self.now in
     record {
       adds = opened _ c.in_ok-begin_object.ensures.adds (
-        next_some (codes "DERPRegion") (option_map number_data p.derp) (m2 p) refl c.in_ok-write_option.ensures.adds (
-        next_some (codes "DiscoKey") (option_map disco_key_data p.disco) (m3 p) refl c.in_ok-write_option-2.ensures.adds (
-        next_some (codes "Endpoints") (option_map (array_data endpoint_data) p.endpoints) (m4 p) refl c.in_ok-write_option-3.ensures.adds (
-        next_some (codes "NodeID") (Some (number_data p.id)) (m5 p) refl c.in_ok-write_member.ensures.adds (
-        next_some (codes "Online") (option_map boolean p.online) [] refl c.in_ok-write_option-4.ensures.adds (last c.in_ok-end_object.ensures.adds))))));
+          next_some (codes "DERPRegion") (option_map number_data p.derp) (m2 p) refl c.in_ok-write_option.ensures.adds (
+          next_some (codes "DiscoKey") (option_map disco_key_data p.disco) (m3 p) refl c.in_ok-write_option-2.ensures.adds (
+          next_some (codes "Endpoints") (option_map (array_data endpoint_data) p.endpoints) (m4 p) refl c.in_ok-write_option-3.ensures.adds (
+          next_some (codes "NodeID") (Some (number_data p.id)) (m5 p) refl c.in_ok-write_member.ensures.adds (
+          next_some (codes "Online") (option_map boolean p.online) [] refl c.in_ok-write_option-4.ensures.adds (last c.in_ok-end_object.ensures.adds))))));
     }
