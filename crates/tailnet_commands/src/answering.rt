@@ -118,23 +118,23 @@ pub(crate) fn answer_request<T: Turns, O: Sink, C: Clock, N: Entropy>(
     ensures goes_on { OnOk result (last ≡ false) }
 {
     let close = closes(request.close, last);
-    match front.wanted(alloc, request) {
-        Err(NoMemory) => finish(send(output, no_memory_answer(close)), close),
-        Ok(Wanted::Fault { body }) => finish_early(answer_fixed(
+    let Ok(wanted) = front.wanted(alloc, request) else {
+        return finish(send(output, no_memory_answer(close)), close);
+    };
+    match &wanted {
+        Wanted::Fault { body } => finish_early(answer_fixed(
             alloc,
             output,
             StatusCode::BAD_REQUEST,
             body.as_slice(),
             true,
         )),
-        Ok(Wanted::Answer { status, body }) => {
-            finish(
-                answer_fixed(alloc, output, status, body.as_slice(), close),
-                close,
-            )
-        }
-        Ok(Wanted::Ask(ask)) => finish(
-            answer_ask(alloc, front, turns, output, clock, entropy, &ask, close),
+        Wanted::Answer { status, body } => finish(
+            answer_fixed(alloc, output, *status, body.as_slice(), close),
+            close,
+        ),
+        Wanted::Ask(ask) => finish(
+            answer_ask(alloc, front, turns, output, clock, entropy, ask, close),
             close,
         ),
     }

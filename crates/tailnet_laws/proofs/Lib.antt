@@ -1,0 +1,14 @@
+mod Entered
+mod Every
+mod GoneIds
+mod Growth
+mod Hiding
+mod LiveMachines
+mod MachinePuts
+mod OperatorPuts
+mod Puts
+mod Replied
+mod SpentKeys
+mod Steps
+mod Taken
+mod UsedKeys

@@ -1,0 +1,5 @@
+pub mod Entering
+pub mod Entrances
+pub mod Gone
+pub mod KeyUse
+pub mod Shown

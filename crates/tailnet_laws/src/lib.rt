@@ -1,0 +1,15 @@
+//! What users of a tailnet may rely on, whatever is asked of its server. No function here does
+//! anything: each states a law.
+#![tactic(auto)]
+
+mod entrances;
+mod ids;
+mod keys;
+mod maps;
+
+pub use entrances::machines_enter_by_key_or_admission;
+pub use ids::gone_ids_stay_gone;
+pub use keys::{registrations_take_keys, single_use_keys_admit_once, used_keys_are_refused};
+pub use maps::{
+    expired_machines_are_in_no_map, expired_machines_are_no_peers, expired_machines_get_no_map,
+};

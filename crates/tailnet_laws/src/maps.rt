@@ -1,0 +1,50 @@
+//! Who is in a map.
+ghost use Rattle.std.specs.Prelude.{◌≡◌, ◌≢◌, ℕ, List, Option, Ok, Err, Contains};
+ghost use Rattle.net_rows.specs.Sound.{AreSound};
+ghost use Rattle.net_rows.specs.declared.machine.Machine.{Machine};
+ghost use Rattle.tailcfg.specs.declared.node_row.NodeRow.{NodeRow};
+ghost use Rattle.tailcfg.specs.declared.response.Response.{Response};
+ghost use Rattle.tailcfg.specs.declared.update.Update as update;
+ghost use Rattle.map_delta.specs.Fresh.{fresh};
+ghost use Rattle.desk_state.specs.State.{State, at_moment};
+ghost use Rattle.desk_state.specs.declared.decision.Decision.{Decision};
+ghost use Rattle.desk_state.specs.declared.refusal.Refusal.TheVariants.{NotLive};
+ghost use Rattle.machine_asks.specs.Decision.{decision};
+ghost use Rattle.machine_asks.specs.OneMap.{live_ids};
+ghost use Rattle.machine_asks.specs.declared.answer.MachineAnswer.{MachineAnswer};
+ghost use Rattle.machine_asks.specs.declared.answer.MachineAnswer.TheVariants.{Map};
+ghost use Rattle.machine_asks.specs.declared.ask.MachineAsk.{MachineAsk};
+ghost use Rattle.machine_asks.specs.declared.ask.MachineAsk.TheVariants.{OneMap, Update};
+ghost use Rattle.tailnet_desk.specs.Step.{moment_of, step};
+ghost use Rattle.tailnet_desk.specs.declared.entry.Event.{Event};
+ghost use Rattle.tailnet_desk.specs.declared.reply.Answer.TheVariants as answer;
+ghost use Rattle.tailnet_desk.specs.declared.reply.Reply.TheVariants.{Done};
+ghost use Rattle.tailnet_laws.specs.Shown.{Hides, IsExpired};
+
+/// A machine whose node key has expired is in no map that is decided on for a machine, and so in
+/// none that a step replies.
+pub fn expired_machines_are_in_no_map()
+    ensures hides { (s : State) (m : Machine) (x : MachineAsk) (words : Option (List ℕ))
+        (d : Decision MachineAnswer) (map : Response) → AreSound s.rows → IsExpired s m
+        → decision s x words ≡ Ok d → d.answer ≡ Map map → Hides map m.id }
+    ensures replies { (s : State) (m : Machine) (e : Event) (map : Response) → AreSound s.rows
+        → IsExpired (at_moment s (moment_of e)) m
+        → (step s e).reply ≡ Done (answer.Machine (Map map)) → Hides map m.id }
+{}
+
+/// It is no peer in a map that is computed afresh, whoever the viewer is.
+pub fn expired_machines_are_no_peers()
+    ensures fresh { (s : State) (m viewer : Machine) (peer : NodeRow) → AreSound s.rows
+        → IsExpired s m → Contains (fresh s.settings s.rows (live_ids s) viewer).peers peer
+        → peer.id ≢ m.id }
+{}
+
+/// And it is told that it isn't live, when it asks for its map or tells of itself.
+pub fn expired_machines_get_no_map()
+    ensures map { (s : State) (m : Machine) (told : Option update.Update)
+        (words : Option (List ℕ)) → AreSound s.rows → IsExpired s m
+        → decision s (OneMap m.machine m.node told) words ≡ Err NotLive }
+    ensures update { (s : State) (m : Machine) (told : update.Update)
+        (words : Option (List ℕ)) → AreSound s.rows → IsExpired s m
+        → decision s (Update m.machine m.node told) words ≡ Err NotLive }
+{}
