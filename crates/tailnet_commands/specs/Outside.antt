@@ -3,7 +3,6 @@ use Rattle.std.specs.Prelude.{ℕ, ℤ, Option, List}
 use Rattle.io_edge.specs.Door.{Finished, Opening}
 use Rattle.net_rows.specs.declared.rows.Rows.{Rows}
 use Rattle.connections.specs.Connection.{Told, told}
-use Rattle.connections.specs.Tellings.{giving}
 
 -- what doors tell: the bytes of the connections that come, the connections given back, what the doors were asked for, and their count of faults
 pub record DoorsTold : Type 0 where
@@ -50,7 +49,7 @@ pub record Outside : Type 0 where
 abbrev pub outside : {I O E F P C N : Type 0} → (I → Option (List ℕ)) → (I → ℕ) → (O → Option (List ℕ)) → (O → ℕ) → (E → Option (List ℕ)) → (E → ℕ) → (F → List ℕ → Option (Option (List ℕ))) → (F → ℕ)
     → (P → Option Rows) → (P → Option (List (List ℕ))) → (P → ℕ) → (C → ℕ → Option ℤ) → (N → ℕ → Option (List ℕ)) → (N → ℕ) → DoorsTold → LinkTold → I → O → E → F → P → C → N → Outside
 outside left read_faults holds write_faults errors error_faults files file_faults rows asked keeper_faults answer word word_faults doors link i o e f p c n = record {
-  told = told left read_faults i (giving holds write_faults answer word word_faults o c n);
+  told = told left read_faults holds write_faults answer word word_faults i o c n;
   rows = rows p;
   asked = asked p;
   keeper_faults = keeper_faults p;
@@ -66,7 +65,7 @@ outside left read_faults holds write_faults errors error_faults files file_fault
 abbrev pub around : {I O P C N : Type 0} → (I → Option (List ℕ)) → (I → ℕ) → (O → Option (List ℕ)) → (O → ℕ) → (P → Option Rows) → (P → Option (List (List ℕ))) → (P → ℕ) → (C → ℕ → Option ℤ)
     → (N → ℕ → Option (List ℕ)) → (N → ℕ) → Outside → I → O → P → C → N → Outside
 around left read_faults holds write_faults rows asked keeper_faults answer word word_faults rest i o p c n = record {
-  told = told left read_faults i (giving holds write_faults answer word word_faults o c n);
+  told = told left read_faults holds write_faults answer word word_faults i o c n;
   rows = rows p;
   asked = asked p;
   keeper_faults = keeper_faults p;
