@@ -19,16 +19,17 @@ use Rattle.tailnet_desk.specs.declared.entry.Event.{Event}
 use Rattle.tailnet_desk.specs.declared.reply.Reply.{Reply}
 use Rattle.desk_front.specs.declared.front_settings.FrontSettings.{FrontSettings}
 use Rattle.tailnet_commands.specs.Complete.{IsAccepted, IsClear, IsComplete}
-use Rattle.tailnet_commands.specs.Exchanges.{Exchange, IsExchange, AreExchanges, IsAnswered, requests_of, end_of, ended_by}
-use Rattle.tailnet_commands.specs.Pipe.{Piped, status_of}
+use Rattle.connections.specs.Exchanges.{Exchange, IsExchange, AreExchanges, IsAnswered, requests_of, end_of, ended_by}
+use Rattle.tailnet_commands.specs.Pipe.{Piped}
+use Rattle.run_ends.specs.Statuses.{status_of}
 use Rattle.tailnet_commands.specs.Run.{World}
-use Rattle.tailnet_commands.specs.Serve.{Serves, Told, IsEarly}
-use Rattle.tailnet_commands.specs.declared.closed.Closed.{Closed}
-use Rattle.tailnet_commands.specs.declared.closed.Closed.TheVariants as closed
-use Rattle.tailnet_commands.specs.declared.ended.Ended.{Ended}
-use Rattle.tailnet_commands.specs.declared.ended.Ended.TheVariants as ended
-use Rattle.tailnet_commands.specs.declared.status.Status.{Status}
-use Rattle.tailnet_commands.specs.declared.status.Status.TheVariants as status
+use Rattle.connections.specs.Connection.{IsConnection, Told, IsEarly}
+use Rattle.run_ends.specs.declared.closed.Closed.{Closed}
+use Rattle.run_ends.specs.declared.closed.Closed.TheVariants as closed
+use Rattle.run_ends.specs.declared.ended.Ended.{Ended}
+use Rattle.run_ends.specs.declared.ended.Ended.TheVariants as ended
+use Rattle.run_ends.specs.declared.status.Status.{Status}
+use Rattle.run_ends.specs.declared.status.Status.TheVariants as status
 
 -- an answer that leaves the connection to its request doesn't end it early
 pub not_early : (close : Bool) → ended_by close ≡ Some closed.Early → ⊥
@@ -76,7 +77,7 @@ tail_never rest left others extra told is splits (inr (fault, tail, answered)) =
 
 -- a connection over accepted whole requests doesn't end early
 pub never_early : {S : Type 0} (turn : S → Event → Reply → S → Type 0) (site : FrontSettings) (limit : ℕ) (old new : Told) (s t : S) (input : List ℕ) (requests : List Request)
-    → Leads input requests [] → AllByRecursion (λ r. IsAccepted (wanted_of site r)) requests → old.left ≡ Some input → Serves turn site closed.Early limit [] old new s t → ⊥
+    → Leads input requests [] → AllByRecursion (λ r. IsAccepted (wanted_of site r)) requests → old.left ≡ Some input → IsConnection turn site closed.Early limit [] old new s t → ⊥
 never_early turn site limit old new s t input requests whole ok is serves =
     let r = rest_of old.left new.left serves.read input serves.from_source is in
     let leads = subst (λ b. Leads b (requests_of serves.exchanges) (serves.rest ++ r.0)) (sym r.2) (Leads-append serves.read (requests_of serves.exchanges) serves.rest r.0 serves.bytes_read) in

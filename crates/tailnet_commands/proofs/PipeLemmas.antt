@@ -3,9 +3,9 @@ use Rattle.std.proofs.Common.{ℕ, Option, List, inl, inr}
 use Rattle.settings.specs.declared.fields.SettingsFields.{SettingsFields}
 use Rattle.tailnet_commands.specs.Run.{Ran, World}
 use Rattle.tailnet_commands.specs.Pipe.{AreSettingsOf, Piped}
-use Rattle.tailnet_commands.specs.declared.closed.Closed.{Closed}
-use Rattle.tailnet_commands.specs.declared.ended.Ended.{Ended}
-use Rattle.tailnet_commands.specs.declared.ended.Ended.TheVariants as ended
+use Rattle.run_ends.specs.declared.closed.Closed.{Closed}
+use Rattle.run_ends.specs.declared.ended.Ended.{Ended}
+use Rattle.run_ends.specs.declared.ended.Ended.TheVariants as ended
 
 -- a run over the file's settings
 pub ran_piped : (e : Ended) (settings : SettingsFields) (file : Option (Option (List ℕ))) (before now : ℕ) (seed : Option (List ℕ)) (old new : World) → AreSettingsOf file settings → Ran e settings seed old new → Piped e file before now seed old new

@@ -19,14 +19,14 @@ use Rattle.tailnet_desk.specs.declared.desk.OpenFault.TheVariants as fault
 use Rattle.tailnet_desk.proofs.Histories.{history_of}
 use Rattle.tailnet_desk.proofs.SoundHistories.{legal_sound}
 use Rattle.desk_front.specs.Wanted.{front_settings}
-use Rattle.tailnet_commands.specs.Exchanges.{turns_of}
-use Rattle.tailnet_commands.specs.Outside.{from_number}
+use Rattle.connections.specs.Exchanges.{turns_of}
+use Rattle.connections.specs.Tellings.{from_number}
 use Rattle.tailnet_commands.specs.Run.{Conversation, IsAskedFor, World, Ran, Untouched, IsFaultOf}
 use Rattle.tailnet_commands.specs.Talk.{Talked, after_answers}
-use Rattle.tailnet_commands.proofs.TalkLemmas.{serves_from, with_answers}
-use Rattle.tailnet_commands.proofs.Tellings.{same_moments}
-use Rattle.tailnet_commands.specs.declared.closed.Closed.{Closed}
-use Rattle.tailnet_commands.specs.declared.ended.Ended.{Ended}
+use Rattle.connections.proofs.Seen.{serves_from, with_answers}
+use Rattle.connections.proofs.Tellings.{same_moments}
+use Rattle.run_ends.specs.declared.closed.Closed.{Closed}
+use Rattle.run_ends.specs.declared.ended.Ended.{Ended}
 
 -- what is where an object tells, is where one still tells
 pub where_still : {A : Type 0} (x : A) (a b : Option A) → StillTells a b → IsWhereTold x a → IsWhereTold x b

@@ -14,8 +14,8 @@ use Rattle.tailnet_desk.specs.Opening.{unserved}
 use Rattle.tailnet_commands.specs.Pipe.{Outcome}
 use Rattle.tailnet_commands.specs.Run.{World}
 use Rattle.tailnet_commands.specs.declared.limits.TheConstants.{FILE_LIMIT}
-use Rattle.tailnet_commands.specs.declared.status.Status.{Status}
-use Rattle.tailnet_commands.specs.declared.status.Status.TheVariants as status
+use Rattle.run_ends.specs.declared.status.Status.{Status}
+use Rattle.run_ends.specs.declared.status.Status.TheVariants as status
 
 -- the request isn't answered 400
 abbrev pub IsAccepted : Wanted → Type 0

@@ -5,15 +5,15 @@ use Rattle.settings.specs.declared.fields.SettingsFields.{SettingsFields}
 use Rattle.tail_words.specs.SettingsText.{settings_of}
 use Rattle.tail_words.specs.declared.fault.SettingsFault.TheVariants.{Refused}
 use Rattle.tailnet_desk.specs.Opening.{unserved}
-use Rattle.tailnet_commands.specs.Lines.{Noted, is_made, line_of}
+use Rattle.run_ends.specs.Lines.{Noted, is_made, ended_line}
+use Rattle.run_ends.specs.Statuses.{status_of}
 use Rattle.tailnet_commands.specs.Run.{Conversation, IsAskedFor, IsUnasked, Untouched, World}
-use Rattle.tailnet_commands.specs.declared.closed.Closed.{Closed}
-use Rattle.tailnet_commands.specs.declared.closed.Closed.TheVariants as closed
-use Rattle.tailnet_commands.specs.declared.ended.Ended.{Ended}
-use Rattle.tailnet_commands.specs.declared.ended.Ended.TheVariants as ended
+use Rattle.run_ends.specs.declared.closed.Closed.{Closed}
+use Rattle.run_ends.specs.declared.closed.Closed.TheVariants as closed
+use Rattle.run_ends.specs.declared.ended.Ended.{Ended}
+use Rattle.run_ends.specs.declared.ended.Ended.TheVariants as ended
 use Rattle.tailnet_commands.specs.declared.limits.TheConstants.{FILE_LIMIT}
-use Rattle.tailnet_commands.specs.declared.status.Status.{Status}
-use Rattle.tailnet_commands.specs.declared.status.Status.TheVariants as status
+use Rattle.run_ends.specs.declared.status.Status.{Status}
 
 -- where the file is told, it has at most 1 MiB, and these are its settings
 abbrev pub AreSettingsOf : Option (Option (List ℕ)) → SettingsFields → Type 0
@@ -62,20 +62,6 @@ Piped (ended.Damaged kind id) file before now seed old new =
 Piped ended.NoMemory file before now seed old new =
     Untouched old new × (IsUnasked old new ⊎ IsUnder file (λ settings. IsAskedFor settings old new))
 
--- the status of how it ended
-abbrev pub status_of : Ended → Status
-status_of (ended.Closed closed.End) = status.Ok
-status_of (ended.Closed closed.Early) = status.Early
-status_of (ended.Closed closed.ReadFault) = status.ReadFault
-status_of (ended.Closed closed.WriteFault) = status.WriteFault
-status_of (ended.Closed closed.NoMemory) = status.NoMemory
-status_of (ended.Settings rule key) = status.Settings
-status_of ended.TooLarge = status.Settings
-status_of ended.FileFault = status.ReadFault
-status_of ended.KeeperFault = status.KeeperFault
-status_of (ended.Damaged kind id) = status.Damaged
-status_of ended.NoMemory = status.NoMemory
-
 -- What a status of `pipe` says: how it ended, what that comes to, with the settings file and the files' count
 -- before and after, and the line that errors got.
 pub record Outcome (status : Status) (file : Option (Option (List ℕ))) (before now : ℕ) (seed : Option (List ℕ)) (old new : World)
@@ -83,4 +69,4 @@ pub record Outcome (status : Status) (file : Option (Option (List ℕ))) (before
   pub ended : Ended
   pub status_is : status ≡ status_of ended
   pub piped : Piped ended file before now seed old new
-  pub noted : Noted (line_of ended) (is_made ended) errors errors_after error_faults error_faults_after
+  pub noted : Noted (ended_line ended) (is_made ended) errors errors_after error_faults error_faults_after

@@ -15,13 +15,13 @@ use Rattle.desk_state.specs.State.{opening}
 use Rattle.tailnet_desk.specs.declared.desk.OpenFault.{OpenFault}
 use Rattle.tailnet_desk.specs.declared.desk.OpenFault.TheVariants as fault
 use Rattle.desk_front.specs.Wanted.{front_settings}
-use Rattle.tailnet_commands.specs.Exchanges.{turns_of}
-use Rattle.tailnet_commands.specs.Outside.{MomentsTold, from_number}
+use Rattle.connections.specs.Exchanges.{turns_of}
+use Rattle.connections.specs.Tellings.{MomentsTold, from_number}
 use Rattle.tailnet_commands.specs.Talk.{IsSeeding, after_answers}
-use Rattle.tailnet_commands.specs.Serve.{Serves, Told}
-use Rattle.tailnet_commands.specs.declared.closed.Closed.{Closed}
-use Rattle.tailnet_commands.specs.declared.ended.Ended.{Ended}
-use Rattle.tailnet_commands.specs.declared.ended.Ended.TheVariants as ended
+use Rattle.connections.specs.Connection.{IsConnection, Told}
+use Rattle.run_ends.specs.declared.closed.Closed.{Closed}
+use Rattle.run_ends.specs.declared.ended.Ended.{Ended}
+use Rattle.run_ends.specs.declared.ended.Ended.TheVariants as ended
 
 -- what the connection's objects tell, the opener's rows, the names that it was asked for, and its count of faults
 pub record World : Type 0 where
@@ -65,7 +65,7 @@ pub record Conversation (closed : Closed) (settings : SettingsFields) (seed : Op
   pub seeding_is : IsSeeding seed seeding
   pub seeding_moments : MomentsTold (from_number 1 old.told.giving.answers) seeding
   pub seeded : Point
-  pub serves : Serves IsTurn (front_settings settings) closed settings.requests [] (after_answers (1 + length seeding) old.told) new.told seeded final
+  pub serves : IsConnection IsTurn (front_settings settings) closed settings.requests [] (after_answers (1 + length seeding) old.told) new.told seeded final
   -- a legal history from the opening state: the seed, and the turns of the served requests
   pub history : IsHistory (record { state = opening settings rows moment; keeping = keeping }) (seeding ++ turns_of serves.exchanges) final
   pub final_sound : AreSound final.state.rows

@@ -9,10 +9,10 @@ use Rattle.tailnet_desk.specs.Step.{moment_of}
 use Rattle.tailnet_desk.specs.Turns.{IsTurn}
 use Rattle.tailnet_desk.specs.declared.ask.Ask.TheVariants as ask
 use Rattle.desk_front.specs.declared.front_settings.FrontSettings.{FrontSettings}
-use Rattle.tailnet_commands.specs.Exchanges.{turns_of}
-use Rattle.tailnet_commands.specs.Outside.{IsTurnOf, MomentsTold, from_number}
-use Rattle.tailnet_commands.specs.Serve.{Serves, Told}
-use Rattle.tailnet_commands.specs.declared.closed.Closed.{Closed}
+use Rattle.connections.specs.Exchanges.{turns_of}
+use Rattle.connections.specs.Tellings.{IsTurnOf, MomentsTold, from_number}
+use Rattle.connections.specs.Connection.{IsConnection, Told}
+use Rattle.run_ends.specs.declared.closed.Closed.{Closed}
 
 -- the clock after so many answers
 abbrev pub after_answers : ℕ → Told → Told
@@ -47,5 +47,5 @@ pub record Talked (site : FrontSettings) (closed : Closed) (requests : ℕ) (see
   pub seeding_is : IsSeeding seed seeding
   pub seeding_moments : MomentsTold old.giving.answers seeding
   pub seeded : Point
-  pub serves : Serves IsTurn site closed requests [] (after_answers (length seeding) old) new seeded q
+  pub serves : IsConnection IsTurn site closed requests [] (after_answers (length seeding) old) new seeded q
   pub chain : Chain IsTurn p (seeding ++ turns_of serves.exchanges) q

@@ -1,18 +1,15 @@
 //! The command `pipe`.
 ghost use Rattle.std.specs.Prelude.{◌≡◌, IfOk, option_map};
-ghost use Rattle.tailnet_commands.specs.Outside.{giving};
-ghost use Rattle.tailnet_commands.specs.Pipe.{IsSettingsFile, Outcome, Piped, status_of};
+ghost use Rattle.connections.specs.Tellings.{giving};
+ghost use Rattle.tailnet_commands.specs.Pipe.{IsSettingsFile, Outcome, Piped};
 ghost use Rattle.tailnet_commands.specs.Run.{world};
-ghost use Rattle.tailnet_commands.specs.Serve.{told};
+ghost use Rattle.connections.specs.Connection.{told};
 
-use crate::closed::Closed;
-use crate::ended::Ended;
 use crate::limits::FILE_LIMIT;
-use crate::noting::note;
 use crate::running::run;
-use crate::status::Status;
 use io_edge::{Clock, Entropy, FileFault, Files, Sink, Source};
 use row_keeper::Opener;
+use run_ends::{Ended, Status, note, status_of};
 use settings::Settings;
 use std::alloc::Global;
 use tail_base::{NoMemory, Text};
@@ -33,24 +30,6 @@ fn settings_file<F: Files>(alloc: Global, files: &mut F, name: &str) -> Result<S
         Ok(settings) => Ok(settings),
         Err(SettingsFault::Refused { rule, key }) => Err(Ended::Settings { rule, key }),
         Err(SettingsFault::NoMemory) => Err(Ended::NoMemory),
-    }
-}
-
-fn status_of(ended: &Ended) -> Status
-    ensures value { result ≡ status_of ended.now }
-{
-    match ended {
-        Ended::Closed(Closed::End) => Status::Ok,
-        Ended::Closed(Closed::Early) => Status::Early,
-        Ended::Closed(Closed::ReadFault) => Status::ReadFault,
-        Ended::Closed(Closed::WriteFault) => Status::WriteFault,
-        Ended::Closed(Closed::NoMemory) => Status::NoMemory,
-        Ended::Settings { .. } => Status::Settings,
-        Ended::TooLarge => Status::Settings,
-        Ended::FileFault => Status::ReadFault,
-        Ended::KeeperFault => Status::KeeperFault,
-        Ended::Damaged { .. } => Status::Damaged,
-        Ended::NoMemory => Status::NoMemory,
     }
 }
 

@@ -1,16 +1,16 @@
 //! A run over settings.
 ghost use Rattle.std.specs.Prelude.{◌≡◌};
 ghost use Rattle.desk_front.specs.Wanted.{front_settings};
-ghost use Rattle.tailnet_commands.specs.Outside.{giving};
+ghost use Rattle.connections.specs.Tellings.{giving};
 ghost use Rattle.tailnet_commands.specs.Run.{IsFaultOf, Ran, world};
-ghost use Rattle.tailnet_commands.specs.Serve.{told};
+ghost use Rattle.connections.specs.Connection.{told};
 
 use crate::conversing::talk;
-use crate::ended::Ended;
 use desk_front::Front;
 use io_edge::{Clock, EdgeFault, Entropy, Sink, Source};
 use moments::Moment;
 use row_keeper::Opener;
+use run_ends::Ended;
 use settings::Settings;
 use std::alloc::Global;
 use tail_base::{NoMemory, Text};

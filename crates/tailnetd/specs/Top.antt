@@ -2,11 +2,11 @@
 use Rattle.std.specs.Prelude.{◌≡◌, ℕ, false, Option, None, Some, List}
 use Rattle.tail_words.specs.Words.{CommandWords, serves, checks_policy}
 use Rattle.tailnet_commands.specs.Check.{Checked, check_line}
-use Rattle.tailnet_commands.specs.Lines.{Noted, usage_line}
+use Rattle.run_ends.specs.Lines.{Noted, usage_line}
 use Rattle.tailnet_commands.specs.Pipe.{Outcome}
 use Rattle.tailnet_commands.specs.Run.{World}
-use Rattle.tailnet_commands.specs.declared.status.Status.{Status}
-use Rattle.tailnet_commands.specs.declared.status.Status.TheVariants as status
+use Rattle.run_ends.specs.declared.status.Status.{Status}
+use Rattle.run_ends.specs.declared.status.Status.TheVariants as status
 
 -- of all but the files and errors, the output alone was touched
 pub record IsWrittenAlone (old new : World) : Type 0 where

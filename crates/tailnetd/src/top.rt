@@ -1,18 +1,19 @@
 //! The top call.
 ghost use Rattle.std.specs.Prelude.{◌≡◌, map, string_bytes};
 ghost use Rattle.tail_words.specs.Words.{command_of};
-ghost use Rattle.tailnet_commands.specs.Outside.{giving};
+ghost use Rattle.connections.specs.Tellings.{giving};
 ghost use Rattle.tailnet_commands.specs.Run.{world};
-ghost use Rattle.tailnet_commands.specs.Serve.{told};
+ghost use Rattle.connections.specs.Connection.{told};
 ghost use Rattle.tailnetd.specs.Top.{Top};
 
 use io_edge::{Clock, Doors, Entropy, Files, Link, Pause, Sink, Source};
 use row_keeper::Opener;
+use run_ends::{Status, note_usage};
 use std::alloc::Global;
 use std::sync::Wait;
 use std::thread::Threads;
 use tail_words::{Command, Pipe, read_command};
-use tailnet_commands::{Status, note_usage, pipe_command, policy_check};
+use tailnet_commands::{pipe_command, policy_check};
 
 /// The whole program over its outside: the words after its name, and all that it may touch.
 ///

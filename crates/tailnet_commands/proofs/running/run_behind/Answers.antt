@@ -6,7 +6,7 @@ use Rattle.io_edge.specs.Asked.{and_asked}
 use Rattle.io_edge.specs.Edge.{IsWhereTold}
 use Rattle.moments.specs.Moments.{clamped}
 use Rattle.settings.specs.declared.fields.SettingsFields.{SettingsFields}
-use Rattle.tailnet_commands.proofs.AnswerLemmas.{clamped_told}
+use Rattle.connections.proofs.AnswerLemmas.{clamped_told}
 use Rattle.tailnet_commands.proofs.RunLemmas.{talked_run, faulted, kept_given, given_some, still_still, where_given, where_still}
 use Rattle.tailnet_commands.proofs.running.run_behind.Goals as goal
 
