@@ -1,5 +1,5 @@
 -- A connection: which requests its bytes are, which turns they were, and which bytes answered them.
-use Rattle.std.specs.Prelude.{◌≡◌, ◌≤◌, ◌<◌, ◌⊎◌, ℕ, Bool, true, false, Option, None, Some, List, [], ◌∷◌, ◌++◌, length}
+use Rattle.std.specs.Prelude.{◌≡◌, ◌≤◌, ◌<◌, ◌⊎◌, ℕ, ℤ, Bool, true, false, Option, None, Some, List, [], ◌∷◌, ◌++◌, length}
 use Rattle.io_edge.specs.Edge.{Rose, and_then_left, and_held, IsWhereTold}
 use Rattle.http_front.specs.HeadFaults.{head_fault_answer}
 use Rattle.http_front.specs.declared.head_fault.HeadFault.{HeadFault}
@@ -8,7 +8,7 @@ use Rattle.tailnet_desk.specs.Chains.{Chain}
 use Rattle.tailnet_desk.specs.declared.entry.Event.{Event}
 use Rattle.tailnet_desk.specs.declared.reply.Reply.{Reply}
 use Rattle.desk_front.specs.declared.front_settings.FrontSettings.{FrontSettings}
-use Rattle.connections.specs.Tellings.{Giving, TurnsTook}
+use Rattle.connections.specs.Tellings.{Giving, TurnsTook, giving}
 use Rattle.run_ends.specs.Pieces.{IsPrefix}
 use Rattle.connections.specs.Exchanges.{Exchange, IsExchange, AreExchanges, AreUnbroken, requests_of, turns_of, answers_of, end_of}
 use Rattle.run_ends.specs.declared.closed.Closed.{Closed}
@@ -20,8 +20,12 @@ pub record Told : Type 0 where
   pub read_faults : ℕ
   pub giving : Giving
 
-abbrev pub told : {I : Type 0} → (I → Option (List ℕ)) → (I → ℕ) → I → Giving → Told
-told left read_faults i rest = record { left = left i; read_faults = read_faults i; giving = rest }
+abbrev pub told : {I O C N : Type 0} → (I → Option (List ℕ)) → (I → ℕ) → (O → Option (List ℕ)) → (O → ℕ) → (C → ℕ → Option ℤ) → (N → ℕ → Option (List ℕ)) → (N → ℕ) → I → O → C → N → Told
+told left read_faults holds write_faults answer word word_faults i o c n = record {
+  left = left i;
+  read_faults = read_faults i;
+  giving = giving holds write_faults answer word word_faults o c n;
+}
 
 -- bytes that are refused are answered
 abbrev pub IsRefusal : List ℕ → List ℕ → Type 0

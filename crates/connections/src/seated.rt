@@ -1,6 +1,5 @@
 //! A connection over a desk.
 ghost use Rattle.connections.specs.Connection.{IsConnection, told};
-ghost use Rattle.connections.specs.Tellings.{giving};
 ghost use Rattle.std.specs.Prelude.{◌<◌, []};
 ghost use Rattle.tailnet_desk.specs.Seated.{point_of};
 ghost use Rattle.tailnet_desk.specs.Turns.{IsTurn};
@@ -26,12 +25,12 @@ pub fn serve_desk<K: Keeper, I: Source, O: Sink, C: Clock, N: Entropy>(
     entropy: &mut N,
 ) -> Closed
     requires some { 0 < requests }
-    ensures serves { let at = giving O.holds O.write_faults C.answer N.word N.faults in
-        let tell = told I.left I.read_faults in
+    ensures serves { let at = told I.left I.read_faults O.holds O.write_faults
+        C.answer N.word N.faults in
         let point = point_of K.told K.faults K.calls in
         IsConnection IsTurn front.now result requests []
-        (tell input.old (at output.old clock.old entropy.old))
-        (tell input.new (at output.new clock.new entropy.new)) (point desk.old) (point desk.new) }
+        (at input.old output.old clock.old entropy.old)
+        (at input.new output.new clock.new entropy.new) (point desk.old) (point desk.new) }
 {
     serve(alloc, front, requests, desk, input, output, clock, entropy)
 }

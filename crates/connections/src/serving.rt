@@ -2,7 +2,6 @@
 ghost use Rattle.std.specs.Prelude.{◌≡◌, ◌<◌, ◌==◌, ℕ, [], IfErr, OnOk};
 ghost use Rattle.http_front.specs.HeadFaults.{head_fault_answer};
 ghost use Rattle.connections.specs.Asked.{IsRefusalSent};
-ghost use Rattle.connections.specs.Tellings.{giving};
 ghost use Rattle.connections.specs.Connection.{Goes, IsConnection, told};
 
 use crate::answering::answer_request;
@@ -37,18 +36,18 @@ fn serve_one<T: Turns, I: Source, O: Sink, C: Clock, N: Entropy>(
     buffer: &mut Buffer,
     last: bool,
 ) -> Result<(), Closed>
-    ensures goes { let at = giving O.holds O.write_faults C.answer N.word N.faults in
-        let tell = told I.left I.read_faults in
+    ensures goes { let at = told I.left I.read_faults O.holds O.write_faults
+        C.answer N.word N.faults in
         OnOk result (Goes T.turn front.now last buffer.old buffer.new
-        (tell input.old (at output.old clock.old entropy.old))
-        (tell input.new (at output.new clock.new entropy.new))
+        (at input.old output.old clock.old entropy.old)
+        (at input.new output.new clock.new entropy.new)
         turns.old turns.new) }
-    ensures ends { let at = giving O.holds O.write_faults C.answer N.word N.faults in
-        let tell = told I.left I.read_faults in
+    ensures ends { let at = told I.left I.read_faults O.holds O.write_faults
+        C.answer N.word N.faults in
         IfErr result (λ closed. (limit : ℕ) → 0 < limit → last ≡ (limit == 1)
         → IsConnection T.turn front.now closed limit buffer.old
-        (tell input.old (at output.old clock.old entropy.old))
-        (tell input.new (at output.new clock.new entropy.new))
+        (at input.old output.old clock.old entropy.old)
+        (at input.new output.new clock.new entropy.new)
         turns.old turns.new) }
 {
     match take_request(alloc, input, buffer) {
@@ -76,11 +75,11 @@ pub fn serve<T: Turns, I: Source, O: Sink, C: Clock, N: Entropy>(
     entropy: &mut N,
 ) -> Closed
     requires some { 0 < requests }
-    ensures serves { let at = giving O.holds O.write_faults C.answer N.word N.faults in
-        let tell = told I.left I.read_faults in
+    ensures serves { let at = told I.left I.read_faults O.holds O.write_faults
+        C.answer N.word N.faults in
         IsConnection T.turn front.now result requests []
-        (tell input.old (at output.old clock.old entropy.old))
-        (tell input.new (at output.new clock.new entropy.new))
+        (at input.old output.old clock.old entropy.old)
+        (at input.new output.new clock.new entropy.new)
         turns.old turns.new }
 {
     let Ok(mut buffer) = Buffer::new(alloc) else {

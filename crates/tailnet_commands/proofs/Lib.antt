@@ -1,4 +1,4 @@
-pub mod TalkLemmas
+pub mod SeedLemmas
 pub mod RunLemmas
 pub mod PipeLemmas
 pub mod CompleteLemmas

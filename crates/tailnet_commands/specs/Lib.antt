@@ -1,4 +1,5 @@
-pub mod Talk
+pub mod Outside
+pub mod Seeding
 pub mod Run
 pub mod Pipe
 pub mod Check

@@ -2,11 +2,11 @@
 #![tactic(auto)]
 
 mod checking;
-mod conversing;
 mod law;
 mod limits;
 mod piping;
 mod running;
+mod seeding;
 
 pub use checking::policy_check;
 pub use law::completeness;

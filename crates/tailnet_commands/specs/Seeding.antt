@@ -1,5 +1,5 @@
--- A connection over a desk, after its seed.
-use Rattle.std.specs.Prelude.{◌≡◌, ◌+◌, ℕ, ℤ, Option, None, Some, List, [], ◌∷◌, ◌++◌, length}
+-- The seed of a desk.
+use Rattle.std.specs.Prelude.{◌≡◌, ◌+◌, ℕ, ℤ, Option, None, Some, List, [], ◌∷◌, length}
 use Rattle.std.specs.Option.{option_map}
 use Rattle.moments.specs.Moments.{clamped}
 use Rattle.io_edge.specs.Edge.{IsWhereTold}
@@ -8,11 +8,8 @@ use Rattle.tailnet_desk.specs.Seated.{Point}
 use Rattle.tailnet_desk.specs.Step.{moment_of}
 use Rattle.tailnet_desk.specs.Turns.{IsTurn}
 use Rattle.tailnet_desk.specs.declared.ask.Ask.TheVariants as ask
-use Rattle.desk_front.specs.declared.front_settings.FrontSettings.{FrontSettings}
-use Rattle.connections.specs.Exchanges.{turns_of}
 use Rattle.connections.specs.Tellings.{IsTurnOf, MomentsTold, from_number}
-use Rattle.connections.specs.Connection.{IsConnection, Told}
-use Rattle.run_ends.specs.declared.closed.Closed.{Closed}
+use Rattle.connections.specs.Connection.{Told}
 
 -- the clock after so many answers
 abbrev pub after_answers : ℕ → Told → Told
@@ -41,11 +38,10 @@ pub record IsSeedTurn (text : List ℕ) (answers after : ℕ → Option ℤ) (p 
   pub moment : IsWhereTold (moment_of turned.event) (option_map clamped (answers 0))
   pub rest : (k : ℕ) → after k ≡ answers (k + 1)
 
--- The seed was handed in, and then a connection was served.
-pub record Talked (site : FrontSettings) (closed : Closed) (requests : ℕ) (seed : Option (List ℕ)) (old new : Told) (p q : Point) : Type 0 where
+-- The seed, if one is given, was handed in, at the clock's next answer.
+pub record IsSeeded (seed : Option (List ℕ)) (answers after : ℕ → Option ℤ) (p q : Point) : Type 0 where
   pub seeding : List Turned
   pub seeding_is : IsSeeding seed seeding
-  pub seeding_moments : MomentsTold old.giving.answers seeding
-  pub seeded : Point
-  pub serves : IsConnection IsTurn site closed requests [] (after_answers (length seeding) old) new seeded q
-  pub chain : Chain IsTurn p (seeding ++ turns_of serves.exchanges) q
+  pub moments : MomentsTold answers seeding
+  pub rest : (k : ℕ) → after k ≡ from_number (length seeding) answers k
+  pub chain : Chain IsTurn p seeding q

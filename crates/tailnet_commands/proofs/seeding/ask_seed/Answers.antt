@@ -7,7 +7,7 @@ use Rattle.std.proofs.lemmas.Int.{to_z-of_z}
 use Rattle.io_edge.specs.Edge.{IsWhereTold}
 use Rattle.moments.specs.Moments.{clamped}
 use Rattle.connections.proofs.AnswerLemmas.{clamped_told}
-use Rattle.tailnet_commands.proofs.conversing.seed_desk.Goals as goal
+use Rattle.tailnet_commands.proofs.seeding.ask_seed.Goals as goal
 
 pub returns : goal.returns
 returns g c =
