@@ -3,6 +3,7 @@ use Rattle.std.specs.Prelude.{◌≡◌, ◌⊎◌, ℕ, Bool, true, false, Opti
 use Rattle.std.specs.Fmt.{decimal}
 use Rattle.net_rows.specs.declared.change.Kind.{Kind}
 use Rattle.net_rows.specs.declared.change.Kind.TheVariants as kind
+use Rattle.tail_words.specs.SettingsText.{rule_number}
 use Rattle.run_ends.specs.Pieces.{Wrote}
 use Rattle.run_ends.specs.declared.closed.Closed.{Closed}
 use Rattle.run_ends.specs.declared.closed.Closed.TheVariants as closed
@@ -30,7 +31,7 @@ closed_line closed.NoMemory = codes "tailnetd: no memory\n"
 -- the line of how a run ended
 abbrev pub ended_line : Ended → List ℕ
 ended_line (ended.Closed closing) = closed_line closing
-ended_line (ended.Settings rule key) = codes "tailnetd: settings S" ++ decimal rule ++ codes " " ++ key ++ codes "\n"
+ended_line (ended.Settings rule key) = codes "tailnetd: settings S" ++ decimal (rule_number rule) ++ codes " " ++ key ++ codes "\n"
 ended_line ended.TooLarge = codes "tailnetd: file too large\n"
 ended_line ended.FileFault = codes "tailnetd: read fault\n"
 ended_line ended.KeeperFault = codes "tailnetd: keeper fault\n"

@@ -6,6 +6,7 @@ use crate::closed::Closed;
 use crate::status::Status;
 use net_rows::Kind;
 use tail_base::Text;
+use tail_words::SettingsRule;
 
 /// How a run of `pipe` ended.
 #[derive(Drop)]
@@ -13,7 +14,7 @@ pub enum Ended {
     /// A connection was served.
     Closed(Closed),
     /// The settings break this rule at this key.
-    Settings { rule: u8, key: Text },
+    Settings { rule: SettingsRule, key: Text },
     /// The settings file is too large.
     TooLarge,
     /// The settings file wasn't read.

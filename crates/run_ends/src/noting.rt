@@ -1,6 +1,7 @@
 //! The line that a run leaves on errors.
 ghost use Rattle.std.specs.Prelude.{◌≡◌, ◌++◌, IfOk, Some, None, IfSome, true, false, codes};
 ghost use Rattle.std.specs.Fmt.{decimal};
+ghost use Rattle.tail_words.specs.SettingsText.{rule_number};
 ghost use Rattle.run_ends.specs.Lines.{Noted, closed_line, is_made, kind_name, ended_line, usage_line};
 
 use crate::closed::Closed;
@@ -10,6 +11,7 @@ use io_edge::Sink;
 use net_rows::Kind;
 use std::alloc::Global;
 use tail_base::{NoMemory, Text};
+use tail_words::SettingsRule;
 
 /// The kind of a row, as a line names it.
 fn kind_name(kind: Kind) -> &'static str
@@ -40,11 +42,13 @@ fn closed_line(closed: Closed) -> &'static str
 }
 
 /// The line of a rule that settings break, at a key.
-fn settings_line(alloc: Global, rule: u8, key: &str) -> Result<Text, NoMemory>
+fn settings_line(alloc: Global, rule: SettingsRule, key: &str) -> Result<Text, NoMemory>
     ensures value { IfOk result (λ line.
-        line ≡ codes "tailnetd: settings S" ++ decimal rule ++ codes " " ++ key.now ++ codes "\n") }
+        line ≡ codes "tailnetd: settings S" ++ decimal (rule_number rule) ++ codes " " ++ key.now
+        ++ codes "\n") }
 {
-    Ok(Text::from_string(format!(in alloc; "tailnetd: settings S{rule} {key}\n")?))
+    let number = rule.number();
+    Ok(Text::from_string(format!(in alloc; "tailnetd: settings S{number} {key}\n")?))
 }
 
 /// The line of a row that breaks a rule.

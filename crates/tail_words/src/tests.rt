@@ -7,7 +7,7 @@ use tailcfg::DnsSettings;
 /// The rule and key of the fault of a settings file.
 fn is_refused(rt: &HostRuntime, text: &[u8], rule: u8, key: &str) -> bool {
     match read_settings(rt.alloc(), text) {
-        Err(SettingsFault::Refused { rule: r, key: k }) => r == rule && k.as_str() == key,
+        Err(SettingsFault::Refused { rule: r, key: k }) => r.number() == rule && k.as_str() == key,
         _ => false,
     }
 }
