@@ -4,7 +4,7 @@
 mod forms;
 mod keys;
 mod nodes;
-mod shown;
+mod row_form;
 mod swept;
 mod users;
 mod waiting;
