@@ -36,7 +36,8 @@ fn add_peer(
     machine: &Machine,
     is_seen: bool,
 ) -> Result<(), NoMemory>
-    ensures ok { OnOk result (peers.new ≡ peers.old ++ (if is_seen then shown domain.now machine.now ∷ [] else [])) }
+    ensures ok { OnOk result (peers.new
+        ≡ peers.old ++ (if is_seen then shown domain.now machine.now ∷ [] else [])) }
 {
     if is_seen {
         peers.push(shown(alloc, domain, machine)?)
@@ -53,7 +54,8 @@ fn peers_of(
     live: &Listed<'_>,
     viewer: u32,
 ) -> Result<Items<NodeRow>, NoMemory>
-    ensures value { IfOk result (λ peers. peers ≡ peers_of domain.now machines.now live.now viewer) }
+    ensures value { IfOk result (λ peers. peers
+        ≡ peers_of domain.now machines.now live.now viewer) }
 {
     let mut peers = Items::new(alloc);
     for machine in machines {
@@ -77,7 +79,8 @@ pub fn plain_map(
     live: &[u32],
     machine: &Machine,
 ) -> Result<View, NoMemory>
-    ensures value { IfOk result (λ view. view ≡ fresh settings.now tables.now.rows live.now machine.now) }
+    ensures value { IfOk result (λ view. view
+        ≡ fresh settings.now tables.now.rows live.now machine.now) }
 {
     let fields = settings.fields();
     let domain = fields.base_domain.as_str();

@@ -35,7 +35,8 @@ fn place_of(routes: &[&DnsRoute], route: &DnsRoute) -> Result<usize, usize>
 
 /// Puts a route among routes by suffix, in the place of one of its suffix.
 fn place<'a>(routes: &mut Vec<&'a DnsRoute>, route: &'a DnsRoute) -> Result<(), NoMemory>
-    ensures ok { OnOk result (behind routes.new.items ≡ placed route.now (behind routes.old.items)) }
+    ensures ok { OnOk result (behind routes.new.items
+        ≡ placed route.now (behind routes.old.items)) }
 {
     match place_of(routes.as_slice(), route) {
         Ok(place) => routes[place] = route,
