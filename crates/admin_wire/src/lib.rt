@@ -19,6 +19,3 @@ pub use nodes::{node_text, nodes_text};
 pub use swept::swept_text;
 pub use users::{user_text, users_text};
 pub use waiting::waiting_text;
-
-#[cfg(test)]
-mod tests;

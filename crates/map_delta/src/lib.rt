@@ -16,6 +16,3 @@ pub use fresh::plain_map;
 pub use profile::profile_of;
 pub use response::first_response;
 pub use view::View;
-
-#[cfg(test)]
-mod tests;

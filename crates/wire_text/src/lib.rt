@@ -30,6 +30,3 @@ pub use parts::text_value;
 pub use registered::{login_at_text, registered_text};
 pub use response::{append_response, response_text};
 pub use response_parts::ResponseParts;
-
-#[cfg(test)]
-mod tests;

@@ -1,5 +1,5 @@
 //! Paths that lead nowhere.
-use crate::Paths;
+use path_routes::Paths;
 use std::test::Fail;
 
 const NOWHERE: [&str; 14] = [

@@ -1,7 +1,8 @@
-use crate::{Command, SettingsFault, read_command, read_settings, read_words};
+//! Settings files: their faults, defaults and keys; and the words of the command line.
 use settings::SettingsFields;
 use std::alloc::Global;
 use std::test::Fail;
+use tail_words::{Command, SettingsFault, read_command, read_settings, read_words};
 use tailcfg::DnsSettings;
 
 /// The rule and key of the fault of a settings file.

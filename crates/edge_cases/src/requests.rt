@@ -1,5 +1,6 @@
-use crate::{Buffer, Taken, no_memory_answer, plain_answer, take_request};
+//! Requests of bytes, each rule at its edge.
 use http::StatusCode;
+use http_front::{Buffer, Taken, no_memory_answer, plain_answer, take_request};
 use io_edge::MemorySource;
 use std::alloc::Global;
 use std::test::Fail;

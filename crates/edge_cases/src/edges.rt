@@ -1,6 +1,11 @@
+//! The objects of the outside, in memory and over the process.
 ghost use Rattle.std.specs.Prelude.{◌≡◌, length, IfOk};
 
-use super::*;
+use io_edge::{
+    Clock, Entropy, Failed, FileFault, Files, HostClock, HostEntropy, HostFiles, MemoryClock,
+    MemoryEntropy, MemoryFiles, MemorySink, MemorySource, NamedBytes, ReadSource, Sink, Source,
+    WriteSink,
+};
 use std::alloc::Global;
 use std::cell::Cell;
 use std::random::RandomSource;

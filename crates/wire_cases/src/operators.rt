@@ -1,5 +1,5 @@
 //! Bodies and texts as operators send and see them.
-use crate::{
+use admin_wire::{
     key_text, nodes_text, read_admit_form, read_key_form, read_tags_form, swept_text, user_text,
     waiting_text,
 };
