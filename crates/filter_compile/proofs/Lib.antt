@@ -1,0 +1,5 @@
+pub mod ListLemmas
+pub mod OwnLemmas
+pub mod RuleLemmas
+pub mod StepLemmas
+pub mod UnrestrictedLemmas
