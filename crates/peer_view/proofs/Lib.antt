@@ -1,0 +1,4 @@
+pub mod AnyLemmas
+pub mod ListLemmas
+pub mod ReachLaws
+pub mod SightLaws

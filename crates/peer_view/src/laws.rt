@@ -1,0 +1,33 @@
+//! Laws of the definitions. None of these functions does anything: each states a law.
+ghost use Rattle.std.specs.Prelude.{◌≡◌, ℕ, Contains, List, None, Option};
+ghost use Rattle.net_rows.specs.Damage.{damage};
+ghost use Rattle.net_rows.specs.declared.rows.Rows.{Rows};
+ghost use Rattle.policy_rows.specs.declared.policy.Policy.{Policy};
+ghost use Rattle.policy_eval.specs.Grants.{groups_of, rules_of};
+ghost use Rattle.policy_eval.specs.Reach.{AreSoundRules};
+ghost use Rattle.policy_eval.specs.Sites.{AreDistinct, sites_of};
+ghost use Rattle.policy_eval.specs.declared.site.Site.{Site};
+ghost use Rattle.settings.specs.declared.fields.SettingsFields.{SettingsFields};
+ghost use Rattle.peer_view.specs.Seen.{Node, node_reaches, seen_of};
+ghost use Rattle.peer_view.specs.Reaches.{IsSoundSite, reaches, site_reaches};
+
+/// Whether a machine reaches another one depends on the rules and the two machines alone, whatever
+/// other machines there are.
+pub fn reach_is_local()
+    ensures sites { (policy : Option Policy) (sites : List Site) (a b : Site)
+        → AreSoundRules (rules_of policy) → AreDistinct sites
+        → Contains sites a → Contains sites b → IsSoundSite b
+        → reaches policy sites a b ≡ site_reaches (groups_of policy) (rules_of policy) a b }
+    ensures tables { (policy : Option Policy) (rows : Rows) (live : List ℕ) (a b : Site)
+        → AreSoundRules (rules_of policy) → damage rows ≡ None
+        → Contains (sites_of rows live) a → Contains (sites_of rows live) b
+        → reaches policy (sites_of rows live) a b
+        ≡ site_reaches (groups_of policy) (rules_of policy) a b }
+    ensures nodes { (settings : SettingsFields) (policy : Option Policy) (rows : Rows)
+        (live online : List ℕ) (a b : Node)
+        → AreSoundRules (rules_of policy) → damage rows ≡ None
+        → Contains (seen_of settings policy rows live online).nodes a
+        → Contains (seen_of settings policy rows live online).nodes b
+        → node_reaches (seen_of settings policy rows live online) a b
+        ≡ site_reaches (groups_of policy) (rules_of policy) a.site b.site }
+{}
