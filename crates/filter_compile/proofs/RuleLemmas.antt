@@ -23,18 +23,18 @@ use Rattle.tailcfg.specs.declared.filter.Sources.TheVariants.{Any, Only}
 use Rattle.tail_base.proofs.Bools.{same_tests}
 use Rattle.tail_base.proofs.Searches.{any_weaker}
 use Rattle.net_rows.proofs.Members.{list_any_found, list_any_is}
-use Rattle.policy_eval.specs.Covers.{covers, dest_covers, joins_own}
+use Rattle.policy_eval.specs.Covers.{covers, dest_covers, is_own_devices, joins_own}
 use Rattle.policy_eval.specs.Ends.{end_at}
 use Rattle.policy_eval.specs.Expansion.{entry_covers, source_covers}
 use Rattle.policy_eval.specs.Grants.{entry_grants, ports_hold, rule_grants, some_source}
 use Rattle.policy_eval.specs.Reach.{AreSoundRules, IsSoundRule}
-use Rattle.policy_eval.specs.Sites.{AreDistinct, site_has}
+use Rattle.policy_eval.specs.Sites.{AreDistinct, serves, site_has}
 use Rattle.policy_eval.specs.declared.end.End.{End}
 use Rattle.policy_eval.specs.declared.site.Site.{Site}
 use Rattle.policy_eval.proofs.EndLemmas.{own_end}
 use Rattle.filter_compile.specs.Admits.{AdmitsGranted, dest_admits, rule_admits, source_admits}
-use Rattle.filter_compile.specs.Filters.{entry_dests, is_of_own, own_dests, own_rule, own_source_covers, plain_rule, rule_filter, rules_filter, serves, sources_of}
-use Rattle.filter_compile.specs.Parts.{dest_ranges, is_all, is_nobody, is_self, rule_or_none, with_ports}
+use Rattle.filter_compile.specs.Filters.{entry_dests, is_of_own, own_dests, own_rule, own_source_covers, plain_rule, rule_filter, rules_filter, sources_of}
+use Rattle.filter_compile.specs.Parts.{dest_ranges, is_all, is_nobody, rule_or_none, with_ports}
 use Rattle.filter_compile.proofs.ListLemmas.{any_and, any_and_behind, any_flat_map, any_map, any_or, any_same}
 
 -- the canonical prefixes hold the set
@@ -117,7 +117,7 @@ plain_hit groups sites m y proto port e = (entry_covers groups sites e y && serv
 
 -- by `autogroup:self`
 abbrev own_hit : Site → Address → ℕ → ℕ → Dest → Bool
-own_hit m y proto port e = is_self e.to && ((site_has y m && serves m y) && ports_hold e.ports proto port)
+own_hit m y proto port e = is_own_devices e.to && ((site_has y m && serves m y) && ports_hold e.ports proto port)
 
 plain_admits : (groups : List Group) (sites : List Site) (m : Site) (y : Address) (proto port : ℕ) (es : List Dest) → y.bits < family_size y.v6 → ((e : Dest) → Contains es e → IsPorts e.ports)
     → list_any (dest_admits y proto port) (flat_map (entry_dests groups sites m) es) ≡ list_any (plain_hit groups sites m y proto port) es
@@ -128,7 +128,7 @@ plain_admits groups sites m y proto port es small some =
 
 own_admits_one : (m : Site) (y : Address) (proto port : ℕ) (e : Dest) → y.bits < family_size y.v6 → IsPorts e.ports → list_any (dest_admits y proto port) (own_dests m e) ≡ own_hit m y proto port e
 own_admits_one m y proto port e small some =
-    elim (cases_Bool (is_self e.to)) [
+    elim (cases_Bool (is_own_devices e.to)) [
       | inl own ↦ rw own (ranges_admit y proto port e.ports (λ addr. site_has addr m && serves m addr) small some)
       | inr other ↦ rw other refl
     ]
@@ -167,7 +167,7 @@ rule_filter_admits groups sites m x y proto port r from small sound =
 
 -- ---- what a rule grants
 
-dest_split : (groups : List Group) (to : Selector) (s d : End) → dest_covers groups to s d ≡ (covers groups to d || (is_self to && joins_own s d))
+dest_split : (groups : List Group) (to : Selector) (s d : End) → dest_covers groups to s d ≡ (covers groups to d || (is_own_devices to && joins_own s d))
 dest_split groups All s d = refl
 dest_split groups (Net net) s d = sym (or_false (covers groups (Net net) d))
 dest_split groups (User login) s d = sym (or_false (covers groups (User login) d))
@@ -193,20 +193,20 @@ plain_grants groups sites m x y proto port e h =
     let d = end_at sites y in
     let p = and_parts (entry_covers groups sites e y && serves m y) (ports_hold e.ports proto port) h in
     let q = and_parts (entry_covers groups sites e y) (serves m y) p.0 in
-    (q.1, and_from (dest_covers groups e.to s d) (ports_hold e.ports proto port) (dest_split groups e.to s d ∙ or_left (covers groups e.to d) (is_self e.to && joins_own s d) q.0) p.1)
+    (q.1, and_from (dest_covers groups e.to s d) (ports_hold e.ports proto port) (dest_split groups e.to s d ∙ or_left (covers groups e.to d) (is_own_devices e.to && joins_own s d) q.0) p.1)
 
 own_grants : (groups : List Group) (sites : List Site) (m : Site) (x y : Address) (proto port : ℕ) (e : Dest) → AreDistinct sites → Contains sites m → is_of_own sites m x ≡ true → own_hit m y proto port e ≡ true
     → (serves m y ≡ true) × (entry_grants groups (end_at sites x) (end_at sites y) proto port e ≡ true)
 own_grants groups sites m x y proto port e distinct inside own h =
     let s = end_at sites x in
     let d = end_at sites y in
-    let p = and_parts (is_self e.to) ((site_has y m && serves m y) && ports_hold e.ports proto port) h in
+    let p = and_parts (is_own_devices e.to) ((site_has y m && serves m y) && ports_hold e.ports proto port) h in
     let q = and_parts (site_has y m && serves m y) (ports_hold e.ports proto port) p.1 in
     let k = and_parts (site_has y m) (serves m y) q.0 in
     let joins = own_joins sites m x y distinct inside k.0 ∙ own in (
       k.1,
       and_from (dest_covers groups e.to s d) (ports_hold e.ports proto port)
-          (dest_split groups e.to s d ∙ or_right (covers groups e.to d) (is_self e.to && joins_own s d) (and_from (is_self e.to) (joins_own s d) p.0 joins)) q.1,
+          (dest_split groups e.to s d ∙ or_right (covers groups e.to d) (is_own_devices e.to && joins_own s d) (and_from (is_own_devices e.to) (joins_own s d) p.0 joins)) q.1,
     )
 
 -- what is granted is a hit of the one kind or the other
@@ -217,13 +217,13 @@ grants_hit groups sites m x y proto port e distinct inside served h =
     let s = end_at sites x in
     let d = end_at sites y in
     let p = and_parts (dest_covers groups e.to s d) (ports_hold e.ports proto port) h in
-    elim (or_cases (covers groups e.to d) (is_self e.to && joins_own s d) (sym (dest_split groups e.to s d) ∙ p.0)) [
+    elim (or_cases (covers groups e.to d) (is_own_devices e.to && joins_own s d) (sym (dest_split groups e.to s d) ∙ p.0)) [
       | inl covered ↦ inl (and_from (entry_covers groups sites e y && serves m y) (ports_hold e.ports proto port) (and_from (entry_covers groups sites e y) (serves m y) covered served) p.1)
       | inr self ↦
-          let q = and_parts (is_self e.to) (joins_own s d) self in
+          let q = and_parts (is_own_devices e.to) (joins_own s d) self in
           inr (
             sym (own_joins sites m x y distinct inside served) ∙ q.1,
-            and_from (is_self e.to) ((site_has y m && serves m y) && ports_hold e.ports proto port) q.0
+            and_from (is_own_devices e.to) ((site_has y m && serves m y) && ports_hold e.ports proto port) q.0
                 (and_from (site_has y m && serves m y) (ports_hold e.ports proto port) (and_from (site_has y m) (serves m y) served served) p.1),
           )
     ]

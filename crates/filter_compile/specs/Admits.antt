@@ -13,8 +13,8 @@ use Rattle.tailcfg.specs.declared.filter.Sources.TheVariants as src
 use Rattle.policy_eval.specs.Ends.{end_at}
 use Rattle.policy_eval.specs.Expansion.{Expansion}
 use Rattle.policy_eval.specs.Grants.{some_rule_grants}
+use Rattle.policy_eval.specs.Sites.{serves}
 use Rattle.policy_eval.specs.declared.site.Site.{Site}
-use Rattle.filter_compile.specs.Filters.{serves}
 
 -- the sources are `*`, or one of their prefixes holds the address
 abbrev pub source_admits : Sources → Address → Bool

@@ -13,17 +13,13 @@ use Rattle.tailcfg.specs.declared.filter.DestRange.{DestRange}
 use Rattle.tailcfg.specs.declared.filter.FilterRule.{FilterRule}
 use Rattle.tailcfg.specs.declared.filter.Sources.{Sources}
 use Rattle.tailcfg.specs.declared.filter.Sources.TheVariants as src
-use Rattle.policy_eval.specs.Covers.{is_own}
+use Rattle.policy_eval.specs.Covers.{is_own, is_own_devices}
 use Rattle.policy_eval.specs.Ends.{end_at, holder_of}
 use Rattle.policy_eval.specs.Expansion.{entry_covers, source_covers}
 use Rattle.policy_eval.specs.Grants.{groups_of, rules_of}
-use Rattle.policy_eval.specs.Sites.{site_has}
+use Rattle.policy_eval.specs.Sites.{serves, site_has}
 use Rattle.policy_eval.specs.declared.site.Site.{Site}
-use Rattle.filter_compile.specs.Parts.{dest_ranges, is_all, is_self, rule_or_none}
-
--- what a machine serves: its own two addresses
-abbrev pub serves : Site → Address → Bool
-serves m addr = site_has addr m
+use Rattle.filter_compile.specs.Parts.{dest_ranges, is_all, rule_or_none}
 
 -- a rule's sources: `*`, if it is one of them, and else the addresses that they cover
 abbrev pub sources_of : List Group → List Site → Rule → Sources
@@ -52,7 +48,7 @@ own_source_covers groups sites m r addr = source_covers groups sites r addr && i
 
 -- what the machine serves of its own addresses, with the ports of a destination that is `autogroup:self`
 abbrev pub own_dests : Site → Dest → List DestRange
-own_dests m entry = if is_self entry.to then dest_ranges entry.ports (λ addr. site_has addr m && serves m addr) else []
+own_dests m entry = if is_own_devices entry.to then dest_ranges entry.ports (λ addr. site_has addr m && serves m addr) else []
 
 -- the filter rule of a rule's destinations `autogroup:self`; its sources are never `*`
 abbrev pub own_rule : List Group → List Site → Site → Rule → List FilterRule

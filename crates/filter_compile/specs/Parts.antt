@@ -22,18 +22,6 @@ is_all sel.AllTagged = false
 is_all sel.Internet = false
 is_all sel.OwnDevices = false
 
--- `autogroup:self`
-abbrev pub is_self : Selector → Bool
-is_self sel.All = false
-is_self (sel.Net net) = false
-is_self (sel.User login) = false
-is_self (sel.Group name) = false
-is_self (sel.Tagged tag) = false
-is_self sel.Member = false
-is_self sel.AllTagged = false
-is_self sel.Internet = false
-is_self sel.OwnDevices = true
-
 -- no address is a source
 abbrev pub is_nobody : Sources → Bool
 is_nobody src.Any = false

@@ -1,14 +1,14 @@
 //! The destinations of a rule, as a filter has them.
 ghost use Rattle.std.specs.Prelude.{◌≡◌, ◌<◌, ◌++◌, [], IfOk, OnOk, flat_map, length, slice_index_or, if◌then◌else◌};
 ghost use Rattle.policy_rows.specs.declared.rule.Rule.{Rule};
+ghost use Rattle.policy_eval.specs.Covers.{is_own_devices};
 ghost use Rattle.filter_compile.specs.Filters.{entry_dests, own_dests};
-ghost use Rattle.filter_compile.specs.Parts.{is_self, with_ports};
+ghost use Rattle.filter_compile.specs.Parts.{with_ports};
 
 use crate::dest_ranges::{add_prefixes, add_shared};
 use crate::own::{own_prefixes, served_set};
-use crate::rule_parts::is_self;
 use net_addr::Prefix;
-use policy_eval::{Expanded, Site};
+use policy_eval::{Expanded, Site, is_own_devices};
 use policy_rows::{Dest, Rule};
 use std::alloc::Global;
 use tail_base::{Items, NoMemory};
@@ -38,10 +38,10 @@ pub(crate) fn plain_dests(
 
 /// Adds prefixes with the ports of the destination, if it is `autogroup:self`.
 fn add_own(out: &mut Items<DestRange>, entry: &Dest, prefixes: &[Prefix]) -> Result<(), NoMemory>
-    ensures ok { OnOk result (out.new ≡ out.old ++ (if is_self entry.now.to
+    ensures ok { OnOk result (out.new ≡ out.old ++ (if is_own_devices entry.now.to
         then flat_map (with_ports entry.now.ports) prefixes.now else [])) }
 {
-    if is_self(&entry.to) {
+    if is_own_devices(&entry.to) {
         add_prefixes(out, prefixes, entry.ports.ranges())
     } else {
         Ok(())

@@ -7,10 +7,10 @@ ghost use Rattle.policy_rows.specs.declared.rule.Rule.{Rule};
 ghost use Rattle.policy_eval.specs.Ends.{end_at};
 ghost use Rattle.policy_eval.specs.Grants.{grants, rules_of, some_rule_grants};
 ghost use Rattle.policy_eval.specs.Reach.{AreSoundRules};
-ghost use Rattle.policy_eval.specs.Sites.{AreDistinct};
+ghost use Rattle.policy_eval.specs.Sites.{AreDistinct, serves};
 ghost use Rattle.policy_eval.specs.declared.site.Site.{Site};
 ghost use Rattle.filter_compile.specs.Admits.{admits};
-ghost use Rattle.filter_compile.specs.Filters.{filter_of, rules_filter, serves};
+ghost use Rattle.filter_compile.specs.Filters.{filter_of, rules_filter};
 ghost use Rattle.filter_compile.specs.Unrestricted.{HasBothFamilies, unrestricted};
 
 /// A machine's filter admits exactly the flows to what the machine serves that are granted: by rules,

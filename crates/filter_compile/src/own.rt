@@ -4,14 +4,12 @@ ghost use Rattle.std.specs.List.{list_any};
 ghost use Rattle.net_addr.specs.Bits.{Address};
 ghost use Rattle.range_sets.specs.Canonical.{canonical};
 ghost use Rattle.range_sets.specs.Sets.{has, some_holds};
-ghost use Rattle.policy_eval.specs.Covers.{is_own};
-ghost use Rattle.policy_eval.specs.Ends.{holder_of};
-ghost use Rattle.policy_eval.specs.Sites.{AreDistinct, site_has};
-ghost use Rattle.filter_compile.specs.Filters.{is_of_own, own_site_has, serves};
+ghost use Rattle.policy_eval.specs.Sites.{AreDistinct, serves, site_has};
+ghost use Rattle.filter_compile.specs.Filters.{is_of_own, own_site_has};
 
 use crate::dest_ranges::shared_prefixes;
 use net_addr::Prefix;
-use policy_eval::Site;
+use policy_eval::{Site, are_own};
 use range_sets::RangeSet;
 use std::alloc::Global;
 use tail_base::{Items, NoMemory};
@@ -55,22 +53,13 @@ pub(crate) fn own_prefixes(alloc: Global, machine: &Site) -> Result<Items<Prefix
     Ok(prefixes)
 }
 
-/// Whether both machines are untagged, and of one login.
-fn is_own(site: &Site, machine: &Site) -> bool
-    ensures value { result ≡ is_own (holder_of site.now) (holder_of machine.now) }
-{
-    site.tags.is_empty()
-        && machine.tags.is_empty()
-        && site.login.as_slice() == machine.login.as_slice()
-}
-
 /// Adds the addresses of a site that is one of the machine's own.
 #[tactic(auto, using(crate::proofs::OwnLemmas::own_steps))]
 fn add_own(out: &mut Items<Prefix>, site: &Site, machine: &Site) -> Result<(), NoMemory>
     ensures held { OnOk result ((addr : Address) → some_holds out.new addr
         ≡ (some_holds out.old addr || own_site_has machine.now addr site.now)) }
 {
-    if is_own(site, machine) {
+    if are_own(site, machine) {
         add_addresses(out, site)
     } else {
         Ok(())

@@ -4,7 +4,7 @@ ghost use Rattle.std.specs.List.{list_any};
 ghost use Rattle.port_sets.specs.Protocols.{members};
 ghost use Rattle.range_sets.specs.Canonical.{canonical};
 ghost use Rattle.range_sets.specs.Sets.{has};
-ghost use Rattle.filter_compile.specs.Parts.{is_all, is_nobody, is_self, rule_or_none};
+ghost use Rattle.filter_compile.specs.Parts.{is_all, is_nobody, rule_or_none};
 
 use crate::protocols::members;
 use policy_rows::{Rule, Selector};
@@ -27,23 +27,6 @@ fn is_all(selector: &Selector) -> bool
         | Selector::AllTagged
         | Selector::Internet
         | Selector::OwnDevices => false,
-    }
-}
-
-/// Whether the selector is `autogroup:self`.
-pub(crate) fn is_self(selector: &Selector) -> bool
-    ensures value { result ≡ is_self selector.now }
-{
-    match selector {
-        Selector::OwnDevices => true,
-        Selector::All
-        | Selector::Net(_)
-        | Selector::User(_)
-        | Selector::Group(_)
-        | Selector::Tagged(_)
-        | Selector::Member
-        | Selector::AllTagged
-        | Selector::Internet => false,
     }
 }
 

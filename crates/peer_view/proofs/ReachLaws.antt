@@ -14,16 +14,16 @@ use Rattle.policy_rows.specs.declared.policy.Policy.{Policy}
 use Rattle.policy_rows.specs.declared.rule.Rule.{Rule}
 use Rattle.policy_rows.specs.declared.selector.Selector.{Selector}
 use Rattle.policy_rows.specs.declared.selector.Selector.TheVariants as sel
-use Rattle.policy_eval.specs.Covers.{covers, dest_covers, is_own}
+use Rattle.policy_eval.specs.Covers.{covers, dest_covers, is_own, is_own_devices}
 use Rattle.policy_eval.specs.Ends.{end_at, holder_of}
 use Rattle.policy_eval.specs.Grants.{groups_of, rules_of, some_source}
 use Rattle.policy_eval.specs.Reach.{AreSoundRules, entry_reaches, reaches_into, rule_reaches}
-use Rattle.policy_eval.specs.Sites.{AreDistinct, site_has}
+use Rattle.policy_eval.specs.Sites.{AreDistinct, serves, site_has}
 use Rattle.policy_eval.specs.declared.end.End.{End}
 use Rattle.policy_eval.specs.declared.site.Site.{Site}
 use Rattle.policy_eval.proofs.EndLemmas.{own_end}
 use Rattle.policy_eval.proofs.ReachLemmas.{reach_is}
-use Rattle.peer_view.specs.Reaches.{IsSoundSite, covers_site, site_end, is_own_devices, joins_own_by, site_addresses, reaches, sends, serves, site_reaches, takes}
+use Rattle.peer_view.specs.Reaches.{IsSoundSite, covers_site, site_end, joins_own_by, site_addresses, reaches, sends, site_reaches, takes}
 use Rattle.peer_view.proofs.AnyLemmas.{any_and, any_or, any_pair, any_same, either_and, either_or}
 
 address_of : (a b : Address) → address_eq a b ≡ true → a ≡ b

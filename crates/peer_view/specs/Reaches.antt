@@ -8,16 +8,12 @@ use Rattle.policy_rows.specs.declared.policy.Policy.{Policy}
 use Rattle.policy_rows.specs.declared.rule.Rule.{Rule}
 use Rattle.policy_rows.specs.declared.selector.Selector.{Selector}
 use Rattle.policy_rows.specs.declared.selector.Selector.TheVariants as sel
-use Rattle.policy_eval.specs.Covers.{covers, is_own}
+use Rattle.policy_eval.specs.Covers.{covers, is_own, is_own_devices}
 use Rattle.policy_eval.specs.Ends.{end_at, holder_of}
 use Rattle.policy_eval.specs.Reach.{reaches_into}
-use Rattle.policy_eval.specs.Sites.{site_has}
+use Rattle.policy_eval.specs.Sites.{serves}
 use Rattle.policy_eval.specs.declared.end.End.{End}
 use Rattle.policy_eval.specs.declared.site.Site.{Site}
-
--- the addresses that a machine serves: its own two
-abbrev pub serves : Site → Address → Bool
-serves site addr = site_has addr site
 
 -- a machine's own addresses
 abbrev pub site_addresses : Site → List Address
@@ -43,18 +39,6 @@ sends groups r site = list_any (covers_site groups site) r.sources
 -- covers no end alone
 abbrev pub takes : List Group → Rule → Site → Bool
 takes groups r site = list_any (λ entry. covers_site groups site entry.to) r.dests
-
--- the selector is `autogroup:self`
-abbrev pub is_own_devices : Selector → Bool
-is_own_devices sel.All = false
-is_own_devices (sel.Net net) = false
-is_own_devices (sel.User login) = false
-is_own_devices (sel.Group name) = false
-is_own_devices (sel.Tagged tag) = false
-is_own_devices sel.Member = false
-is_own_devices sel.AllTagged = false
-is_own_devices sel.Internet = false
-is_own_devices sel.OwnDevices = true
 
 -- `autogroup:self` is a destination of the rule, and both machines are untagged and of one login
 abbrev pub joins_own_by : Rule → Site → Site → Bool

@@ -1,11 +1,10 @@
 //! Which machines the rules let through, seen from the two machines alone.
 ghost use Rattle.std.specs.Prelude.{◌≡◌};
 ghost use Rattle.std.specs.List.{list_any};
-ghost use Rattle.policy_eval.specs.Covers.{is_own};
-ghost use Rattle.policy_eval.specs.Ends.{holder_of};
-ghost use Rattle.peer_view.specs.Reaches.{covers_site, is_own_devices, joins_own_by, lets_through, sends, site_reaches, takes};
+ghost use Rattle.policy_eval.specs.Covers.{is_own_devices};
+ghost use Rattle.peer_view.specs.Reaches.{covers_site, joins_own_by, lets_through, sends, site_reaches, takes};
 
-use policy_eval::Site;
+use policy_eval::{Site, are_own, is_own_devices};
 use policy_rows::{Dest, Group, Rule, Selector, is_internet, is_named};
 
 /// Whether the selector covers one of the machine's own ends.
@@ -52,34 +51,11 @@ fn takes(groups: &[Group], rule: &Rule, site: &Site) -> bool
         .any(|entry| covers_site(groups, site, &entry.to))
 }
 
-fn is_own_devices(selector: &Selector) -> bool
-    ensures value { result ≡ is_own_devices selector.now }
-{
-    match selector {
-        Selector::OwnDevices => true,
-        Selector::All
-        | Selector::Net(_)
-        | Selector::User(_)
-        | Selector::Group(_)
-        | Selector::Tagged(_)
-        | Selector::Member
-        | Selector::AllTagged
-        | Selector::Internet => false,
-    }
-}
-
 /// Whether the rule has `autogroup:self` as a destination.
 fn has_own_devices(entries: &[Dest]) -> bool
     ensures value { result ≡ list_any (λ entry. is_own_devices entry.to) entries.now }
 {
     entries.iter().any(|entry| is_own_devices(&entry.to))
-}
-
-/// Whether both machines are untagged and of one login.
-fn are_own(a: &Site, b: &Site) -> bool
-    ensures value { result ≡ is_own (holder_of a.now) (holder_of b.now) }
-{
-    a.tags.is_empty() && b.tags.is_empty() && a.login.as_slice() == b.login.as_slice()
 }
 
 /// Whether `autogroup:self` of the rule joins the two machines.

@@ -1,6 +1,6 @@
 -- What the whole program comes to.
 use Rattle.std.specs.Prelude.{◌≡◌, ℕ, false, Option, None, Some, List}
-use Rattle.tail_words.specs.Words.{CommandWords, serves, checks_policy}
+use Rattle.tail_words.specs.Words.{CommandWords, runs_pipe, checks_policy}
 use Rattle.run_ends.specs.Lines.{Noted, usage_line}
 use Rattle.run_ends.specs.declared.status.Status.{Status}
 use Rattle.run_ends.specs.declared.status.Status.TheVariants as status
@@ -39,7 +39,7 @@ IsLine line old new = Noted line false old.errors new.errors old.error_faults ne
 -- Words that are no command do nothing but leave their line on errors; a command comes to what its status says.
 abbrev pub Top : Option CommandWords → Status → Outside → Outside → Type 0
 Top None ended old new = (ended ≡ status.Usage) × IsNotedAlone old new × IsLine usage_line old new
-Top (Some (serves given)) ended old new = Outcome ended given.file given.seed old new
+Top (Some (runs_pipe given)) ended old new = Outcome ended given.file given.seed old new
 Top (Some (checks_policy file)) ended old new =
     IsWrittenAlone old new
     × Checked ended (old.files file) old.file_faults new.file_faults old.told.giving.held new.told.giving.held old.told.giving.write_faults new.told.giving.write_faults
