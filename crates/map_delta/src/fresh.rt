@@ -1,6 +1,6 @@
 //! Maps computed afresh.
 ghost use Rattle.std.specs.Prelude.{◌≡◌, ◌∷◌, ◌++◌, [], IfOk, OnOk, if◌then◌else◌};
-ghost use Rattle.map_delta.specs.Fresh.{fresh, peers_of, sees, shown};
+ghost use Rattle.map_delta.specs.Fresh.{fresh, is_peer_of, peers_of, shown};
 
 use crate::filter::open_filter;
 use crate::listed::Listed;
@@ -22,8 +22,8 @@ fn shown(alloc: Global, domain: &str, machine: &Machine) -> Result<NodeRow, NoMe
 }
 
 /// Whether the viewer sees the machine.
-fn sees(live: &Listed<'_>, viewer: u32, machine: &Machine) -> bool
-    ensures value { result ≡ sees live.now viewer machine.now }
+fn is_peer_of(live: &Listed<'_>, viewer: u32, machine: &Machine) -> bool
+    ensures value { result ≡ is_peer_of live.now viewer machine.now }
 {
     machine.id != viewer && live.has(machine.id)
 }
@@ -64,7 +64,7 @@ fn peers_of(
             &mut peers,
             domain,
             machine,
-            sees(live, viewer, machine),
+            is_peer_of(live, viewer, machine),
         )?;
     }
     Ok(peers)
