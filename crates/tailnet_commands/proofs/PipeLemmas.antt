@@ -1,11 +1,18 @@
 -- What the command `pipe` comes to.
-use Rattle.std.proofs.Common.{ℕ, Option, List, inl, inr}
+use Rattle.std.proofs.Common.{ℕ, Option, None, Some, List, IfSome, inl, inr, refl}
+use Rattle.io_edge.specs.Edge.{IsWhereTold}
+use Rattle.net_rows.specs.declared.rows.Rows.{Rows}
 use Rattle.settings.specs.declared.fields.SettingsFields.{SettingsFields}
 use Rattle.tailnet_commands.specs.Outside.{Outside}
 use Rattle.tailnet_commands.specs.Pipe.{AreSettingsOf, IsUnread, Piped}
 use Rattle.tailnet_commands.specs.Run.{IsUnasked, Ran, Untouched}
 use Rattle.run_ends.specs.declared.ended.Ended.{Ended}
 use Rattle.run_ends.specs.declared.ended.Ended.TheVariants as ended
+
+-- what is told is so where it is told
+pub told_by_itself : (o : Option Rows) → IfSome o (λ rows. IsWhereTold rows o)
+told_by_itself None = tt
+told_by_itself (Some rows) = refl
 
 module _ (name : List ℕ) (seed : Option (List ℕ)) (old new : Outside) where
   -- a run over the file's settings
