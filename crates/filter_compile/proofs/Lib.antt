@@ -1,3 +1,4 @@
+pub mod FamilyLemmas
 pub mod KeptLemmas
 pub mod ListLemmas
 pub mod OwnLemmas
