@@ -1,3 +1,5 @@
+pub mod FamilyLemmas
+pub mod KeptLemmas
 pub mod ListLemmas
 pub mod OwnLemmas
 pub mod RuleLemmas

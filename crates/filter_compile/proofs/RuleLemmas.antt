@@ -34,7 +34,8 @@ use Rattle.policy_eval.specs.declared.site.Site.{Site}
 use Rattle.policy_eval.proofs.EndLemmas.{own_end}
 use Rattle.filter_compile.specs.Admits.{AdmitsGranted, dest_admits, rule_admits, source_admits}
 use Rattle.filter_compile.specs.Filters.{entry_dests, is_of_own, own_dests, own_rule, own_source_covers, plain_rule, rule_filter, rules_filter, sources_of}
-use Rattle.filter_compile.specs.Parts.{dest_ranges, is_all, is_nobody, rule_or_none, with_ports}
+use Rattle.filter_compile.specs.Parts.{dest_ranges, is_all, is_self, rule_or_none, with_ports}
+use Rattle.filter_compile.proofs.KeptLemmas.{from_nobody, kept_rule, left_out, some_first}
 use Rattle.filter_compile.proofs.ListLemmas.{any_and, any_and_behind, any_flat_map, any_map, any_or, any_same}
 
 -- the canonical prefixes hold the set
@@ -51,28 +52,18 @@ and_false false = refl
 
 -- ---- one filter rule
 
--- where neither sources nor destinations are missing the rule is there
-kept_rule : (protos : List ℕ) (sources : Sources) (d : DestRange) (ds : List DestRange) → is_nobody sources ≡ false
-    → rule_or_none protos sources (d ∷ ds) ≡ record { sources = sources; dests = d ∷ ds; protos = protos } ∷ []
-kept_rule protos sources d ds some = let more : (length (d ∷ ds) == 0) ≡ false = ne_eqb (suc (length ds)) 0 (λ e. omega arith) in rw (some, more) refl
-
-pub left_out : (protos : List ℕ) (sources : Sources) → rule_or_none protos sources [] ≡ []
-left_out protos sources = elim (cases_Bool (is_nobody sources)) [
-  | inl none ↦ rw none refl
-  | inr some ↦ rw some refl
-]
-
 -- a rule that is left out admits nothing
 rule_or_none_admits : (x y : Address) (proto port : ℕ) (protos : List ℕ) (sources : Sources) (dests : List DestRange)
     → list_any (rule_admits x y proto port) (rule_or_none protos sources dests) ≡ rule_admits x y proto port (record { sources = sources; dests = dests; protos = protos })
 rule_or_none_admits x y proto port protos sources [] =
-    ap (λ rules. list_any (rule_admits x y proto port) rules) (left_out protos sources) ∙ sym (and_false (list_any (λ p. p == proto) protos && source_admits sources x))
+    ap (λ rules. list_any (rule_admits x y proto port) rules) (left_out protos sources [] refl) ∙ sym (and_false (list_any (λ p. p == proto) protos && source_admits sources x))
 rule_or_none_admits x y proto port protos Any (d ∷ ds) =
-    ap (λ rules. list_any (rule_admits x y proto port) rules) (kept_rule protos Any d ds refl) ∙ or_false (rule_admits x y proto port (record { sources = Any; dests = d ∷ ds; protos = protos }))
+    ap (λ rules. list_any (rule_admits x y proto port) rules) (kept_rule protos Any (d ∷ ds) (some_first d ds) refl) ∙ or_false (rule_admits x y proto port (record { sources = Any; dests = d ∷ ds; protos = protos }))
 rule_or_none_admits x y proto port protos (Only []) (d ∷ ds) =
-    sym (ap (λ b. b && list_any (dest_admits y proto port) (d ∷ ds)) (and_false (list_any (λ p. p == proto) protos)))
+    ap (λ rules. list_any (rule_admits x y proto port) rules) (from_nobody protos (Only []) (d ∷ ds) refl)
+    ∙ sym (ap (λ b. b && list_any (dest_admits y proto port) (d ∷ ds)) (and_false (list_any (λ p. p == proto) protos)))
 rule_or_none_admits x y proto port protos (Only (p ∷ ps)) (d ∷ ds) =
-    ap (λ rules. list_any (rule_admits x y proto port) rules) (kept_rule protos (Only (p ∷ ps)) d ds (ne_eqb (suc (length ps)) 0 (λ e. omega arith)))
+    ap (λ rules. list_any (rule_admits x y proto port) rules) (kept_rule protos (Only (p ∷ ps)) (d ∷ ds) (some_first d ds) (ne_eqb (suc (length ps)) 0 (λ e. omega arith)))
     ∙ or_false (rule_admits x y proto port (record { sources = Only (p ∷ ps); dests = d ∷ ds; protos = protos }))
 
 -- ---- sources
@@ -209,6 +200,10 @@ own_grants groups sites m x y proto port e distinct inside own h =
           (dest_split groups e.to s d ∙ or_right (covers groups e.to d) (is_own_devices e.to && joins_own s d) (and_from (is_own_devices e.to) (joins_own s d) p.0 joins)) q.1,
     )
 
+-- as long as machines serve no routes: what a machine serves is its own address
+served_is_own : (m : Site) (y : Address) → serves m y ≡ true → site_has y m ≡ true
+served_is_own m y h = h
+
 -- what is granted is a hit of the one kind or the other
 grants_hit : (groups : List Group) (sites : List Site) (m : Site) (x y : Address) (proto port : ℕ) (e : Dest) → AreDistinct sites → Contains sites m → serves m y ≡ true
     → entry_grants groups (end_at sites x) (end_at sites y) proto port e ≡ true
@@ -221,10 +216,11 @@ grants_hit groups sites m x y proto port e distinct inside served h =
       | inl covered ↦ inl (and_from (entry_covers groups sites e y && serves m y) (ports_hold e.ports proto port) (and_from (entry_covers groups sites e y) (serves m y) covered served) p.1)
       | inr self ↦
           let q = and_parts (is_own_devices e.to) (joins_own s d) self in
+          let own = served_is_own m y served in
           inr (
-            sym (own_joins sites m x y distinct inside served) ∙ q.1,
+            sym (own_joins sites m x y distinct inside own) ∙ q.1,
             and_from (is_own_devices e.to) ((site_has y m && serves m y) && ports_hold e.ports proto port) q.0
-                (and_from (site_has y m && serves m y) (ports_hold e.ports proto port) (and_from (site_has y m) (serves m y) served served) p.1),
+                (and_from (site_has y m && serves m y) (ports_hold e.ports proto port) (and_from (site_has y m) (serves m y) own served) p.1),
           )
     ]
 

@@ -8,12 +8,10 @@ use Rattle.net_rows.specs.Damage.{address_eq}
 use Rattle.range_sets.specs.Canonical.{block_at, canonical, greatest_in}
 use Rattle.range_sets.proofs.GreatestLemmas.{all_false, greatest_none}
 use Rattle.policy_rows.specs.declared.group.Group.{Group}
-use Rattle.tailcfg.specs.declared.filter.Sources.TheVariants.{Only}
 use Rattle.policy_eval.specs.Grants.{open_rule}
 use Rattle.policy_eval.specs.declared.site.Site.{Site}
-use Rattle.filter_compile.specs.Filters.{own_source_covers, rules_filter}
+use Rattle.filter_compile.specs.Filters.{rules_filter}
 use Rattle.filter_compile.specs.Unrestricted.{HasBothFamilies, unrestricted}
-use Rattle.filter_compile.proofs.RuleLemmas.{left_out}
 
 -- the prefixes of one number
 single : (v6 : Bool) (h : ℕ → Bool) (n base a : ℕ) → base ≤ a → a < base + 2 ^ n → h a ≡ true → ((x : ℕ) → (x ≡ a → ⊥) → h x ≡ false)
@@ -60,6 +58,4 @@ both m h =
 
 -- where everything is let through
 pub open_is : (groups : List Group) (sites : List Site) (m : Site) → HasBothFamilies m → rules_filter groups (open_rule ∷ []) sites m ≡ unrestricted m
-open_is groups sites m h =
-    let none = left_out (1 ∷ 6 ∷ 17 ∷ 58 ∷ []) (Only (canonical (own_source_covers groups sites m open_rule))) in
-    rw (both m h, none) refl
+open_is groups sites m h = rw (both m h) refl

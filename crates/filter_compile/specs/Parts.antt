@@ -30,7 +30,7 @@ is_nobody (src.Only prefixes) = length prefixes == 0
 -- a filter rule; it is left out if it has no source or no destination
 abbrev pub rule_or_none : List ℕ → Sources → List DestRange → List FilterRule
 rule_or_none protos sources dests =
-    if is_nobody sources || length dests == 0 then []
+    if length dests == 0 || is_nobody sources then []
     else record { sources = sources; dests = dests; protos = protos } ∷ []
 
 -- a prefix with each of the ranges of ports

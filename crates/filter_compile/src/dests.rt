@@ -14,7 +14,8 @@ use std::alloc::Global;
 use tail_base::{Items, NoMemory};
 use tailcfg::DestRange;
 
-/// What the destinations of the rule, which stands at that place, cover of that which the machine serves.
+/// What the destinations of the rule, which stands at that place, cover of that which the machine
+/// serves.
 pub(crate) fn plain_dests(
     alloc: Global,
     expanded: &Expanded,

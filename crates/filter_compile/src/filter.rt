@@ -53,6 +53,7 @@ fn own_sources(
 }
 
 /// Adds the filter rule of the rule, without its destinations `autogroup:self`.
+#[tactic(auto, using(crate::proofs::KeptLemmas::kept_steps))]
 fn add_plain_rule(
     alloc: Global,
     out: &mut Items<FilterRule>,
@@ -66,12 +67,16 @@ fn add_plain_rule(
     ensures ok { OnOk result (out.new ≡ out.old
         ++ plain_rule expanded.now.groups expanded.now.sites machine.now rule.now) }
 {
-    let sources = sources_of(alloc, expanded, at, rule)?;
     let dests = plain_dests(alloc, expanded, at, rule, machine)?;
+    if dests.is_empty() {
+        return Ok(());
+    }
+    let sources = sources_of(alloc, expanded, at, rule)?;
     add_rule(alloc, out, &rule.protos, sources, dests)
 }
 
 /// Adds the filter rule of its destinations `autogroup:self`.
+#[tactic(auto, using(crate::proofs::KeptLemmas::kept_steps))]
 fn add_own_rule(
     alloc: Global,
     out: &mut Items<FilterRule>,
@@ -85,8 +90,11 @@ fn add_own_rule(
     ensures ok { OnOk result (out.new ≡ out.old
         ++ own_rule expanded.now.groups expanded.now.sites machine.now rule.now) }
 {
-    let prefixes = own_sources(alloc, expanded, at, rule, machine)?;
     let dests = own_dests(alloc, rule, machine)?;
+    if dests.is_empty() {
+        return Ok(());
+    }
+    let prefixes = own_sources(alloc, expanded, at, rule, machine)?;
     add_rule(alloc, out, &rule.protos, Sources::Only(prefixes), dests)
 }
 
@@ -121,6 +129,7 @@ pub fn filter_for(
     ensures exact { IfOk result (AdmitsGranted expanded.now machine.now) }
 {
     let rules = expanded.rules();
+    // For what it promises, that an address has at most one site.
     let _sites = expanded.sites();
     let mut out = Items::new(alloc);
     for (at, rule) in rules.iter().enumerate() {

@@ -1,5 +1,5 @@
 //! The parts of filter rules.
-ghost use Rattle.std.specs.Prelude.{◌≡◌, ◌++◌, IfOk, OnOk, if◌then◌else◌};
+ghost use Rattle.std.specs.Prelude.{◌≡◌, ◌≢◌, [], ◌++◌, IfOk, OnOk, if◌then◌else◌};
 ghost use Rattle.std.specs.List.{list_any};
 ghost use Rattle.port_sets.specs.Protocols.{members};
 ghost use Rattle.range_sets.specs.Canonical.{canonical};
@@ -61,7 +61,8 @@ fn is_nobody(sources: &Sources) -> bool
     }
 }
 
-/// Adds a filter rule, if it has a source and a destination.
+/// Adds a filter rule with these destinations, if it has a source.
+#[tactic(auto, using(crate::proofs::KeptLemmas::kept_steps))]
 pub(crate) fn add_rule(
     alloc: Global,
     out: &mut Items<FilterRule>,
@@ -69,10 +70,11 @@ pub(crate) fn add_rule(
     sources: Sources,
     dests: Items<DestRange>,
 ) -> Result<(), NoMemory>
+    requires some { dests ≢ [] }
     ensures ok { OnOk result (out.new
         ≡ out.old ++ rule_or_none (members protos.now) sources dests) }
 {
-    if is_nobody(&sources) || dests.is_empty() {
+    if is_nobody(&sources) {
         return Ok(());
     }
     let protos = members(alloc, protos)?;
