@@ -1,4 +1,5 @@
 pub mod AnyLemmas
 pub mod ListLemmas
+pub mod OpenLaws
 pub mod ReachLaws
 pub mod SightLaws
