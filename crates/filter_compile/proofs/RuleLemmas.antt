@@ -34,7 +34,7 @@ use Rattle.policy_eval.specs.declared.site.Site.{Site}
 use Rattle.policy_eval.proofs.EndLemmas.{own_end}
 use Rattle.filter_compile.specs.Admits.{AdmitsGranted, dest_admits, rule_admits, source_admits}
 use Rattle.filter_compile.specs.Filters.{entry_dests, is_of_own, own_dests, own_rule, own_source_covers, plain_rule, rule_filter, rules_filter, sources_of}
-use Rattle.filter_compile.specs.Parts.{dest_ranges, is_all, is_self, rule_or_none, with_ports}
+use Rattle.filter_compile.specs.Parts.{dest_ranges, is_all, rule_or_none, with_ports}
 use Rattle.filter_compile.proofs.KeptLemmas.{from_nobody, kept_rule, left_out, some_first}
 use Rattle.filter_compile.proofs.ListLemmas.{any_and, any_and_behind, any_flat_map, any_map, any_or, any_same}
 

@@ -29,7 +29,7 @@ any_and p c (x ∷ xs) = ap (λ m. (p x && c) || m) (any_and p c xs) ∙ and_sha
 pub any_same : {A : Type 0} (p q : A → Bool) (xs : List A) → ((x : A) → p x ≡ q x) → list_any p xs ≡ list_any q xs
 any_same p q xs h = λ i. list_any (λ x. h x i) xs
 
-or_none : (b : Bool) → b ≡ (b || false)
+pub or_none : (b : Bool) → b ≡ (b || false)
 or_none true = refl
 or_none false = refl
 

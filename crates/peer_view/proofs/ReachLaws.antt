@@ -24,7 +24,7 @@ use Rattle.policy_eval.specs.declared.site.Site.{Site}
 use Rattle.policy_eval.proofs.EndLemmas.{own_end}
 use Rattle.policy_eval.proofs.ReachLemmas.{reach_is}
 use Rattle.peer_view.specs.Reaches.{IsSoundSite, covers_site, site_end, joins_own_by, site_addresses, reaches, sends, site_reaches, takes}
-use Rattle.peer_view.proofs.AnyLemmas.{any_and, any_or, any_pair, any_same, either_and, either_or}
+use Rattle.peer_view.proofs.AnyLemmas.{any_and, any_or, any_pair, any_same, either_and, either_or, or_none}
 
 address_of : (a b : Address) → address_eq a b ≡ true → a ≡ b
 address_of a b h =
@@ -93,10 +93,6 @@ from_own groups sites b s entry at small h =
 entry_is : (groups : List Group) (sites : List Site) (b : Site) (s : End) (entry : Dest) → IsSiteOf sites b → IsSoundSite b → entry_reaches groups sites (serves b) s entry ≡ covers_own groups b s entry
 entry_is groups sites b s entry at small =
     same_tests (entry_reaches groups sites (serves b) s entry) (covers_own groups b s entry) (to_own groups sites b s entry at) (from_own groups sites b s entry at small)
-
-or_none : (b : Bool) → b ≡ (b || false)
-or_none true = refl
-or_none false = refl
 
 -- a destination covers a machine's end from another's by itself, or as `autogroup:self` by the two machines
 dest_is : (groups : List Group) (to : Selector) (a b : Site) (x y : Address)

@@ -8,7 +8,7 @@ mod site_rules;
 mod steps;
 mod world;
 
-pub use laws::reach_is_local;
+pub use laws::{all_see_all_without_policy, reach_is_local, sight_is_mutual_and_by_rules};
 pub use pair::{pair_test, sees};
 pub use steps::Steps;
 pub use world::World;

@@ -21,6 +21,7 @@ pub fn pair_test<L: Ledger>(world: &World<'_>, a: u32, b: u32, steps: &mut Steps
 
 /// Whether the machine of one id sees that of the other: both are live, they differ, and one reaches
 /// the other. It takes at most two steps, none where the ids are equal, and no memory.
+#[tactic(auto, using(crate::proofs::SightLaws::sight_first, crate::proofs::SightLaws::sight_second))]
 pub fn sees<L: Ledger>(world: &World<'_>, viewer: u32, peer: u32, steps: &mut Steps<L>) -> bool
     ensures value { result ≡ of_ids (sees world.now) world.now viewer peer }
     ensures cost { steps.new ≤ steps.old + 2 }

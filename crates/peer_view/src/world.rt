@@ -51,6 +51,7 @@ impl<'a> World<'a> {
         ensures value { result ≡ seen_of settings.now (option_copied policy.entry) tables.now.rows
             live.now online.now }
     {
+        // A read of the tables tells that they keep their rules.
         let _ = tables.machines();
         World {
             settings,

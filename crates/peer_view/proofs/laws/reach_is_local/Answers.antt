@@ -1,5 +1,5 @@
 use Rattle.peer_view.proofs.ReachLaws.{local_reach}
-use Rattle.peer_view.proofs.SightLaws.{live_reach, node_reach}
+use Rattle.peer_view.proofs.LiveLaws.{live_reach, node_reach}
 use Rattle.peer_view.proofs.laws.reach_is_local.Goals as goal
 
 pub returns : goal.returns

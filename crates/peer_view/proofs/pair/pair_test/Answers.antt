@@ -1,5 +1,5 @@
 use Rattle.std.specs.Option.{option_copied}
-use Rattle.peer_view.proofs.SightLaws.{world_ascends, world_pair}
+use Rattle.peer_view.proofs.WorldLaws.{world_ascends, world_pair}
 use Rattle.peer_view.proofs.pair.pair_test.Goals as goal
 
 pub id_reaches-requires : goal.id_reaches-requires
