@@ -1,0 +1,5 @@
+pub mod AddressLemmas
+pub mod ListLemmas
+pub mod ReadLemmas
+pub mod RouteTexts
+pub mod TagTexts
