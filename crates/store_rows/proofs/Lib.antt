@@ -2,4 +2,5 @@ pub mod AddressLemmas
 pub mod ListLemmas
 pub mod ReadLemmas
 pub mod RouteTexts
+pub mod RowLemmas
 pub mod TagTexts

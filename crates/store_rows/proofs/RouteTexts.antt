@@ -1,5 +1,5 @@
 -- The texts of prefixes and endpoints have no comma.
-use Rattle.std.proofs.Common.{◌≡◌, ◌<◌, ◌≤◌, ◌^◌, ℕ, Bool, true, false, List, [], ◌∷◌, ◌++◌, eqb, Option, Some, Result, Ok, arith, refl, sym, ap, ◌∙◌, inl, inr, append_assoc}
+use Rattle.std.proofs.Common.{◌≡◌, ◌<◌, ◌^◌, ℕ, Bool, true, false, List, [], ◌∷◌, ◌++◌, eqb, arith, refl, sym, ap, ◌∙◌, inl, inr, append_assoc}
 use Rattle.std.specs.Prelude.{codes, ◌≢◌}
 use Rattle.std.specs.Char.{is_ascii_digit, digit_value}
 use Rattle.std.specs.Fmt.{decimal}
@@ -19,7 +19,7 @@ use Rattle.net_addr.proofs.SplitLemmas.{is_other}
 use Rattle.tail_base.proofs.AllBytes.{all_append, all_weaker}
 use Rattle.tail_base.proofs.NumberLemmas.{decimal_digits}
 use Rattle.store_rows.specs.Endpoints.{IsEndpoint}
-use Rattle.store_rows.specs.Lists.{IsListedText, is_unseparated}
+use Rattle.store_rows.specs.Lists.{IsListedText}
 
 hex_other : (b : ℕ) → digit_value b < 16 → is_other 44 b ≡ true
 hex_other b h = elim (cases_eq b 44) [

@@ -1,5 +1,5 @@
 -- The texts of tags.
-use Rattle.std.proofs.Common.{◌≡◌, ℕ, Bool, true, false, List, [], ◌∷◌, ◌++◌, drop, Option, Some, arith, refl, ap, ◌∙◌}
+use Rattle.std.proofs.Common.{◌≡◌, ℕ, true, List, [], ◌∷◌, ◌++◌, drop, arith, refl, ap, ◌∙◌}
 use Rattle.std.specs.Prelude.{nat_eq, nat_le, codes, ◌&&◌, length}
 use Rattle.std.specs.List.{list_all, starts_with}
 use Rattle.std.proofs.lemmas.Bool.{and_parts, and_from}

@@ -1,5 +1,5 @@
 -- How single values are stored.
-use Rattle.std.specs.Prelude.{◌≡◌, ◌<◌, ◌^◌, ℕ, ℤ, pos, Bool, true, false, List, length, Option, Some, None}
+use Rattle.std.specs.Prelude.{ℤ, pos, Bool, true, false, Option, Some, None}
 use Rattle.moments.specs.Moments.{IsMoment}
 use Rattle.store_rows.specs.declared.cell.Cell.{Cell}
 use Rattle.store_rows.specs.declared.cell.Cell.TheVariants.{Null, Number}

@@ -1,5 +1,5 @@
 -- The rows of the tables as they are stored, columns in the order of the schema; a query shows the same columns.
-use Rattle.std.specs.Prelude.{◌≡◌, ◌<◌, ◌^◌, ℕ, ℤ, pos, true, List, [], ◌∷◌, ◌++◌, length}
+use Rattle.std.specs.Prelude.{◌≡◌, ◌<◌, ◌^◌, ℕ, pos, true, List, [], ◌∷◌, ◌++◌, length}
 use Rattle.std.specs.List.{All}
 use Rattle.moments.specs.Moments.{IsMoment}
 use Rattle.net_addr.specs.Bits.{IsBlock}
@@ -19,7 +19,7 @@ use Rattle.store_rows.specs.Cells.{IsExpiry, expiry_cell, truth_cell}
 use Rattle.store_rows.specs.Endpoints.{IsEndpoint}
 use Rattle.store_rows.specs.Lists.{list_text}
 use Rattle.store_rows.specs.declared.cell.Cell.{Cell}
-use Rattle.store_rows.specs.declared.cell.Cell.TheVariants.{Blob, Null, Number, Text}
+use Rattle.store_rows.specs.declared.cell.Cell.TheVariants.{Blob, Number, Text}
 
 -- the tags of a row
 abbrev pub tags_cell : List (List ℕ) → Cell

@@ -23,11 +23,11 @@ pub fn write_auth_key(alloc: Global, key: &AuthKey) -> Result<Items<Cell>, NoMem
     Ok(row)
 }
 
-/// The columns, in the order of the schema.
-type Columns = One<
-    u32,
-    One<Text, One<u32, One<bool, One<bool, One<bool, One<Option<Moment>, One<Items<Tag>, End>>>>>>>,
->;
+/// The columns from the flags on.
+type Flags = One<bool, One<bool, One<bool, One<Option<Moment>, One<Items<Tag>, End>>>>>;
+
+/// All columns, in the order of the schema.
+type Columns = One<u32, One<Text, One<u32, Flags>>>;
 
 /// The pre-auth key of these columns.
 fn of_columns(columns: Columns) -> AuthKey

@@ -42,53 +42,20 @@ pub fn write_machine(alloc: Global, machine: &Machine) -> Result<Items<Cell>, No
     Ok(row)
 }
 
-/// The columns, in the order of the schema.
-type Columns = One<
-    u32,
-    One<
-        u32,
-        One<
-            MachineKey,
-            One<
-                NodeKey,
-                One<
-                    DiscoKey,
-                    One<
-                        Text,
-                        One<
-                            Label,
-                            One<
-                                V4,
-                                One<
-                                    V6,
-                                    One<
-                                        Items<Endpoint>,
-                                        One<
-                                            u32,
-                                            One<
-                                                Items<Prefix>,
-                                                One<
-                                                    Items<Prefix>,
-                                                    One<
-                                                        Items<Tag>,
-                                                        One<
-                                                            bool,
-                                                            One<Option<Moment>, One<Moment, End>>,
-                                                        >,
-                                                    >,
-                                                >,
-                                            >,
-                                        >,
-                                    >,
-                                >,
-                            >,
-                        >,
-                    >,
-                >,
-            >,
-        >,
-    >,
+/// The last columns of a machine: whether it is ephemeral, and its times.
+type Times = One<bool, One<Option<Moment>, One<Moment, End>>>;
+
+/// The columns from the endpoints on.
+type Ways = One<
+    Items<Endpoint>,
+    One<u32, One<Items<Prefix>, One<Items<Prefix>, One<Items<Tag>, Times>>>>,
 >;
+
+/// The columns from the host on.
+type Names = One<Text, One<Label, One<V4, One<V6, Ways>>>>;
+
+/// All columns, in the order of the schema.
+type Columns = One<u32, One<u32, One<MachineKey, One<NodeKey, One<DiscoKey, Names>>>>>;
 
 /// The machine of these columns.
 fn of_columns(columns: Columns) -> Machine

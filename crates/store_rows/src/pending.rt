@@ -30,25 +30,13 @@ pub fn write_pending(alloc: Global, entry: &Pending) -> Result<Items<Cell>, NoMe
     Ok(row)
 }
 
-/// The columns, in the order of the schema.
+/// The columns from the tags on.
+type Rest = One<Items<Tag>, One<bool, One<Option<Moment>, One<Moment, End>>>>;
+
+/// All columns, in the order of the schema.
 type Columns = One<
     u32,
-    One<
-        Text,
-        One<
-            MachineKey,
-            One<
-                NodeKey,
-                One<
-                    Text,
-                    One<
-                        Items<Prefix>,
-                        One<Items<Tag>, One<bool, One<Option<Moment>, One<Moment, End>>>>,
-                    >,
-                >,
-            >,
-        >,
-    >,
+    One<Text, One<MachineKey, One<NodeKey, One<Text, One<Items<Prefix>, Rest>>>>>,
 >;
 
 /// The pending entry of these columns.

@@ -1,6 +1,5 @@
-use Rattle.std.proofs.Common.{◌≡◌, refl, sym, ◌∙◌}
+use Rattle.std.proofs.Common.{refl, sym, ◌∙◌}
 use Rattle.net_addr.specs.AddrTexts.{addr_of_text, addr_text}
-use Rattle.net_addr.specs.Bits.{Address}
 use Rattle.net_addr.proofs.PrefixLemmas.{addr_again}
 use Rattle.store_rows.specs.Addresses.{IsAddress}
 use Rattle.store_rows.proofs.ReadLemmas.{Guesses, guess_judged, guess_none, guess_refused}

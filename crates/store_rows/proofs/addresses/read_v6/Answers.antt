@@ -1,4 +1,4 @@
-use Rattle.std.proofs.Common.{◌≡◌, ◌<◌, ◌^◌, ℕ, refl, sym, ◌∙◌}
+use Rattle.std.proofs.Common.{sym, ◌∙◌}
 use Rattle.store_rows.specs.Addresses.{v6_bytes, v6_in}
 use Rattle.store_rows.proofs.AddressLemmas.{IsV6Number, v6_again}
 use Rattle.store_rows.proofs.ReadLemmas.{guess_judged, guess_none, guess_refused}

@@ -1,4 +1,4 @@
-use Rattle.std.proofs.Common.{◌≡◌, List, sym, ◌∙◌}
+use Rattle.std.proofs.Common.{sym, ◌∙◌}
 use Rattle.std.specs.List.{All}
 use Rattle.store_rows.specs.Lists.{list_text, spelled_list}
 use Rattle.store_rows.proofs.ListLemmas.{list_again}

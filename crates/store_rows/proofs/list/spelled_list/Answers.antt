@@ -1,8 +1,8 @@
-use Rattle.std.proofs.Common.{rules, ◌≡◌, ◌+◌, ℕ, List, take, drop, Some, None, sym, ap, ◌∙◌}
+use Rattle.std.proofs.Common.{rules, ◌≡◌, ℕ, List, Some, sym, ap, ◌∙◌}
 use Rattle.std.specs.List.{position, slice_split}
 use Rattle.std.proofs.lemmas.Result.{IfOk-weaker}
 use Rattle.store_rows.specs.Lists.{elements_from, is_separator}
-use Rattle.store_rows.proofs.ListLemmas.{Leads, leads_end, leads_on, leads_out}
+use Rattle.store_rows.proofs.ListLemmas.{leads_end, leads_on, leads_out}
 use Rattle.store_rows.proofs.list.spelled_list.Goals as goal
 
 pub returns-in_default-2-clause-value : goal.returns-in_default-2-clause-value
