@@ -56,7 +56,8 @@ fn v6_in(bytes: &[u8]) -> Option<u128>
 
 /// The number whose bytes these are, if there are 16.
 fn read_v6(alloc: Global, bytes: &[u8]) -> Result<Option<u128>, NoMemory>
-    ensures exact { IfOk result (λ found. IsReadBack v6_bytes (λ bits. bits < 2 ^ 128) bytes.now found) }
+    ensures exact { IfOk result (λ found.
+        IsReadBack v6_bytes (λ bits. bits < 2 ^ 128) bytes.now found) }
 {
     let Some(bits) = v6_in(bytes) else {
         return Ok(None);

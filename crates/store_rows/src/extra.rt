@@ -12,8 +12,8 @@ use std::alloc::Global;
 use tail_base::{Items, NoMemory, Text};
 use tailcfg::DnsExtra;
 
-/// The row of the extra record at a place, counted from 1: the place, its name, and its address as a
-/// text.
+/// The row of the extra record at a place, counted from 1: the place, its name, and its address as
+/// a text.
 pub fn write_extra(alloc: Global, place: u32, extra: &DnsExtra) -> Result<Items<Cell>, NoMemory>
     ensures value { IfOk result (λ made. made ≡ extra_cells place extra.now) }
 {
@@ -27,7 +27,8 @@ pub fn write_extra(alloc: Global, place: u32, extra: &DnsExtra) -> Result<Items<
 
 /// The extra record whose row at this place it is, if it is the row of one.
 pub fn read_extra(alloc: Global, place: u32, given: &[Cell]) -> Result<Option<DnsExtra>, NoMemory>
-    ensures exact { IfOk result (λ found. IsReadBack (extra_cells place) IsTypedExtra given.now found) }
+    ensures exact { IfOk result (λ found.
+        IsReadBack (extra_cells place) IsTypedExtra given.now found) }
 {
     let [own, name, addr] = given else {
         return Ok(None);

@@ -22,7 +22,8 @@ pub(crate) fn add_three<A: Column, B: Column, C: Column>(
     b: &B,
     c: &C,
 ) -> Result<(), NoMemory>
-    ensures ok { OnOk result (row.new ≡ row.old ++ A.stored a.now ∷ B.stored b.now ∷ C.stored c.now ∷ []) }
+    ensures ok { OnOk result
+        (row.new ≡ row.old ++ A.stored a.now ∷ B.stored b.now ∷ C.stored c.now ∷ []) }
 {
     add(alloc, row, a)?;
     add(alloc, row, b)?;

@@ -12,9 +12,12 @@ ghost use Rattle.store_rows.specs.Rows.{auth_key_cells, extra_cells, machine_cel
 
 /// No two values of a table have one row.
 pub fn stored_rows_differ()
-    ensures meta { (a b : Counters) → IsTypedCounters a → IsTypedCounters b → meta_cells a ≡ meta_cells b → a ≡ b }
-    ensures users { (a b : User) → IsTypedUser a → IsTypedUser b → user_cells a ≡ user_cells b → a ≡ b }
-    ensures auth_keys { (a b : AuthKey) → IsTypedKey a → IsTypedKey b → auth_key_cells a ≡ auth_key_cells b → a ≡ b }
+    ensures meta { (a b : Counters) → IsTypedCounters a → IsTypedCounters b
+        → meta_cells a ≡ meta_cells b → a ≡ b }
+    ensures users { (a b : User) → IsTypedUser a → IsTypedUser b
+        → user_cells a ≡ user_cells b → a ≡ b }
+    ensures auth_keys { (a b : AuthKey) → IsTypedKey a → IsTypedKey b
+        → auth_key_cells a ≡ auth_key_cells b → a ≡ b }
     ensures pending { (a b : Pending) → IsTypedPending a → IsTypedPending b
         → pending_cells a ≡ pending_cells b → a ≡ b }
     ensures machines { (a b : Machine) → IsTypedMachine a → IsTypedMachine b

@@ -52,7 +52,8 @@ fn with_piece<T: Listed>(
     text: &[u8],
 ) -> Result<Option<Items<T>>, NoMemory>
     requires fit { All T.Fits items }
-    ensures value { IfOk result (λ made. made ≡ option_map (λ x. items ++ x ∷ []) (T.of_text text.now)) }
+    ensures value { IfOk result (λ made.
+        made ≡ option_map (λ x. items ++ x ∷ []) (T.of_text text.now)) }
     ensures fit { IfOk result (λ made. IfSome made (All T.Fits)) }
 {
     let Some(item) = T::spelled(alloc, text)? else {
@@ -85,7 +86,8 @@ fn spelled_list<T: Listed>(alloc: Global, text: &[u8]) -> Result<Option<Items<T>
 
 /// The list that is written as this text, if there is one.
 fn read_list<T: Listed>(alloc: Global, text: &[u8]) -> Result<Option<Items<T>>, NoMemory>
-    ensures exact { IfOk result (λ found. IsReadBack (list_text T.text) (All T.Fits) text.now found) }
+    ensures exact { IfOk result (λ found.
+        IsReadBack (list_text T.text) (All T.Fits) text.now found) }
 {
     T::texts_are_listed();
     let Some(items) = spelled_list::<T>(alloc, text)? else {

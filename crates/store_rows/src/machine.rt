@@ -32,7 +32,8 @@ fn add_ways(alloc: Global, row: &mut Items<Cell>, m: &Machine) -> Result<(), NoM
     add(alloc, row, &m.created)
 }
 
-/// The row of a machine: its ids, keys, names and addresses, its endpoints and routes, and its times.
+/// The row of a machine: its ids, keys, names and addresses, its endpoints and routes, and its
+/// times.
 pub fn write_machine(alloc: Global, machine: &Machine) -> Result<Items<Cell>, NoMemory>
     ensures value { IfOk result (λ made. made ≡ machine_cells machine.now) }
 {

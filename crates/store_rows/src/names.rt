@@ -32,7 +32,8 @@ impl Column for Text {
 
 /// The login that is written as this text: capitals are in no login.
 fn read_login(alloc: Global, text: &[u8]) -> Result<Option<Login>, NoMemory>
-    ensures exact { IfOk result (λ found. IsReadBack (λ login. login) (λ login. is_login login ≡ true) text.now found) }
+    ensures exact { IfOk result (λ found.
+        IsReadBack (λ login. login) (λ login. is_login login ≡ true) text.now found) }
 {
     let Some(login) = Login::read(alloc, text)? else {
         return Ok(None);
@@ -67,7 +68,8 @@ impl Column for Login {
 
 /// The label that is written as this text.
 fn read_label(alloc: Global, text: &[u8]) -> Result<Option<Label>, NoMemory>
-    ensures exact { IfOk result (λ found. IsReadBack (λ label. label) (λ label. is_label label ≡ true) text.now found) }
+    ensures exact { IfOk result (λ found.
+        IsReadBack (λ label. label) (λ label. is_label label ≡ true) text.now found) }
 {
     let Some(label) = Label::read(alloc, text)? else {
         return Ok(None);
