@@ -1,0 +1,4 @@
+pub mod Deletes
+pub mod Inserts
+pub mod Meanings
+pub mod Selects
