@@ -1,8 +1,8 @@
 -- What the statements of schema 1 come to: queries over a tree, and the table, by its place in the schema, that is
 -- written to.
-use Rattle.std.specs.Prelude.{ℕ, pos, negsuc, false, List, [], ◌∷◌, codes, Option, Some, None}
+use Rattle.std.specs.Prelude.{ℕ, pos, negsuc, false, List, [], ◌∷◌, codes, None}
 use Rattle.sqlite_schema.specs.declared.command.Command.{Command}
-use Rattle.sqlite_schema.specs.declared.command.Command.TheVariants.{Insert, Select, Delete}
+use Rattle.sqlite_schema.specs.declared.command.Command.TheVariants.{Insert, Select, Update, Delete}
 use Rattle.sqlite_schema.specs.declared.command.Source.TheVariants.{Values}
 use Rattle.sqlite_sql.specs.Term.{Term, lit, col, op2}
 use Rattle.sqlite_sql.specs.declared.ops.BinaryOp.TheVariants.{Compare}
@@ -111,3 +111,39 @@ select_policy = Select (record { lets = []; body = all_by_id 15 (col 1 0 ∷ col
 -- the parameters are a row of `policy`
 abbrev pub insert_policy : Command
 insert_policy = Insert 6 (Values (col 0 0 ∷ lit Null ∷ col 0 1 ∷ []) 3)
+
+-- the rows of a tree whose key is the first parameter: each rowid, and the row that replaces it
+abbrev pub replaced_by_id : ℕ → List Term → Query
+replaced_by_id tree row = record (one_by_id tree) { project = col 1 0 ∷ row }
+
+-- the rowids of a tree
+abbrev pub all_ids : ℕ → Query
+all_ids tree = record (one_by_id tree) { filter = [] }
+
+-- the row of `meta` with the key of the parameters is replaced by them
+abbrev pub update_meta : Command
+update_meta = Update 0 (record { lets = []; body = replaced_by_id 0 (col 1 0 ∷ lit Null ∷ col 0 1 ∷ col 0 2 ∷ col 0 3 ∷ col 0 4 ∷ col 0 5 ∷ []) })
+
+-- the row of `users` with the key of the parameters is replaced by them
+abbrev pub update_users : Command
+update_users = Update 1 (record { lets = []; body = replaced_by_id 1 (col 1 0 ∷ lit Null ∷ col 0 1 ∷ []) })
+
+-- the row of `auth_keys` with the key of the parameters is replaced by them
+abbrev pub update_auth_keys : Command
+update_auth_keys = Update 2 (record { lets = []; body = replaced_by_id 3 (col 1 0 ∷ lit Null ∷ col 0 1 ∷ col 0 2 ∷ col 0 3 ∷ col 0 4 ∷ col 0 5 ∷ col 0 6 ∷ col 0 7 ∷ []) })
+
+-- the row of `pending` with the key of the parameters is replaced by them
+abbrev pub update_pending : Command
+update_pending = Update 3 (record { lets = []; body = replaced_by_id 5 (col 1 0 ∷ lit Null ∷ col 0 1 ∷ col 0 2 ∷ col 0 3 ∷ col 0 4 ∷ col 0 5 ∷ col 0 6 ∷ col 0 7 ∷ col 0 8 ∷ col 0 9 ∷ []) })
+
+-- the row of `machines` with the key of the parameters is replaced by them
+abbrev pub update_machines : Command
+update_machines = Update 4 (record { lets = []; body = replaced_by_id 8 (col 1 0 ∷ lit Null ∷ col 0 1 ∷ col 0 2 ∷ col 0 3 ∷ col 0 4 ∷ col 0 5 ∷ col 0 6 ∷ col 0 7 ∷ col 0 8 ∷ col 0 9 ∷ col 0 10 ∷ col 0 11 ∷ col 0 12 ∷ col 0 13 ∷ col 0 14 ∷ col 0 15 ∷ col 0 16 ∷ []) })
+
+-- the row of `policy` with the key of the parameters is replaced by them
+abbrev pub update_policy : Command
+update_policy = Update 6 (record { lets = []; body = replaced_by_id 15 (col 1 0 ∷ lit Null ∷ col 0 1 ∷ []) })
+
+-- all rows of `extras` go
+abbrev pub clear_extras : Command
+clear_extras = Delete 5 (record { lets = []; body = all_ids 14 })

@@ -100,3 +100,31 @@ select_policy_text = codes "SELECT k, body FROM policy ORDER BY k"
 -- adds a row to `policy`
 abbrev pub insert_policy_text : List ℕ
 insert_policy_text = codes "INSERT INTO policy (k, body) VALUES (?1, ?2)"
+
+-- replaces the row of `meta` with this key
+abbrev pub update_meta_text : List ℕ
+update_meta_text = codes "UPDATE meta SET version = ?2, next_user = ?3, next_key = ?4, next_pending = ?5, next_machine = ?6 WHERE k = ?1"
+
+-- replaces the row of `users` with this key
+abbrev pub update_users_text : List ℕ
+update_users_text = codes "UPDATE users SET login = ?2 WHERE id = ?1"
+
+-- replaces the row of `auth_keys` with this key
+abbrev pub update_auth_keys_text : List ℕ
+update_auth_keys_text = codes "UPDATE auth_keys SET secret = ?2, user = ?3, reusable = ?4, ephemeral = ?5, used = ?6, expiry = ?7, tags = ?8 WHERE id = ?1"
+
+-- replaces the row of `pending` with this key
+abbrev pub update_pending_text : List ℕ
+update_pending_text = codes "UPDATE pending SET secret = ?2, machine = ?3, node = ?4, host = ?5, routes = ?6, tags = ?7, ephemeral = ?8, expiry = ?9, made = ?10 WHERE id = ?1"
+
+-- replaces the row of `machines` with this key
+abbrev pub update_machines_text : List ℕ
+update_machines_text = codes "UPDATE machines SET user = ?2, machine = ?3, node = ?4, disco = ?5, host = ?6, name = ?7, v4 = ?8, v6 = ?9, endpoints = ?10, derp = ?11, routes = ?12, approved = ?13, tags = ?14, ephemeral = ?15, expiry = ?16, created = ?17 WHERE id = ?1"
+
+-- replaces the row of `policy` with this key
+abbrev pub update_policy_text : List ℕ
+update_policy_text = codes "UPDATE policy SET body = ?2 WHERE k = ?1"
+
+-- takes all rows out of `extras`
+abbrev pub clear_extras_text : List ℕ
+clear_extras_text = codes "DELETE FROM extras"
