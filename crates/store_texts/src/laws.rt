@@ -11,13 +11,17 @@ ghost use Rattle.store_texts.specs.Texts.{update_meta_text, update_users_text, u
 pub fn the_texts_make_the_schema()
     ensures meta { table_defined_by create_meta_text ≡ Ok (record meta_table { tree = 0 }) }
     ensures users { table_defined_by create_users_text ≡ Ok (record users_table { tree = 0 }) }
-    ensures auth_keys { table_defined_by create_auth_keys_text ≡ Ok (record auth_keys_table { tree = 0 }) }
-    ensures pending { table_defined_by create_pending_text ≡ Ok (record pending_table { tree = 0 }) }
-    ensures machines { table_defined_by create_machines_text ≡ Ok (record machines_table { tree = 0 }) }
+    ensures auth_keys { table_defined_by create_auth_keys_text
+        ≡ Ok (record auth_keys_table { tree = 0 }) }
+    ensures pending { table_defined_by create_pending_text
+        ≡ Ok (record pending_table { tree = 0 }) }
+    ensures machines { table_defined_by create_machines_text
+        ≡ Ok (record machines_table { tree = 0 }) }
     ensures extras { table_defined_by create_extras_text ≡ Ok (record extras_table { tree = 0 }) }
     ensures policy { table_defined_by create_policy_text ≡ Ok (record policy_table { tree = 0 }) }
-    ensures whole { created (created (created (created (created (created (created no_schema meta_table)
-        users_table) auth_keys_table) pending_table) machines_table) extras_table) policy_table ≡ schema_1 }
+    ensures whole { created (created (created (created (created (created (created no_schema
+        meta_table) users_table) auth_keys_table) pending_table) machines_table) extras_table)
+        policy_table ≡ schema_1 }
 {}
 
 /// Each table's SELECT shows its rows in the order of their keys, columns in the order of the schema.
