@@ -8,16 +8,16 @@ use Rattle.store_texts.specs.Texts.{delete_users_text, delete_auth_keys_text, de
 
 pub delete_users_means : Means delete_users_text delete_users
 unfolding understood everything
-delete_users_means = record { command_is = refl; plain = (refl, refl); no_listing = refl }
+delete_users_means = record { command_is = refl; whole = refl; plain = (refl, refl); no_listing = refl }
 
 pub delete_auth_keys_means : Means delete_auth_keys_text delete_auth_keys
 unfolding understood everything
-delete_auth_keys_means = record { command_is = refl; plain = (refl, refl); no_listing = refl }
+delete_auth_keys_means = record { command_is = refl; whole = refl; plain = (refl, refl); no_listing = refl }
 
 pub delete_pending_means : Means delete_pending_text delete_pending
 unfolding understood everything
-delete_pending_means = record { command_is = refl; plain = (refl, refl); no_listing = refl }
+delete_pending_means = record { command_is = refl; whole = refl; plain = (refl, refl); no_listing = refl }
 
 pub delete_machines_means : Means delete_machines_text delete_machines
 unfolding understood everything
-delete_machines_means = record { command_is = refl; plain = (refl, refl); no_listing = refl }
+delete_machines_means = record { command_is = refl; whole = refl; plain = (refl, refl); no_listing = refl }

@@ -8,28 +8,28 @@ use Rattle.store_texts.specs.Texts.{insert_meta_text, insert_users_text, insert_
 
 pub insert_meta_means : Means insert_meta_text insert_meta
 unfolding understood everything
-insert_meta_means = record { command_is = refl; plain = (refl, refl); no_listing = refl }
+insert_meta_means = record { command_is = refl; whole = refl; plain = (refl, refl); no_listing = refl }
 
 pub insert_users_means : Means insert_users_text insert_users
 unfolding understood everything
-insert_users_means = record { command_is = refl; plain = (refl, refl); no_listing = refl }
+insert_users_means = record { command_is = refl; whole = refl; plain = (refl, refl); no_listing = refl }
 
 pub insert_auth_keys_means : Means insert_auth_keys_text insert_auth_keys
 unfolding understood everything
-insert_auth_keys_means = record { command_is = refl; plain = (refl, refl); no_listing = refl }
+insert_auth_keys_means = record { command_is = refl; whole = refl; plain = (refl, refl); no_listing = refl }
 
 pub insert_pending_means : Means insert_pending_text insert_pending
 unfolding understood everything
-insert_pending_means = record { command_is = refl; plain = (refl, refl); no_listing = refl }
+insert_pending_means = record { command_is = refl; whole = refl; plain = (refl, refl); no_listing = refl }
 
 pub insert_machines_means : Means insert_machines_text insert_machines
 unfolding understood everything
-insert_machines_means = record { command_is = refl; plain = (refl, refl); no_listing = refl }
+insert_machines_means = record { command_is = refl; whole = refl; plain = (refl, refl); no_listing = refl }
 
 pub insert_extras_means : Means insert_extras_text insert_extras
 unfolding understood everything
-insert_extras_means = record { command_is = refl; plain = (refl, refl); no_listing = refl }
+insert_extras_means = record { command_is = refl; whole = refl; plain = (refl, refl); no_listing = refl }
 
 pub insert_policy_means : Means insert_policy_text insert_policy
 unfolding understood everything
-insert_policy_means = record { command_is = refl; plain = (refl, refl); no_listing = refl }
+insert_policy_means = record { command_is = refl; whole = refl; plain = (refl, refl); no_listing = refl }
