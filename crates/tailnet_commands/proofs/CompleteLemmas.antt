@@ -99,9 +99,9 @@ complete_of (ended.Closed closed.Early) name seed old new p c = absurd (
 complete_of (ended.Closed closed.ReadFault) name seed old new p c = absurd (c.no_read_fault p.talk.serves.ending.3)
 complete_of (ended.Closed closed.WriteFault) name seed old new p c = absurd (c.no_write_fault p.talk.serves.ending.1)
 complete_of (ended.Closed closed.NoMemory) name seed old new p c = inr refl
-complete_of (ended.Settings rule key) name seed old new p c = absurd (let broken = (rw c.file_is at p.2).1 in let kept = c.settings_are in cc)
-complete_of ended.TooLarge name seed old new p c = absurd (let large = rw c.file_is at p.2 in omega (arith, large, c.small))
-complete_of ended.FileFault name seed old new p c = absurd (c.no_file_fault p.2)
+complete_of (ended.Settings rule key) name seed old new p c = absurd (let broken = (rw c.file_is at p.1).1 in let kept = c.settings_are in cc)
+complete_of ended.TooLarge name seed old new p c = absurd (let large = rw c.file_is at p.1 in omega (arith, large, c.small))
+complete_of ended.FileFault name seed old new p c = absurd (c.no_file_fault p.1)
 complete_of ended.KeeperFault name seed old new p c = absurd (c.no_keeper_fault p.2)
 complete_of (ended.Damaged kind id) name seed old new p c = absurd (let damaged = rw c.rows_are at p.2 in let sound = c.served in cc)
 complete_of ended.NoMemory name seed old new p c = inr refl

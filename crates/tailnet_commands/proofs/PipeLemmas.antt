@@ -5,7 +5,7 @@ use Rattle.net_rows.specs.declared.rows.Rows.{Rows}
 use Rattle.settings.specs.declared.fields.SettingsFields.{SettingsFields}
 use Rattle.tailnet_commands.specs.Outside.{Outside}
 use Rattle.tailnet_commands.specs.Pipe.{AreSettingsOf, IsUnread, Piped}
-use Rattle.tailnet_commands.specs.Run.{IsUnasked, Ran, Untouched}
+use Rattle.tailnet_commands.specs.Run.{IsUnbegun, Ran, Untouched}
 use Rattle.run_ends.specs.declared.ended.Ended.{Ended}
 use Rattle.run_ends.specs.declared.ended.Ended.TheVariants as ended
 
@@ -27,11 +27,11 @@ module _ (name : List ℕ) (seed : Option (List ℕ)) (old new : Outside) where
   ran_piped ended.NoMemory settings are (quiet, inr asked) = (quiet, inr (settings, are, asked))
 
   -- no settings, and nothing else was done
-  pub unread_piped : (e : Ended) → IsUnread e (old.files name) old.file_faults new.file_faults → Untouched old new → IsUnasked old new → Piped e name seed old new
-  unread_piped (ended.Settings rule key) u quiet unasked = (quiet, unasked, u)
-  unread_piped ended.TooLarge u quiet unasked = (quiet, unasked, u)
-  unread_piped ended.FileFault u quiet unasked = (quiet, unasked, u)
-  unread_piped ended.NoMemory u quiet unasked = (quiet, inl unasked)
-  unread_piped (ended.Closed c) u quiet unasked = absurd u
-  unread_piped ended.KeeperFault u quiet unasked = absurd u
-  unread_piped (ended.Damaged kind id) u quiet unasked = absurd u
+  pub unread_piped : (e : Ended) → IsUnread e (old.files name) old.file_faults new.file_faults → Untouched old new → IsUnbegun old new → Piped e name seed old new
+  unread_piped (ended.Settings rule key) u quiet unbegun = (unbegun, u)
+  unread_piped ended.TooLarge u quiet unbegun = (unbegun, u)
+  unread_piped ended.FileFault u quiet unbegun = (unbegun, u)
+  unread_piped ended.NoMemory u quiet unbegun = (quiet, inl unbegun.asked)
+  unread_piped (ended.Closed c) u quiet unbegun = absurd u
+  unread_piped ended.KeeperFault u quiet unbegun = absurd u
+  unread_piped (ended.Damaged kind id) u quiet unbegun = absurd u

@@ -97,6 +97,7 @@ conversed closed settings seed moment old new f g d keeping middle final hold wh
       seeding_is = seeded.seeding_is;
       seeding_moments = same_moments f (from_number 1 old.told.giving.answers) seeded.seeding shifted seeded.moments;
       seeded = middle;
+      seeding_leads = subst (λ (s : State). Chain IsTurn (record { state = s; keeping = keeping }) seeded.seeding middle) is seeded.chain;
       serves = served;
       history = history;
       final_sound = sound_at_end start turns final hold sound history;

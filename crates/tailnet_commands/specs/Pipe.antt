@@ -8,7 +8,7 @@ use Rattle.tail_words.specs.declared.fault.SettingsRule.{SettingsRule}
 use Rattle.run_ends.specs.Lines.{Noted, is_made, ended_line}
 use Rattle.run_ends.specs.Statuses.{status_of}
 use Rattle.tailnet_commands.specs.Outside.{Outside}
-use Rattle.tailnet_commands.specs.Run.{Conversation, IsAskedFor, IsUnasked, IsUnserved, Untouched}
+use Rattle.tailnet_commands.specs.Run.{Conversation, IsAskedFor, IsUnasked, IsUnbegun, IsUnserved, Untouched}
 use Rattle.run_ends.specs.declared.closed.Closed.{Closed}
 use Rattle.run_ends.specs.declared.ended.Ended.{Ended}
 use Rattle.run_ends.specs.declared.ended.Ended.TheVariants as ended
@@ -55,9 +55,9 @@ pub record Served (closing : Closed) (name : List ℕ) (seed : Option (List ℕ)
 -- what `pipe` comes to, by how it ended
 abbrev pub Piped : Ended → List ℕ → Option (List ℕ) → Outside → Outside → Type 0
 Piped (ended.Closed closing) name seed old new = Served closing name seed old new
-Piped (ended.Settings rule key) name seed old new = Untouched old new × IsUnasked old new × IsFaulty rule key (old.files name)
-Piped ended.TooLarge name seed old new = Untouched old new × IsUnasked old new × IsTooLarge (old.files name)
-Piped ended.FileFault name seed old new = Untouched old new × IsUnasked old new × Rose old.file_faults new.file_faults
+Piped (ended.Settings rule key) name seed old new = IsUnbegun old new × IsFaulty rule key (old.files name)
+Piped ended.TooLarge name seed old new = IsUnbegun old new × IsTooLarge (old.files name)
+Piped ended.FileFault name seed old new = IsUnbegun old new × Rose old.file_faults new.file_faults
 Piped ended.KeeperFault name seed old new =
     Untouched old new × IsUnder (old.files name) (λ settings. IsAskedFor settings old new) × Rose old.keeper_faults new.keeper_faults
 Piped (ended.Damaged kind id) name seed old new =

@@ -8,7 +8,7 @@ use Rattle.net_rows.specs.Sound.{AreSound}
 use Rattle.net_rows.specs.declared.change.Kind.{Kind}
 use Rattle.net_rows.specs.declared.rows.Rows.{Rows}
 use Rattle.settings.specs.declared.fields.SettingsFields.{SettingsFields}
-use Rattle.tailnet_desk.specs.Chains.{Turned, IsHistory}
+use Rattle.tailnet_desk.specs.Chains.{Chain, Turned, IsHistory}
 use Rattle.tailnet_desk.specs.Opening.{unserved}
 use Rattle.tailnet_desk.specs.Seated.{Keeping, Point}
 use Rattle.tailnet_desk.specs.Turns.{IsTurn}
@@ -25,13 +25,22 @@ use Rattle.run_ends.specs.declared.closed.Closed.{Closed}
 use Rattle.run_ends.specs.declared.ended.Ended.{Ended}
 use Rattle.run_ends.specs.declared.ended.Ended.TheVariants as ended
 
--- nothing was read or written, and the opener's rows are as before
+-- nothing was read or written, no random words were drawn, and the opener's rows are as before
 pub record Untouched (old new : Outside) : Type 0 where
   pub left : new.told.left ≡ old.told.left
   pub read_faults : new.told.read_faults ≡ old.told.read_faults
   pub held : new.told.giving.held ≡ old.told.giving.held
   pub write_faults : new.told.giving.write_faults ≡ old.told.giving.write_faults
+  pub words : new.told.giving.words ≡ old.told.giving.words
+  pub word_faults : new.told.giving.word_faults ≡ old.told.giving.word_faults
   pub rows : IfSome old.rows (λ rows. IsWhereTold rows new.rows)
+
+-- of all but files and errors nothing was asked, the clock and the random source neither
+pub record IsUnbegun (old new : Outside) : Type 0 where
+  pub told : new.told ≡ old.told
+  pub rows : new.rows ≡ old.rows
+  pub asked : new.asked ≡ old.asked
+  pub keeper_faults : new.keeper_faults ≡ old.keeper_faults
 
 -- the opener was asked for nothing
 abbrev pub IsUnasked : Outside → Outside → Type 0
@@ -61,6 +70,7 @@ pub record Conversation (closed : Closed) (settings : SettingsFields) (seed : Op
   pub seeding_is : IsSeeding seed seeding
   pub seeding_moments : MomentsTold (from_number 1 old.told.giving.answers) seeding
   pub seeded : Point
+  pub seeding_leads : Chain IsTurn (record { state = opening settings rows moment; keeping = keeping }) seeding seeded
   pub serves : IsConnection IsTurn (front_settings settings) closed settings.requests [] (after_answers (1 + length seeding) old.told) new.told seeded final
   -- a legal history from the opening state: the seed, and the turns of the served requests
   pub history : IsHistory (record { state = opening settings rows moment; keeping = keeping }) (seeding ++ turns_of serves.exchanges) final

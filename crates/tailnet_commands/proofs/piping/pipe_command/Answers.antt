@@ -9,7 +9,7 @@ pub returns : goal.returns
 returns g c = record {
   outcome = λ doors link.
       let at = outside g.I.Source.left g.I.Source.read_faults g.O.Sink.holds g.O.Sink.write_faults g.E.Sink.holds g.E.Sink.write_faults g.F.Files.holds g.F.Files.faults
-          g.P.Opener.told g.P.Opener.asked g.P.Opener.faults g.C.Clock.answer g.N.Entropy.word g.N.Entropy.faults doors link in
+      g.P.Opener.told g.P.Opener.asked g.P.Opener.faults g.C.Clock.answer g.N.Entropy.word g.N.Entropy.faults doors link in
       let name = c.args.settings.now in
       let old = at c.args.input.now c.args.output.now c.args.errors.now c.args.files.now c.args.opener.now c.args.clock.now c.args.entropy.now in
       record {
@@ -26,8 +26,8 @@ returns g c = record {
               let new = at c.args.input.now c.args.output.now c.note.new.errors c.prepare.new.files c.args.opener.now c.args.clock.now c.args.entropy.now in
               rw (w.input-is, w.output-is, w.opener-is, w.clock-is, w.entropy-is, w.ended-is)
               (unread_piped name (option_map (λ t. t.now) c.args.seed) old new w.in-Err.ended w.in-Err.ensures.err
-              (record { left = refl; read_faults = refl; held = refl; write_faults = refl; rows = told_by_itself (g.P.Opener.told c.args.opener.now) })
-              refl)
+              (record { left = refl; read_faults = refl; held = refl; write_faults = refl; words = refl; word_faults = refl; rows = told_by_itself (g.P.Opener.told c.args.opener.now) })
+              (record { told = refl; rows = refl; asked = refl; keeper_faults = refl }))
         ];
         noted = c.note.ensures.noted;
         doors = refl;

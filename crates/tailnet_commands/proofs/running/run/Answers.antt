@@ -39,6 +39,8 @@ returns-in-Err g c =
             read_faults = refl;
             held = refl;
             write_faults = refl;
+            words = refl;
+            word_faults = refl;
             rows = kept_given (g.P.Opener.told c.args.opener.now) _ (g.P.Opener.told c.close-in-Err.new.self) gives (still_still _ _ _ failed.kept c.close-in-Err.ensures.told);
           })
           (c.close-in-Err.ensures.asked ∙ c.in-Ok.ensures.asked ∙ ap (and_asked (g.P.Opener.asked c.args.opener.now)) (c.as_str.ensures.value ∙ ap (λ (f : SettingsFields). f.database) c.fields-fields.ensures.value))
