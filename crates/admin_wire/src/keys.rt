@@ -3,7 +3,7 @@ ghost use Rattle.std.specs.Prelude.{◌≡◌, IfOk};
 ghost use Rattle.serde_json.specs.View.{view, members_view};
 ghost use Rattle.admin_wire.specs.Keys.{key_data, key_text as text_of_key, keys_data, keys_text as text_of_keys, use_members};
 
-use crate::shown::{Shown, show_all};
+use crate::row_form::{RowForm, rows_value};
 use crate::written::written;
 use desk_state::KeyLine;
 use serde_json::{Map, Value, json};
@@ -24,11 +24,11 @@ fn use_members(alloc: Global, key: &KeyLine) -> Result<Map<String, Value>, NoMem
     Ok(members)
 }
 
-impl Shown for KeyLine {
-    ghost shown = { key_data };
+impl RowForm for KeyLine {
+    ghost form = { key_data };
 
     #[tactic(auto, unfolding(crate::specs::Keys::key_data))]
-    fn show(&self, alloc: Global) -> Result<Value, NoMemory> {
+    fn to_value(&self, alloc: Global) -> Result<Value, NoMemory> {
         let mut members = use_members(alloc, self)?;
         put_form(&mut members, alloc, "key", &self.row.text)?;
         put_form(&mut members, alloc, "id", &self.row.id)?;
@@ -43,7 +43,7 @@ impl Shown for KeyLine {
 pub fn key_text(alloc: Global, key: &KeyLine) -> Result<Text, NoMemory>
     ensures value { IfOk result (λ text. text ≡ text_of_key key.now) }
 {
-    let value = key.show(alloc)?;
+    let value = key.to_value(alloc)?;
     written(alloc, &value)
 }
 
@@ -51,7 +51,7 @@ pub fn key_text(alloc: Global, key: &KeyLine) -> Result<Text, NoMemory>
 fn keys_value(alloc: Global, keys: &Items<KeyLine>) -> Result<Value, NoMemory>
     ensures value { IfOk result (λ v. view v ≡ keys_data keys.now) }
 {
-    Ok(json!(in alloc; {"keys": show_all(alloc, keys.as_slice())?})?)
+    Ok(json!(in alloc; {"keys": rows_value(alloc, keys.as_slice())?})?)
 }
 
 /// Pre-auth keys: the list `keys`.

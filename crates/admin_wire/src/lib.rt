@@ -4,7 +4,7 @@
 mod forms;
 mod keys;
 mod nodes;
-mod shown;
+mod row_form;
 mod swept;
 mod users;
 mod waiting;
@@ -19,6 +19,3 @@ pub use nodes::{node_text, nodes_text};
 pub use swept::swept_text;
 pub use users::{user_text, users_text};
 pub use waiting::waiting_text;
-
-#[cfg(test)]
-mod tests;

@@ -3,7 +3,7 @@ ghost use Rattle.std.specs.Prelude.{◌≡◌, IfOk};
 ghost use Rattle.serde_json.specs.View.{view, members_view};
 ghost use Rattle.admin_wire.specs.Nodes.{addr_data, addresses_data, live_members, node_data, node_text as text_of_node, nodes_data, nodes_text as text_of_nodes};
 
-use crate::shown::{Shown, show_all};
+use crate::row_form::{RowForm, rows_value};
 use crate::written::written;
 use desk_state::NodeLine;
 use net_addr::Addr;
@@ -45,11 +45,11 @@ fn live_members(alloc: Global, node: &NodeLine) -> Result<Map<String, Value>, No
     Ok(members)
 }
 
-impl Shown for NodeLine {
-    ghost shown = { node_data };
+impl RowForm for NodeLine {
+    ghost form = { node_data };
 
     #[tactic(auto, unfolding(crate::specs::Nodes::node_data))]
-    fn show(&self, alloc: Global) -> Result<Value, NoMemory> {
+    fn to_value(&self, alloc: Global) -> Result<Value, NoMemory> {
         let mut members = live_members(alloc, self)?;
         put_form(&mut members, alloc, "id", &self.row.id)?;
         put_form(&mut members, alloc, "expiry", &self.row.expiry)?;
@@ -67,7 +67,7 @@ impl Shown for NodeLine {
 pub fn node_text(alloc: Global, node: &NodeLine) -> Result<Text, NoMemory>
     ensures value { IfOk result (λ text. text ≡ text_of_node node.now) }
 {
-    let value = node.show(alloc)?;
+    let value = node.to_value(alloc)?;
     written(alloc, &value)
 }
 
@@ -75,7 +75,7 @@ pub fn node_text(alloc: Global, node: &NodeLine) -> Result<Text, NoMemory>
 fn nodes_value(alloc: Global, nodes: &Items<NodeLine>) -> Result<Value, NoMemory>
     ensures value { IfOk result (λ v. view v ≡ nodes_data nodes.now) }
 {
-    Ok(json!(in alloc; {"nodes": show_all(alloc, nodes.as_slice())?})?)
+    Ok(json!(in alloc; {"nodes": rows_value(alloc, nodes.as_slice())?})?)
 }
 
 /// Machines: the list `nodes`.

@@ -3,18 +3,18 @@ ghost use Rattle.std.specs.Prelude.{◌≡◌, IfOk};
 ghost use Rattle.serde_json.specs.View.{view};
 ghost use Rattle.admin_wire.specs.Users.{user_data, user_text as text_of_user, users_data, users_text as text_of_users};
 
-use crate::shown::{Shown, show_all};
+use crate::row_form::{RowForm, rows_value};
 use crate::written::written;
 use net_rows::User;
 use serde_json::{Value, json};
 use std::alloc::Global;
 use tail_base::{Items, NoMemory, Text};
 
-impl Shown for User {
-    ghost shown = { user_data };
+impl RowForm for User {
+    ghost form = { user_data };
 
     #[tactic(auto, unfolding(crate::specs::Users::user_data))]
-    fn show(&self, alloc: Global) -> Result<Value, NoMemory> {
+    fn to_value(&self, alloc: Global) -> Result<Value, NoMemory> {
         Ok(json!(in alloc; {"id": self.id, "login": self.login.as_str()})?)
     }
 }
@@ -24,7 +24,7 @@ impl Shown for User {
 pub fn user_text(alloc: Global, user: &User) -> Result<Text, NoMemory>
     ensures value { IfOk result (λ text. text ≡ text_of_user user.now) }
 {
-    let value = user.show(alloc)?;
+    let value = user.to_value(alloc)?;
     written(alloc, &value)
 }
 
@@ -32,7 +32,7 @@ pub fn user_text(alloc: Global, user: &User) -> Result<Text, NoMemory>
 fn users_value(alloc: Global, users: &Items<User>) -> Result<Value, NoMemory>
     ensures value { IfOk result (λ v. view v ≡ users_data users.now) }
 {
-    Ok(json!(in alloc; {"users": show_all(alloc, users.as_slice())?})?)
+    Ok(json!(in alloc; {"users": rows_value(alloc, users.as_slice())?})?)
 }
 
 /// Users: the list `users`.

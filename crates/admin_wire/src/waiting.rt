@@ -3,7 +3,7 @@ ghost use Rattle.std.specs.Prelude.{◌≡◌, IfOk};
 ghost use Rattle.serde_json.specs.View.{view};
 ghost use Rattle.admin_wire.specs.Waiting.{pending_data, waiting_data, waiting_text as text_of_waiting};
 
-use crate::shown::{Shown, show_all};
+use crate::row_form::{RowForm, rows_value};
 use crate::written::written;
 use net_rows::Pending;
 use serde_json::{Value, json};
@@ -11,11 +11,11 @@ use std::alloc::Global;
 use tail_base::{Items, NoMemory, Text};
 use wire_text::JsonForm;
 
-impl Shown for Pending {
-    ghost shown = { pending_data };
+impl RowForm for Pending {
+    ghost form = { pending_data };
 
     #[tactic(auto, unfolding(crate::specs::Waiting::pending_data))]
-    fn show(&self, alloc: Global) -> Result<Value, NoMemory> {
+    fn to_value(&self, alloc: Global) -> Result<Value, NoMemory> {
         Ok(json!(in alloc; {
             "host": self.host.as_str(),
             "id": self.text.as_str(),
@@ -29,7 +29,7 @@ impl Shown for Pending {
 fn waiting_value(alloc: Global, waiting: &Items<Pending>) -> Result<Value, NoMemory>
     ensures value { IfOk result (λ v. view v ≡ waiting_data waiting.now) }
 {
-    Ok(json!(in alloc; {"pending": show_all(alloc, waiting.as_slice())?})?)
+    Ok(json!(in alloc; {"pending": rows_value(alloc, waiting.as_slice())?})?)
 }
 
 /// Machines that wait: the list `pending`, in which `id` is the text by which one is admitted.

@@ -1,5 +1,5 @@
 -- The bodies of answers.
-use Rattle.std.specs.Prelude.{ℕ, List, [], codes}
+use Rattle.std.specs.Prelude.{ℕ, List, [], None, codes}
 use Rattle.admin_asks.specs.declared.operator_answer.OperatorAnswer.{OperatorAnswer}
 use Rattle.admin_asks.specs.declared.operator_answer.OperatorAnswer.TheVariants as operator
 use Rattle.admin_wire.specs.Keys.{key_text, keys_text}
@@ -10,6 +10,7 @@ use Rattle.admin_wire.specs.Waiting.{waiting_text}
 use Rattle.machine_asks.specs.declared.answer.MachineAnswer.{MachineAnswer}
 use Rattle.machine_asks.specs.declared.answer.MachineAnswer.TheVariants as machine
 use Rattle.map_delta.specs.Frames.{frame_of}
+use Rattle.map_delta.specs.Responses.{first_response}
 use Rattle.tailnet_desk.specs.declared.reply.Answer.{Answer}
 use Rattle.tailnet_desk.specs.declared.reply.Answer.TheVariants.{Machine, Operator, Seeded}
 use Rattle.wire_text.specs.Registered.{registered_text, login_at_text}
@@ -19,7 +20,7 @@ abbrev pub machine_body : List ℕ → MachineAnswer → List ℕ
 machine_body url (machine.Registered profile expired) = registered_text profile expired
 machine_body url (machine.LoginAt pending) = login_at_text url pending
 machine_body url machine.Updated = []
-machine_body url (machine.Map response) = frame_of response
+machine_body url (machine.Map view) = frame_of (first_response view None None)
 
 -- what an operator is answered
 abbrev pub operator_body : OperatorAnswer → List ℕ

@@ -7,7 +7,7 @@ use admin_wire::{
     key_text, keys_text, node_text, nodes_text, swept_text, user_text, users_text, waiting_text,
 };
 use machine_asks::MachineAnswer;
-use map_delta::frame_bytes;
+use map_delta::first_frame;
 use std::alloc::Global;
 use tail_base::{NoMemory, Text};
 use tailnet_desk::Answer;
@@ -36,7 +36,7 @@ fn machine_body(
             bytes_of(alloc, &login_at_text(alloc, server_url, pending)?)
         }
         MachineAnswer::Updated => Ok(Vec::new(alloc)),
-        MachineAnswer::Map(response) => frame_bytes(alloc, response),
+        MachineAnswer::Map(view) => first_frame(alloc, view, None, None),
     }
 }
 

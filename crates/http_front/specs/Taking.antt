@@ -45,11 +45,11 @@ pub record Takes (left left_after : Option (List ℕ)) (held held_after : List �
   pub answers : Answers (held ++ read) held_after left_after answer
 
 -- what one look at the bytes held does with them
-abbrev pub Steps : List ℕ → List ℕ → Step → Type 0
-Steps held after (step.Request request) = IsWhole held request after
-Steps held after step.More = (after ≡ held) × WantsMore held
-Steps held after (step.Bad fault) = (after ≡ held) × IsBad held fault
-Steps held after step.NoMemory = after ≡ held
+abbrev pub IsStepOf : List ℕ → List ℕ → Step → Type 0
+IsStepOf held after (step.Request request) = IsWhole held request after
+IsStepOf held after step.More = (after ≡ held) × WantsMore held
+IsStepOf held after (step.Bad fault) = (after ≡ held) × IsBad held fault
+IsStepOf held after step.NoMemory = after ≡ held
 
 -- what one read adds to them
 abbrev pub Refills : Option (List ℕ) → Option (List ℕ) → List ℕ → List ℕ → Refill → Type 0

@@ -1,7 +1,7 @@
 //! Bytes that were read and not yet served.
 ghost use Rattle.std.specs.Prelude.{◌≡◌, ◌≤◌, ◌↔◌, [], drop, vec_len, IfOk, IsTrue};
 ghost use Rattle.io_edge.specs.Edge.{Rose};
-ghost use Rattle.http_front.specs.Taking.{Steps, Refills};
+ghost use Rattle.http_front.specs.Taking.{IsStepOf, Refills};
 ghost use Rattle.http_front.specs.declared.buffer.Refill.TheVariants.{Failed};
 
 use crate::cutting::cut_request;
@@ -106,7 +106,7 @@ impl Buffer {
 
     /// Serves the request that the bytes begin with, if it is whole.
     pub(crate) fn step(&mut self, alloc: Global) -> Step
-        ensures steps { Steps self.old self.new result }
+        ensures steps { IsStepOf self.old self.new result }
     {
         let held = &self.bytes[self.at..];
         match look_at(held, &mut self.headers) {

@@ -19,6 +19,3 @@ pub use head_fault::HeadFault;
 pub use law::{one_reading, refusals_stay, served_first, whole_requests};
 pub use request::{Request, Taken};
 pub use taking::take_request;
-
-#[cfg(test)]
-mod tests;

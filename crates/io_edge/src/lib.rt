@@ -30,6 +30,3 @@ pub use read_source::ReadSource;
 pub use sink::{MemorySink, Sink};
 pub use source::{MemorySource, Source};
 pub use write_sink::WriteSink;
-
-#[cfg(test)]
-mod tests;

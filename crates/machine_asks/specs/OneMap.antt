@@ -8,7 +8,6 @@ use Rattle.net_rows.specs.declared.change.Change.{Change}
 use Rattle.net_rows.specs.declared.machine.Machine.{Machine}
 use Rattle.tailcfg.specs.declared.update.Update.{Update}
 use Rattle.map_delta.specs.Fresh.{fresh}
-use Rattle.map_delta.specs.Responses.{first_response}
 use Rattle.desk_state.specs.Decisions.{changing, only}
 use Rattle.desk_state.specs.State.{State, is_live}
 use Rattle.desk_state.specs.declared.decision.Decision.{Decision}
@@ -26,7 +25,7 @@ live_ids s = map (λ (m : Machine). m.id) (filter (is_live s) s.rows.machines)
 
 -- the whole map of a machine
 abbrev pub map_for : State → Machine → MachineAnswer
-map_for s m = Map (first_response (fresh s.settings s.rows (live_ids s) m) None None)
+map_for s m = Map (fresh s.settings s.rows (live_ids s) m)
 
 -- the state after a change of rows
 abbrev pub after_change : State → Change → State

@@ -1,6 +1,7 @@
 //! What a machine is answered.
+use map_delta::View;
 use tail_base::Text;
-use tailcfg::{Profile, Response};
+use tailcfg::Profile;
 
 /// What a machine's ask that isn't refused is answered.
 #[derive(Drop)]
@@ -12,5 +13,5 @@ pub enum MachineAnswer {
     /// What the machine told of itself is kept.
     Updated,
     /// The machine's map.
-    Map(Response),
+    Map(View),
 }

@@ -14,7 +14,7 @@ use crate::told::told_row;
 use crate::who_asks::asking;
 use desk_state::{Decision, Refusal, Snapshot, is_live, keep_rules};
 use machine_rows::{row_replaced, same_told};
-use map_delta::{first_response, plain_map};
+use map_delta::plain_map;
 use net_rows::{Change, Machine, Tables};
 use std::alloc::Global;
 use tail_base::{Duplicate, Failure, Items, MachineKey, NoMemory, NodeKey};
@@ -49,7 +49,7 @@ fn map_for(alloc: Global, at: &Snapshot<'_>, row: &Machine) -> Result<MachineAns
 {
     let live = live_ids(alloc, at)?;
     let view = plain_map(alloc, at.settings, at.tables, live.as_slice(), row)?;
-    Ok(MachineAnswer::Map(first_response(alloc, view, None, None)))
+    Ok(MachineAnswer::Map(view))
 }
 
 /// The map of a machine in other tables.

@@ -20,12 +20,12 @@ abbrev pub is_listed : List ℕ → ℕ → Bool
 is_listed live id = list_any (λ other. other == id) live
 
 -- the viewer sees the machine: it is live, and another one
-abbrev pub sees : List ℕ → ℕ → Machine → Bool
-sees live viewer p = not (p.id == viewer) && is_listed live p.id
+abbrev pub is_peer_of : List ℕ → ℕ → Machine → Bool
+is_peer_of live viewer p = not (p.id == viewer) && is_listed live p.id
 
 -- the nodes of the machines that the viewer sees, by id, which is the tables' order
 abbrev pub peers_of : List ℕ → List Machine → List ℕ → ℕ → List NodeRow
-peers_of domain machines live viewer = map (shown domain) (filter (sees live viewer) machines)
+peers_of domain machines live viewer = map (shown domain) (filter (is_peer_of live viewer) machines)
 
 -- the map of a machine, with the ids of the machines that are live
 abbrev pub fresh : SettingsFields → Rows → List ℕ → Machine → View

@@ -1,21 +1,40 @@
 //! Responses as frames.
-ghost use Rattle.std.specs.Prelude.{◌≡◌, IfOk};
-ghost use Rattle.map_delta.specs.Frames.{frame_of, framed};
+ghost use Rattle.std.specs.Prelude.{◌≡◌, ◌++◌, ◌≤◌, drop, vec_len, IfOk};
+ghost use Rattle.std.specs.Int.{w32, to_le_bytes};
+ghost use Rattle.std.specs.Option.{option_copied};
+ghost use Rattle.map_delta.specs.Frames.{frame_of};
+ghost use Rattle.map_delta.specs.Responses.{first_response};
 
+use crate::response::first_response;
+use crate::view::View;
 use std::alloc::Global;
-use tail_base::NoMemory;
+use tail_base::{NoMemory, Text};
 use tailcfg::Response;
-use wire_text::response_text;
+use wire_text::{ResponseParts, append_response};
 
-/// A text with its length before it. A text of 2^32 bytes or more has no frame.
-fn framed(alloc: Global, text: &[u8]) -> Result<Vec<u8>, NoMemory>
-    ensures value { IfOk result (λ made. made.items ≡ framed text.now) }
+/// Puts a number over the first four bytes, the lowest first.
+fn put_length(bytes: &mut Vec<u8>, length: u32)
+    requires room { 4 ≤ vec_len bytes.old }
+    ensures value { bytes.new.items ≡ to_le_bytes w32 length ++ drop 4 bytes.old.items }
 {
-    let Ok(length) = u32::try_from(text.len()) else {
+    let [a, b, c, d] = length.to_le_bytes();
+    bytes[0] = a;
+    bytes[1] = b;
+    bytes[2] = c;
+    bytes[3] = d;
+}
+
+/// The frame of a response, in one buffer: room for the length, the text, and then the length. A
+/// text of 2^32 bytes or more has no frame.
+fn frame_of(alloc: Global, response: &ResponseParts<'_>) -> Result<Vec<u8>, NoMemory>
+    ensures value { IfOk result (λ frame. frame.items ≡ frame_of response.now) }
+{
+    let room = Vec::from_slice(alloc, &[0, 0, 0, 0])?;
+    let mut frame = append_response(alloc, room, response)?;
+    let Ok(length) = u32::try_from(frame.len() - 4) else {
         return Err(NoMemory);
     };
-    let mut frame = Vec::from_slice(alloc, &length.to_le_bytes())?;
-    frame.extend_from_slice(text)?;
+    put_length(&mut frame, length);
     Ok(frame)
 }
 
@@ -24,6 +43,18 @@ fn framed(alloc: Global, text: &[u8]) -> Result<Vec<u8>, NoMemory>
 pub fn frame_bytes(alloc: Global, response: &Response) -> Result<Vec<u8>, NoMemory>
     ensures value { IfOk result (λ frame. frame.items ≡ frame_of response.now) }
 {
-    let text = response_text(alloc, response)?;
-    framed(alloc, text.as_slice())
+    frame_of(alloc, &ResponseParts::of(response))
+}
+
+/// The frame of a whole map, written from the view itself.
+pub fn first_frame(
+    alloc: Global,
+    view: &View,
+    handle: Option<&Text>,
+    seq: Option<u64>,
+) -> Result<Vec<u8>, NoMemory>
+    ensures value { IfOk result (λ frame. frame.items
+        ≡ frame_of (first_response view.now (option_copied handle.entry) seq)) }
+{
+    frame_of(alloc, &first_response(view, handle, seq))
 }

@@ -1,8 +1,9 @@
 //! Maps computed afresh.
 ghost use Rattle.std.specs.Prelude.{◌≡◌, ◌∷◌, ◌++◌, [], IfOk, OnOk, if◌then◌else◌};
-ghost use Rattle.map_delta.specs.Fresh.{fresh, is_listed, peers_of, sees, shown};
+ghost use Rattle.map_delta.specs.Fresh.{fresh, is_peer_of, peers_of, shown};
 
 use crate::filter::open_filter;
+use crate::listed::Listed;
 use crate::node::{node_of, own_addresses};
 use crate::profile::owners_of;
 use crate::view::View;
@@ -20,18 +21,11 @@ fn shown(alloc: Global, domain: &str, machine: &Machine) -> Result<NodeRow, NoMe
     node_of(alloc, domain, allowed, false, machine)
 }
 
-/// Whether the machine of an id is live.
-fn is_listed(live: &[u32], id: u32) -> bool
-    ensures value { result ≡ is_listed live.now id }
-{
-    live.iter().any(|other| *other == id)
-}
-
 /// Whether the viewer sees the machine.
-fn sees(live: &[u32], viewer: u32, machine: &Machine) -> bool
-    ensures value { result ≡ sees live.now viewer machine.now }
+fn is_peer_of(live: &Listed<'_>, viewer: u32, machine: &Machine) -> bool
+    ensures value { result ≡ is_peer_of live.now viewer machine.now }
 {
-    machine.id != viewer && is_listed(live, machine.id)
+    machine.id != viewer && live.has(machine.id)
 }
 
 /// Adds the machine's node, where it is seen.
@@ -42,7 +36,8 @@ fn add_peer(
     machine: &Machine,
     is_seen: bool,
 ) -> Result<(), NoMemory>
-    ensures ok { OnOk result (peers.new ≡ peers.old ++ (if is_seen then shown domain.now machine.now ∷ [] else [])) }
+    ensures ok { OnOk result (peers.new
+        ≡ peers.old ++ (if is_seen then shown domain.now machine.now ∷ [] else [])) }
 {
     if is_seen {
         peers.push(shown(alloc, domain, machine)?)
@@ -56,10 +51,11 @@ fn peers_of(
     alloc: Global,
     domain: &str,
     machines: &[Machine],
-    live: &[u32],
+    live: &Listed<'_>,
     viewer: u32,
 ) -> Result<Items<NodeRow>, NoMemory>
-    ensures value { IfOk result (λ peers. peers ≡ peers_of domain.now machines.now live.now viewer) }
+    ensures value { IfOk result (λ peers. peers
+        ≡ peers_of domain.now machines.now live.now viewer) }
 {
     let mut peers = Items::new(alloc);
     for machine in machines {
@@ -68,7 +64,7 @@ fn peers_of(
             &mut peers,
             domain,
             machine,
-            sees(live, viewer, machine),
+            is_peer_of(live, viewer, machine),
         )?;
     }
     Ok(peers)
@@ -83,12 +79,19 @@ pub fn plain_map(
     live: &[u32],
     machine: &Machine,
 ) -> Result<View, NoMemory>
-    ensures value { IfOk result (λ view. view ≡ fresh settings.now tables.now.rows live.now machine.now) }
+    ensures value { IfOk result (λ view. view
+        ≡ fresh settings.now tables.now.rows live.now machine.now) }
 {
     let fields = settings.fields();
     let domain = fields.base_domain.as_str();
     let node = shown(alloc, domain, machine)?;
-    let peers = peers_of(alloc, domain, tables.machines(), live, machine.id)?;
+    let peers = peers_of(
+        alloc,
+        domain,
+        tables.machines(),
+        &Listed::of(live),
+        machine.id,
+    )?;
     let profiles = owners_of(alloc, tables.users(), &node, peers.as_slice())?;
     Ok(View {
         node,

@@ -5,16 +5,14 @@
 mod filter;
 mod frame;
 mod fresh;
+mod listed;
 mod node;
 mod profile;
 mod response;
 mod view;
 
-pub use frame::frame_bytes;
+pub use frame::{first_frame, frame_bytes};
 pub use fresh::plain_map;
 pub use profile::profile_of;
 pub use response::first_response;
 pub use view::View;
-
-#[cfg(test)]
-mod tests;

@@ -86,7 +86,8 @@ fn add_owner(
     user: &User,
     is_shown: bool,
 ) -> Result<(), NoMemory>
-    ensures ok { OnOk result (owners.new ≡ owners.old ++ (if is_shown then user_profile user.now ∷ [] else [])) }
+    ensures ok { OnOk result (owners.new
+        ≡ owners.old ++ (if is_shown then user_profile user.now ∷ [] else [])) }
 {
     if is_shown {
         owners.push(user_profile(alloc, user)?)
@@ -102,7 +103,8 @@ fn users_shown(
     node: &NodeRow,
     peers: &[NodeRow],
 ) -> Result<Items<Profile>, NoMemory>
-    ensures value { IfOk result (λ owners. owners ≡ map user_profile (filter (λ u. owns_any (node.now ∷ peers.now) u.id) users.now)) }
+    ensures value { IfOk result (λ owners. owners
+        ≡ map user_profile (filter (λ u. owns_any (node.now ∷ peers.now) u.id) users.now)) }
 {
     let mut owners = Items::new(alloc);
     for user in users {

@@ -13,6 +13,3 @@ pub use laws::paths_lead;
 pub use paths::{Paths, owner_in, text_of};
 pub use route::Route;
 pub use table::PATHS;
-
-#[cfg(test)]
-mod tests;

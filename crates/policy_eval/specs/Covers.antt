@@ -36,6 +36,18 @@ covers groups sel.OwnDevices e = false
 abbrev pub is_own : Holder → Holder → Bool
 is_own a b = length a.tags == 0 && length b.tags == 0 && bytes_eq a.login b.login
 
+-- `autogroup:self`
+abbrev pub is_own_devices : Selector → Bool
+is_own_devices sel.All = false
+is_own_devices (sel.Net net) = false
+is_own_devices (sel.User login) = false
+is_own_devices (sel.Group name) = false
+is_own_devices (sel.Tagged tag) = false
+is_own_devices sel.Member = false
+is_own_devices sel.AllTagged = false
+is_own_devices sel.Internet = false
+is_own_devices sel.OwnDevices = true
+
 -- both ends are held, untagged, and by one login
 abbrev pub joins_own : End → End → Bool
 joins_own s d = option_map_or (λ a. option_map_or (is_own a) d.holder false) s.holder false

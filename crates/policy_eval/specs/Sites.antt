@@ -37,6 +37,10 @@ sites_of rows live = map (site_of rows.users) (filter (is_among live) rows.machi
 abbrev pub site_has : Address → Site → Bool
 site_has addr site = address_eq site.v4 addr || address_eq site.v6 addr
 
+-- what a machine serves: its own two addresses
+abbrev pub serves : Site → Address → Bool
+serves site addr = site_has addr site
+
 -- an address has at most one site
 abbrev pub AreDistinct : List Site → Type 0
 AreDistinct sites = (addr : Address) (a b : Site) → Contains sites a → Contains sites b

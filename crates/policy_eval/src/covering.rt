@@ -1,6 +1,6 @@
 //! Which ends a selector covers.
 ghost use Rattle.std.specs.Prelude.{◌≡◌};
-ghost use Rattle.policy_eval.specs.Covers.{covers, dest_covers, is_held, is_own, joins_own, names_holder};
+ghost use Rattle.policy_eval.specs.Covers.{covers, dest_covers, is_held, is_own, is_own_devices, joins_own, names_holder};
 
 use crate::end::{End, Holder};
 use policy_rows::{Group, Selector, is_internet, is_named};
@@ -45,6 +45,23 @@ pub(crate) fn covers(groups: &[Group], selector: &Selector, end: &End) -> bool
         | Selector::Member
         | Selector::AllTagged => is_held(groups, selector, end),
         Selector::OwnDevices => false,
+    }
+}
+
+/// Whether the selector is `autogroup:self`, which covers an end only together with a source.
+pub fn is_own_devices(selector: &Selector) -> bool
+    ensures value { result ≡ is_own_devices selector.now }
+{
+    match selector {
+        Selector::OwnDevices => true,
+        Selector::All
+        | Selector::Net(_)
+        | Selector::User(_)
+        | Selector::Group(_)
+        | Selector::Tagged(_)
+        | Selector::Member
+        | Selector::AllTagged
+        | Selector::Internet => false,
     }
 }
 

@@ -12,7 +12,8 @@ mod rule_sets;
 mod rules;
 mod site;
 
+pub use covering::is_own_devices;
 pub use end::{End, Holder};
 pub use expanded::Expanded;
 pub use laws::{a_reach_is_by_rules, an_address_has_one_site};
-pub use site::{Site, sites_of};
+pub use site::{Site, are_own, sites_of};

@@ -1,6 +1,8 @@
 //! Sites: what policies see of the live machines.
 ghost use Rattle.std.specs.Prelude.{◌≡◌, ◌∷◌, ◌++◌, [], IfOk, OnOk, filter, map, if◌then◌else◌};
 ghost use Rattle.std.specs.Option.{option_copied};
+ghost use Rattle.policy_eval.specs.Covers.{is_own};
+ghost use Rattle.policy_eval.specs.Ends.{holder_of};
 ghost use Rattle.policy_eval.specs.Sites.{AreDistinct, is_among, owner_login, site_of, sites_of};
 
 use net_addr::Addr;
@@ -19,6 +21,13 @@ pub struct Site {
     pub v4: Addr,
     pub v6: Addr,
     pub tags: Items<Tag>,
+}
+
+/// Whether both machines are untagged and of one login, so that `autogroup:self` joins them.
+pub fn are_own(a: &Site, b: &Site) -> bool
+    ensures value { result ≡ is_own (holder_of a.now) (holder_of b.now) }
+{
+    a.tags.is_empty() && b.tags.is_empty() && a.login.as_slice() == b.login.as_slice()
 }
 
 fn owner_login(alloc: Global, user: Option<&User>) -> Result<Text, NoMemory>

@@ -17,6 +17,8 @@ use Rattle.tailcfg.specs.declared.dns.DnsRoute.{DnsRoute}
 use Rattle.tail_words.specs.SettingsText.{dns_at, dns_of, fields_of, number_at, number_by, prefix_at, prefix_by, required, rule_of, text_at, text_by}
 use Rattle.tail_words.specs.SettingsValues.{addresses, are_domains, before, each_address, each_route, number, number_within, passes, passing, prefix, prefix_fits, prefix_within, reading, resolvers, route, routes, routes_within, search_domains, table_texts, text, texts}
 use Rattle.tail_words.specs.declared.fault.SettingsFault.{SettingsFault}
+use Rattle.tail_words.specs.declared.fault.SettingsRule.{SettingsRule}
+use Rattle.tail_words.specs.declared.fault.SettingsRule.TheVariants.{KeyRule}
 use Rattle.tail_words.specs.declared.lists.RouteTexts.{RouteTexts}
 use Rattle.tail_words.specs.declared.rule.Rule.{Rule}
 use Rattle.tail_words.specs.declared.rule.Rule.TheVariants.{Number, Prefix, Text}
@@ -24,7 +26,7 @@ use Rattle.tail_words.specs.declared.rule.TextRule.{TextRule}
 use Rattle.tail_words.specs.declared.rule.TextRule.TheVariants.{Any, BaseDomain, Visible}
 
 -- a value that was read is what the rule gave
-ruled : {B : Type 0} (o : Option B) (b : B) → result_ok {E = ℕ} (or_fault 4 o) ≡ Some b → o ≡ Some b
+ruled : {B : Type 0} (o : Option B) (b : B) → result_ok {E = SettingsRule} (or_fault KeyRule o) ≡ Some b → o ≡ Some b
 ruled None b h = absurd (cc)
 ruled (Some x) b h = h
 

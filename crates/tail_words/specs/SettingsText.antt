@@ -14,6 +14,8 @@ use Rattle.settings.specs.declared.limits.TheConstants.{COUNT_LIMIT, SECONDS_LIM
 use Rattle.tail_words.specs.SettingsValues.{number, prefix, resolvers, routes, search_domains, text}
 use Rattle.tail_words.specs.declared.fault.SettingsFault.{SettingsFault}
 use Rattle.tail_words.specs.declared.fault.SettingsFault.TheVariants.{Refused, NoMemory}
+use Rattle.tail_words.specs.declared.fault.SettingsRule.{SettingsRule}
+use Rattle.tail_words.specs.declared.fault.SettingsRule.TheVariants.{Toml, KnownKey, KeyType, KeyRule, RequiredKey}
 use Rattle.tail_words.specs.declared.rule.Rule.{Rule}
 use Rattle.tail_words.specs.declared.rule.Rule.TheVariants.{Number, Prefix, Text}
 use Rattle.tail_words.specs.declared.rule.TextRule.TheVariants.{Any, BaseDomain, Visible}
@@ -39,6 +41,14 @@ abbrev pub Gives : {A B : Type 0} → (A → B) → Result A SettingsFault → R
 Gives view (Ok x) read = read ≡ Ok (view x)
 Gives view (Err e) read = Fails e read
 
+-- the number of a rule, as it is reported
+abbrev pub rule_number : SettingsRule → ℕ
+rule_number Toml = 1
+rule_number KnownKey = 2
+rule_number KeyType = 3
+rule_number KeyRule = 4
+rule_number RequiredKey = 5
+
 -- the rule of each key but `dns`
 unfoldable pub rule_of : List ℕ → Option Rule
 rule_of key =
@@ -58,24 +68,24 @@ rule_of key =
     else if bytes_eq key (codes "workers") then Some (Number 1 WORKER_LIMIT)
     else None
 
--- the number of the rule that a value breaks: a key without a rule is unknown
-abbrev pub broken_by : Option Rule → Data → Option ℕ
-broken_by None d = Some 2
+-- the rule that a value breaks: a key without a rule isn't known
+abbrev pub broken_by : Option Rule → Data → Option SettingsRule
+broken_by None d = Some KnownKey
 broken_by (Some (Number least greatest)) d = result_err (number least greatest d)
 broken_by (Some (Prefix v6)) d = result_err (prefix v6 d)
 broken_by (Some (Text rule)) d = result_err (text rule d)
 
--- the number of the rule that an entry of `dns` breaks
-abbrev pub broken_in_dns : List ℕ → Data → Option ℕ
+-- the rule that an entry of `dns` breaks
+abbrev pub broken_in_dns : List ℕ → Data → Option SettingsRule
 broken_in_dns key d =
-    if bytes_eq key (codes "magic") then result_err (or_fault 3 (as_bool d))
+    if bytes_eq key (codes "magic") then result_err (or_fault KeyType (as_bool d))
     else if bytes_eq key (codes "resolvers") then result_err (resolvers d)
     else if bytes_eq key (codes "routes") then result_err (routes d)
     else if bytes_eq key (codes "search") then result_err (search_domains d)
-    else Some 2
+    else Some KnownKey
 
 -- no rule is broken at a key
-abbrev pub kept : List ℕ → Option ℕ → Result (Unit {0}) SettingsFault
+abbrev pub kept : List ℕ → Option SettingsRule → Result (Unit {0}) SettingsFault
 kept key None = Ok tt
 kept key (Some rule) = Err (Refused rule key)
 
@@ -87,7 +97,7 @@ dns_checked (member key d more) = kept (codes "dns." ++ key) (broken_in_dns key 
 -- an entry keeps its rule; that of `dns` is a table whose entries do
 abbrev pub entry_checked : List ℕ → Data → Result (Unit {0}) SettingsFault
 entry_checked key d =
-    if bytes_eq key (codes "dns") then or_fault (Refused 3 (codes "dns")) (as_table d) >>= dns_checked
+    if bytes_eq key (codes "dns") then or_fault (Refused KeyType (codes "dns")) (as_table d) >>= dns_checked
     else kept key (broken_by (rule_of key) d)
 
 -- the entries in byte order keep their rules
@@ -124,7 +134,7 @@ dns_at key table = option_and_then (get_member key) (option_and_then as_table (g
 
 -- a text that has to be there
 abbrev pub required : List ℕ → Members → Result (List ℕ) SettingsFault
-required key table = or_fault (Refused 5 key) (text_at key table)
+required key table = or_fault (Refused RequiredKey key) (text_at key table)
 
 -- the DNS settings, with their defaults
 abbrev pub dns_of : List ℕ → Members → DnsSettings
@@ -170,4 +180,4 @@ table_of text = if is_utf8 text then parse_document text else None
 
 -- the settings that a file gives, or its first fault
 unfoldable pub settings_of : List ℕ → Result SettingsFields SettingsFault
-settings_of text = or_fault (Refused 1 (codes "text")) (table_of text) >>= settings_at
+settings_of text = or_fault (Refused Toml (codes "text")) (table_of text) >>= settings_at

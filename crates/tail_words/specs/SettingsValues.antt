@@ -13,13 +13,15 @@ use Rattle.settings.specs.declared.limits.TheConstants.{DNS_ROUTE_LIMIT, PREFIX_
 use Rattle.tailcfg.specs.declared.dns.DnsRoute.{DnsRoute}
 use Rattle.toml.specs.Data.{Data, Items, no_items, item, Members, no_members, member, as_array, as_bool, as_integer, as_str, as_table}
 use Rattle.tail_words.specs.declared.lists.RouteTexts.{RouteTexts}
+use Rattle.tail_words.specs.declared.fault.SettingsRule.{SettingsRule}
+use Rattle.tail_words.specs.declared.fault.SettingsRule.TheVariants.{KeyType, KeyRule}
 use Rattle.tail_words.specs.declared.rule.TextRule.{TextRule}
 use Rattle.tail_words.specs.declared.rule.TextRule.TheVariants.{Any, BaseDomain, Visible}
 
--- what a rule makes of a value of its type; rule 3 is broken where the type is another, and 4 where the rule refuses
-abbrev pub reading : {A B : Type 0} → (A → Option B) → Option A → Result B ℕ
-reading rule None = Err 3
-reading rule (Some a) = or_fault 4 (rule a)
+-- what a rule makes of a value of its type; or the rule of types is broken, or this one
+abbrev pub reading : {A B : Type 0} → (A → Option B) → Option A → Result B SettingsRule
+reading rule None = Err KeyType
+reading rule (Some a) = or_fault KeyRule (rule a)
 
 -- the value itself, if it passes a test
 abbrev pub passing : {A : Type 0} → (A → Bool) → A → Option A
@@ -31,7 +33,7 @@ number_within least greatest (pos n) = passing (λ k. nat_le least k && nat_le k
 number_within least greatest (negsuc n) = None
 
 -- an integer from the least to the greatest
-abbrev pub number : ℕ → ℕ → Data → Result ℕ ℕ
+abbrev pub number : ℕ → ℕ → Data → Result ℕ SettingsRule
 number least greatest d = reading (number_within least greatest) (as_integer d)
 
 -- the test of a text
@@ -41,7 +43,7 @@ passes BaseDomain t = is_base_domain t
 passes Visible t = is_visible t
 
 -- a string that passes its test
-abbrev pub text : TextRule → Data → Result (List ℕ) ℕ
+abbrev pub text : TextRule → Data → Result (List ℕ) SettingsRule
 text rule d = reading (passing (passes rule)) (as_str d)
 
 -- a prefix of the tailnet's addresses with room for some
@@ -54,7 +56,7 @@ abbrev pub prefix_within : Bool → List ℕ → Option Block
 prefix_within v6 t = option_and_then (passing (prefix_fits v6)) (result_ok (prefix_of_text t))
 
 -- a string that spells such a prefix
-abbrev pub prefix : Bool → Data → Result Block ℕ
+abbrev pub prefix : Bool → Data → Result Block SettingsRule
 prefix v6 d = reading (prefix_within v6) (as_str d)
 
 -- the first, if it is there, and the others, if they all are
@@ -81,7 +83,7 @@ abbrev pub addresses : List (List ℕ) → Option (List Address)
 addresses ts = option_and_then (passing (λ made. nat_le (length made) RESOLVER_LIMIT)) (each_address ts)
 
 -- an array of strings that spell addresses, up to their limit
-abbrev pub resolvers : Data → Result (List Address) ℕ
+abbrev pub resolvers : Data → Result (List Address) SettingsRule
 resolvers d = reading addresses (texts d)
 
 -- domains, up to their limit
@@ -89,7 +91,7 @@ abbrev pub are_domains : List (List ℕ) → Bool
 are_domains ts = nat_le (length ts) SEARCH_LIMIT && list_all is_domain ts
 
 -- an array of domains, up to their limit
-abbrev pub search_domains : Data → Result (List (List ℕ)) ℕ
+abbrev pub search_domains : Data → Result (List (List ℕ)) SettingsRule
 search_domains d = reading (passing are_domains) (texts d)
 
 -- the texts at a suffix, if they are an array of strings
@@ -119,5 +121,5 @@ abbrev pub routes_within : List RouteTexts → Option (List DnsRoute)
 routes_within rs = option_and_then (passing (λ made. nat_le (length made) DNS_ROUTE_LIMIT)) (each_route rs)
 
 -- a table of domains, each with an array of strings that spell addresses, up to their limits
-abbrev pub routes : Data → Result (List DnsRoute) ℕ
+abbrev pub routes : Data → Result (List DnsRoute) SettingsRule
 routes d = reading routes_within (table_texts d)

@@ -31,12 +31,12 @@ words_of _ = None
 
 -- what the program is asked to do
 pub data CommandWords : Type 0 where
-  serves : PipeWords → CommandWords
+  runs_pipe : PipeWords → CommandWords
   checks_policy : List ℕ → CommandWords
 
 -- the words that a `Command` holds
 abbrev pub command_words : Command → CommandWords
-command_words (PipeCommand p) = serves (pipe_words p)
+command_words (PipeCommand p) = runs_pipe (pipe_words p)
 command_words (PolicyCheck file) = checks_policy file.now
 
 -- the file of `policy-check FILE`
@@ -47,7 +47,7 @@ policy_file _ = None
 -- the command that is not `policy-check`
 abbrev pub or_pipe : Option (List ℕ) → Option PipeWords → Option CommandWords
 or_pipe (Some file) pipe = Some (checks_policy file)
-or_pipe None pipe = option_map serves pipe
+or_pipe None pipe = option_map runs_pipe pipe
 
 -- `policy-check FILE`, or the words of `pipe`
 unfoldable pub command_of : List (List ℕ) → Option CommandWords

@@ -5,7 +5,7 @@ ghost use Rattle.toml.specs.View.{table_view, view};
 ghost use Rattle.tail_words.specs.SettingsValues.{resolvers, routes, search_domains};
 ghost use Rattle.tail_words.specs.SettingsText.{Gives, IsFault, broken_in_dns, dns_at, dns_checked, dns_of};
 
-use crate::fault::{SettingsFault, refused};
+use crate::fault::{SettingsFault, SettingsRule, refused};
 use crate::lists::{resolvers, routes, search_domains};
 use crate::table::member;
 use net_addr::Addr;
@@ -15,12 +15,16 @@ use tail_base::{Duplicate, Items, NoMemory, Text};
 use tailcfg::{DnsRoute, DnsSettings};
 use toml::{Table, Value};
 
-/// The number of the rule that an entry breaks, if it breaks one.
-fn broken_in_dns(alloc: Global, key: &str, value: &Value) -> Result<Option<u8>, NoMemory>
+/// The rule that an entry breaks, if it breaks one.
+fn broken_in_dns(alloc: Global, key: &str, value: &Value) -> Result<Option<SettingsRule>, NoMemory>
     ensures value { IfOk result (λ rule. rule ≡ broken_in_dns key.now (view value.now)) }
 {
     if key == "magic" {
-        Ok(if value.is_bool() { None } else { Some(3) })
+        Ok(if value.is_bool() {
+            None
+        } else {
+            Some(SettingsRule::KeyType)
+        })
     } else if key == "resolvers" {
         Ok(resolvers(alloc, value)?.err())
     } else if key == "routes" {
@@ -28,12 +32,12 @@ fn broken_in_dns(alloc: Global, key: &str, value: &Value) -> Result<Option<u8>, 
     } else if key == "search" {
         Ok(search_domains(alloc, value)?.err())
     } else {
-        Ok(Some(2))
+        Ok(Some(SettingsRule::KnownKey))
     }
 }
 
 /// The fault that a rule is broken by a key of `dns`.
-fn refused_in_dns(alloc: Global, rule: u8, key: &str) -> SettingsFault
+fn refused_in_dns(alloc: Global, rule: SettingsRule, key: &str) -> SettingsFault
     ensures value { IsFault result (SettingsFault.Refused rule (codes "dns." ++ key.now)) }
 {
     match dns_name(alloc, key) {

@@ -11,9 +11,6 @@ mod table;
 mod values;
 mod words;
 
-pub use fault::SettingsFault;
+pub use fault::{SettingsFault, SettingsRule};
 pub use settings_file::read_settings;
 pub use words::{Command, Pipe, read_command, read_words};
-
-#[cfg(test)]
-mod tests;

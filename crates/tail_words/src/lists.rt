@@ -1,11 +1,12 @@
-//! Lists in a settings file. A value's fault is the number of the rule that it breaks: 3 where its
-//! type or that of an element is another, 4 where it is against its key's rule.
+//! Lists in a settings file. A value's fault is the rule that it breaks: that of its type and of its
+//! elements' types, or that of its key.
 ghost use Rattle.std.specs.Prelude.{◌≡◌, IfOk};
 ghost use Rattle.std.specs.List.{list_all};
 ghost use Rattle.settings.specs.Settings.{is_domain};
 ghost use Rattle.toml.specs.View.{items_view, table_view, view};
 ghost use Rattle.tail_words.specs.SettingsValues.{addresses, are_domains, each_address, each_route, item_texts, member_texts, resolvers, route, routes, routes_within, search_domains, table_texts, texts};
 
+use crate::fault::SettingsRule;
 use crate::rules::is_domain;
 use net_addr::Addr;
 use settings::{DNS_ROUTE_LIMIT, RESOLVER_LIMIT, SEARCH_LIMIT};
@@ -72,15 +73,18 @@ fn addresses(alloc: Global, texts: &[Text]) -> Result<Option<Items<Addr>>, NoMem
 }
 
 /// The addresses that an array of strings spells.
-pub(crate) fn resolvers(alloc: Global, value: &Value) -> Result<Result<Items<Addr>, u8>, NoMemory>
+pub(crate) fn resolvers(
+    alloc: Global,
+    value: &Value,
+) -> Result<Result<Items<Addr>, SettingsRule>, NoMemory>
     ensures value { IfOk result (λ read. read ≡ resolvers (view value.now)) }
 {
     let Some(texts) = texts(alloc, value)? else {
-        return Ok(Err(3));
+        return Ok(Err(SettingsRule::KeyType));
     };
     match addresses(alloc, texts.as_slice())? {
         Some(made) => Ok(Ok(made)),
-        None => Ok(Err(4)),
+        None => Ok(Err(SettingsRule::KeyRule)),
     }
 }
 
@@ -105,13 +109,13 @@ fn are_domains(texts: &[Text]) -> bool
 pub(crate) fn search_domains(
     alloc: Global,
     value: &Value,
-) -> Result<Result<Items<Text>, u8>, NoMemory>
+) -> Result<Result<Items<Text>, SettingsRule>, NoMemory>
     ensures value { IfOk result (λ read. read ≡ search_domains (view value.now)) }
 {
     match texts(alloc, value)? {
         Some(texts) if are_domains(texts.as_slice()) => Ok(Ok(texts)),
-        Some(_) => Ok(Err(4)),
-        None => Ok(Err(3)),
+        Some(_) => Ok(Err(SettingsRule::KeyRule)),
+        None => Ok(Err(SettingsRule::KeyType)),
     }
 }
 
@@ -161,17 +165,20 @@ fn each_route(alloc: Global, texts: &[RouteTexts]) -> Result<Option<Items<DnsRou
 }
 
 /// The routes that a table gives: at each domain the addresses of its resolvers.
-pub(crate) fn routes(alloc: Global, value: &Value) -> Result<Result<Items<DnsRoute>, u8>, NoMemory>
+pub(crate) fn routes(
+    alloc: Global,
+    value: &Value,
+) -> Result<Result<Items<DnsRoute>, SettingsRule>, NoMemory>
     ensures value { IfOk result (λ read. read ≡ routes (view value.now)) }
 {
     let Some(table) = value.as_table() else {
-        return Ok(Err(3));
+        return Ok(Err(SettingsRule::KeyType));
     };
     let Some(texts) = member_texts(alloc, table)? else {
-        return Ok(Err(3));
+        return Ok(Err(SettingsRule::KeyType));
     };
     match each_route(alloc, texts.as_slice())? {
         Some(made) if made.len() <= DNS_ROUTE_LIMIT => Ok(Ok(made)),
-        _ => Ok(Err(4)),
+        _ => Ok(Err(SettingsRule::KeyRule)),
     }
 }

@@ -4,7 +4,7 @@ ghost use Rattle.toml.specs.View.{table_view, view};
 ghost use Rattle.tail_words.specs.SettingsText.{Gives, IsRead, checked, entry_checked, fields_of, required, settings_at, settings_of, text_at};
 
 use crate::dns::{check_dns, dns_of};
-use crate::fault::{SettingsFault, refused};
+use crate::fault::{SettingsFault, SettingsRule, refused};
 use crate::rule::rule_of;
 use crate::table::{broken_by, number_at, prefix_at, text_at};
 use net_addr::{tailnet_v4, tailnet_v6};
@@ -24,7 +24,7 @@ fn check_entry(alloc: Global, key: &str, value: &Value) -> Result<(), SettingsFa
     if key == "dns" {
         return match value.as_table() {
             Some(table) => check_dns(alloc, table),
-            None => Err(refused(alloc, 3, "dns")),
+            None => Err(refused(alloc, SettingsRule::KeyType, "dns")),
         };
     }
     match broken_by(rule_of(key), value) {
@@ -50,7 +50,7 @@ fn required(alloc: Global, table: &Table, key: &str) -> Result<Text, SettingsFau
 {
     match text_at(table, key) {
         Some(text) => Ok(Text::from_str(alloc, text)?),
-        None => Err(refused(alloc, 5, key)),
+        None => Err(refused(alloc, SettingsRule::RequiredKey, key)),
     }
 }
 
@@ -131,6 +131,6 @@ pub fn read_settings(alloc: Global, text: &[u8]) -> Result<Settings, SettingsFau
     match toml::table_from_slice(alloc, text) {
         Ok(table) => settings_from(alloc, &table),
         Err(error) if error.is_memory() => Err(SettingsFault::NoMemory),
-        Err(_) => Err(refused(alloc, 1, "text")),
+        Err(_) => Err(refused(alloc, SettingsRule::Toml, "text")),
     }
 }

@@ -4,6 +4,7 @@ ghost use Rattle.toml.specs.Data.{get_member};
 ghost use Rattle.toml.specs.View.{table_view, view};
 ghost use Rattle.tail_words.specs.SettingsText.{broken_by, number_at, prefix_at, rule_of, text_at};
 
+use crate::fault::SettingsRule;
 use crate::rule::{Rule, rule_of};
 use crate::values::{broken_text, number, prefix, text};
 use net_addr::Prefix;
@@ -16,12 +17,12 @@ pub(crate) fn member<'a>(table: &'a Table, key: &str) -> Option<&'a Value>
     table.get(key)
 }
 
-/// The number of the rule that a value breaks, if it breaks one: 2 where its key has no rule.
-pub(crate) fn broken_by(rule: Option<Rule>, value: &Value) -> Option<u8>
+/// The rule that a value breaks, if it breaks one: a key without a rule isn't known.
+pub(crate) fn broken_by(rule: Option<Rule>, value: &Value) -> Option<SettingsRule>
     ensures value { result ≡ broken_by rule (view value.now) }
 {
     match rule {
-        None => Some(2),
+        None => Some(SettingsRule::KnownKey),
         Some(Rule::Number { least, greatest }) => number(value, least, greatest).err(),
         Some(Rule::Prefix { v6 }) => prefix(value, v6).err(),
         Some(Rule::Text(rule)) => broken_text(value, rule),

@@ -1,10 +1,11 @@
-//! Single values of a settings file. A value's fault is the number of the rule that it breaks: 3
-//! where its type is another, 4 where it is against its key's rule.
+//! Single values of a settings file. A value's fault is the rule that it breaks: that of its type,
+//! or that of its key.
 ghost use Rattle.std.specs.Prelude.{◌≡◌, option_and_then, option_map};
 ghost use Rattle.std.specs.Result.{result_ok, result_err};
 ghost use Rattle.toml.specs.View.{view};
 ghost use Rattle.tail_words.specs.SettingsValues.{number, number_within, passes, prefix, prefix_fits, text};
 
+use crate::fault::SettingsRule;
 use crate::rule::TextRule;
 use crate::rules::{is_base_domain, is_visible};
 use net_addr::{Prefix, tailnet_v4, tailnet_v6};
@@ -21,13 +22,13 @@ fn number_within(number: i64, least: u32, greatest: u32) -> Option<u32>
 }
 
 /// The integer from the least to the greatest that a value is.
-pub(crate) fn number(value: &Value, least: u32, greatest: u32) -> Result<u32, u8>
+pub(crate) fn number(value: &Value, least: u32, greatest: u32) -> Result<u32, SettingsRule>
     ensures value { result ≡ number least greatest (view value.now) }
 {
     let Some(number) = value.as_integer() else {
-        return Err(3);
+        return Err(SettingsRule::KeyType);
     };
-    number_within(number, least, greatest).ok_or(4)
+    number_within(number, least, greatest).ok_or(SettingsRule::KeyRule)
 }
 
 fn passes(rule: TextRule, text: &str) -> bool
@@ -41,13 +42,13 @@ fn passes(rule: TextRule, text: &str) -> bool
 }
 
 /// The rule that a value breaks which has to be such a text.
-pub(crate) fn broken_text(value: &Value, rule: TextRule) -> Option<u8>
+pub(crate) fn broken_text(value: &Value, rule: TextRule) -> Option<SettingsRule>
     ensures value { result ≡ result_err (text rule (view value.now)) }
 {
     match value.as_str() {
         Some(text) if passes(rule, text) => None,
-        Some(_) => Some(4),
-        None => Some(3),
+        Some(_) => Some(SettingsRule::KeyRule),
+        None => Some(SettingsRule::KeyType),
     }
 }
 
@@ -73,14 +74,14 @@ fn prefix_fits(v6: bool, prefix: &Prefix) -> bool
 }
 
 /// The prefix of the tailnet's addresses that a value spells.
-pub(crate) fn prefix(value: &Value, v6: bool) -> Result<Prefix, u8>
+pub(crate) fn prefix(value: &Value, v6: bool) -> Result<Prefix, SettingsRule>
     ensures value { result ≡ prefix v6 (view value.now) }
 {
     let Some(text) = value.as_str() else {
-        return Err(3);
+        return Err(SettingsRule::KeyType);
     };
     match Prefix::read(text.as_bytes()) {
         Ok(prefix) if prefix_fits(v6, &prefix) => Ok(prefix),
-        _ => Err(4),
+        _ => Err(SettingsRule::KeyRule),
     }
 }

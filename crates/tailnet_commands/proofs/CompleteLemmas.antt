@@ -19,16 +19,17 @@ use Rattle.tailnet_desk.specs.declared.entry.Event.{Event}
 use Rattle.tailnet_desk.specs.declared.reply.Reply.{Reply}
 use Rattle.desk_front.specs.declared.front_settings.FrontSettings.{FrontSettings}
 use Rattle.tailnet_commands.specs.Complete.{IsAccepted, IsClear, IsComplete}
-use Rattle.tailnet_commands.specs.Exchanges.{Exchange, IsExchange, AreExchanges, IsAnswered, requests_of, end_of, ended_by}
-use Rattle.tailnet_commands.specs.Pipe.{Piped, status_of}
-use Rattle.tailnet_commands.specs.Run.{World}
-use Rattle.tailnet_commands.specs.Serve.{Serves, Told, IsEarly}
-use Rattle.tailnet_commands.specs.declared.closed.Closed.{Closed}
-use Rattle.tailnet_commands.specs.declared.closed.Closed.TheVariants as closed
-use Rattle.tailnet_commands.specs.declared.ended.Ended.{Ended}
-use Rattle.tailnet_commands.specs.declared.ended.Ended.TheVariants as ended
-use Rattle.tailnet_commands.specs.declared.status.Status.{Status}
-use Rattle.tailnet_commands.specs.declared.status.Status.TheVariants as status
+use Rattle.connections.specs.Exchanges.{Exchange, IsExchange, AreExchanges, IsAnswered, requests_of, end_of, ended_by}
+use Rattle.tailnet_commands.specs.Pipe.{Piped}
+use Rattle.run_ends.specs.Statuses.{status_of}
+use Rattle.tailnet_commands.specs.Outside.{Outside}
+use Rattle.connections.specs.Connection.{IsConnection, Told, IsEarly}
+use Rattle.run_ends.specs.declared.closed.Closed.{Closed}
+use Rattle.run_ends.specs.declared.closed.Closed.TheVariants as closed
+use Rattle.run_ends.specs.declared.ended.Ended.{Ended}
+use Rattle.run_ends.specs.declared.ended.Ended.TheVariants as ended
+use Rattle.run_ends.specs.declared.status.Status.{Status}
+use Rattle.run_ends.specs.declared.status.Status.TheVariants as status
 
 -- an answer that leaves the connection to its request doesn't end it early
 pub not_early : (close : Bool) → ended_by close ≡ Some closed.Early → ⊥
@@ -76,7 +77,7 @@ tail_never rest left others extra told is splits (inr (fault, tail, answered)) =
 
 -- a connection over accepted whole requests doesn't end early
 pub never_early : {S : Type 0} (turn : S → Event → Reply → S → Type 0) (site : FrontSettings) (limit : ℕ) (old new : Told) (s t : S) (input : List ℕ) (requests : List Request)
-    → Leads input requests [] → AllByRecursion (λ r. IsAccepted (wanted_of site r)) requests → old.left ≡ Some input → Serves turn site closed.Early limit [] old new s t → ⊥
+    → Leads input requests [] → AllByRecursion (λ r. IsAccepted (wanted_of site r)) requests → old.left ≡ Some input → IsConnection turn site closed.Early limit [] old new s t → ⊥
 never_early turn site limit old new s t input requests whole ok is serves =
     let r = rest_of old.left new.left serves.read input serves.from_source is in
     let leads = subst (λ b. Leads b (requests_of serves.exchanges) (serves.rest ++ r.0)) (sym r.2) (Leads-append serves.read (requests_of serves.exchanges) serves.rest r.0 serves.bytes_read) in
@@ -87,24 +88,24 @@ never_early turn site limit old new s t input requests whole ok is serves =
     ]
 
 -- the same by how the run ended
-pub complete_of : (e : Ended) (file : Option (Option (List ℕ))) (before now : ℕ) (seed : Option (List ℕ)) (old new : World) → Piped e file before now seed old new → IsClear file before now old new → (status_of e ≡ status.Ok) ⊎ (status_of e ≡ status.NoMemory)
-complete_of (ended.Closed closed.End) file before now seed old new p c = inl refl
-complete_of (ended.Closed closed.Early) file before now seed old new p c = absurd (
+pub complete_of : (e : Ended) (name : List ℕ) (seed : Option (List ℕ)) (old new : Outside) → Piped e name seed old new → IsClear name old new → (status_of e ≡ status.Ok) ⊎ (status_of e ≡ status.NoMemory)
+complete_of (ended.Closed closed.End) name seed old new p c = inl refl
+complete_of (ended.Closed closed.Early) name seed old new p c = absurd (
     let told : settings_of c.text ≡ Ok p.settings = (rw c.file_is at p.settings_are).1 in
     let is = c.settings_are in
     let same : c.settings ≡ p.settings = cc in
     never_early _ (front_settings p.settings) _ _ new.told _ _ c.input c.requests c.whole
     (subst (λ (f : SettingsFields). AllByRecursion (λ r. IsAccepted (wanted_of (front_settings f) r)) c.requests) same c.accepted) c.input_is p.talk.serves)
-complete_of (ended.Closed closed.ReadFault) file before now seed old new p c = absurd (c.no_read_fault p.talk.serves.ending.3)
-complete_of (ended.Closed closed.WriteFault) file before now seed old new p c = absurd (c.no_write_fault p.talk.serves.ending.1)
-complete_of (ended.Closed closed.NoMemory) file before now seed old new p c = inr refl
-complete_of (ended.Settings rule key) file before now seed old new p c = absurd (let broken = (rw c.file_is at p.2).1 in let kept = c.settings_are in cc)
-complete_of ended.TooLarge file before now seed old new p c = absurd (let large = rw c.file_is at p.2 in omega (arith, large, c.small))
-complete_of ended.FileFault file before now seed old new p c = absurd (c.no_file_fault p.2)
-complete_of ended.KeeperFault file before now seed old new p c = absurd (c.no_keeper_fault p.2)
-complete_of (ended.Damaged kind id) file before now seed old new p c = absurd (let damaged = rw c.rows_are at p.2 in let sound = c.served in cc)
-complete_of ended.NoMemory file before now seed old new p c = inr refl
+complete_of (ended.Closed closed.ReadFault) name seed old new p c = absurd (c.no_read_fault p.talk.serves.ending.3)
+complete_of (ended.Closed closed.WriteFault) name seed old new p c = absurd (c.no_write_fault p.talk.serves.ending.1)
+complete_of (ended.Closed closed.NoMemory) name seed old new p c = inr refl
+complete_of (ended.Settings rule key) name seed old new p c = absurd (let broken = (rw c.file_is at p.1).1 in let kept = c.settings_are in cc)
+complete_of ended.TooLarge name seed old new p c = absurd (let large = rw c.file_is at p.1 in omega (arith, large, c.small))
+complete_of ended.FileFault name seed old new p c = absurd (c.no_file_fault p.1)
+complete_of ended.KeeperFault name seed old new p c = absurd (c.no_keeper_fault p.2)
+complete_of (ended.Damaged kind id) name seed old new p c = absurd (let damaged = rw c.rows_are at p.2 in let sound = c.served in cc)
+complete_of ended.NoMemory name seed old new p c = inr refl
 
 pub complete : IsComplete
-complete s file before now seed old new errors errors_after error_faults error_faults_after o c =
-    subst (λ (x : Status). (x ≡ status.Ok) ⊎ (x ≡ status.NoMemory)) (sym o.status_is) (complete_of o.ended file before now seed old new o.piped c)
+complete s name seed old new o c =
+    subst (λ (x : Status). (x ≡ status.Ok) ⊎ (x ≡ status.NoMemory)) (sym o.status_is) (complete_of o.ended name seed old new o.piped c)

@@ -1,9 +1,4 @@
-pub mod Writes
-pub mod Tellings
-pub mod AnswerLemmas
-pub mod ServeLemmas
-pub mod TalkLemmas
+pub mod SeedLemmas
 pub mod RunLemmas
 pub mod PipeLemmas
 pub mod CompleteLemmas
-pub mod Heard

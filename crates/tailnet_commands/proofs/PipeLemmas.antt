@@ -1,19 +1,37 @@
 -- What the command `pipe` comes to.
-use Rattle.std.proofs.Common.{ℕ, Option, List, inl, inr}
+use Rattle.std.proofs.Common.{ℕ, Option, None, Some, List, IfSome, inl, inr, refl}
+use Rattle.io_edge.specs.Edge.{IsWhereTold}
+use Rattle.net_rows.specs.declared.rows.Rows.{Rows}
 use Rattle.settings.specs.declared.fields.SettingsFields.{SettingsFields}
-use Rattle.tailnet_commands.specs.Run.{Ran, World}
-use Rattle.tailnet_commands.specs.Pipe.{AreSettingsOf, Piped}
-use Rattle.tailnet_commands.specs.declared.closed.Closed.{Closed}
-use Rattle.tailnet_commands.specs.declared.ended.Ended.{Ended}
-use Rattle.tailnet_commands.specs.declared.ended.Ended.TheVariants as ended
+use Rattle.tailnet_commands.specs.Outside.{Outside}
+use Rattle.tailnet_commands.specs.Pipe.{AreSettingsOf, IsUnread, Piped}
+use Rattle.tailnet_commands.specs.Run.{IsUnbegun, Ran, Untouched}
+use Rattle.run_ends.specs.declared.ended.Ended.{Ended}
+use Rattle.run_ends.specs.declared.ended.Ended.TheVariants as ended
 
--- a run over the file's settings
-pub ran_piped : (e : Ended) (settings : SettingsFields) (file : Option (Option (List ℕ))) (before now : ℕ) (seed : Option (List ℕ)) (old new : World) → AreSettingsOf file settings → Ran e settings seed old new → Piped e file before now seed old new
-ran_piped (ended.Closed c) settings file before now seed old new are r = record { settings = settings; settings_are = are; talk = r }
-ran_piped (ended.Settings rule key) settings file before now seed old new are r = absurd r
-ran_piped ended.TooLarge settings file before now seed old new are r = absurd r
-ran_piped ended.FileFault settings file before now seed old new are r = absurd r
-ran_piped ended.KeeperFault settings file before now seed old new are r = (r.0, (settings, are, r.1), r.2)
-ran_piped (ended.Damaged kind id) settings file before now seed old new are r = (r.0, (settings, are, r.1), r.2)
-ran_piped ended.NoMemory settings file before now seed old new are (quiet, inl unasked) = (quiet, inl unasked)
-ran_piped ended.NoMemory settings file before now seed old new are (quiet, inr asked) = (quiet, inr (settings, are, asked))
+-- what is told is so where it is told
+pub told_by_itself : (o : Option Rows) → IfSome o (λ rows. IsWhereTold rows o)
+told_by_itself None = tt
+told_by_itself (Some rows) = refl
+
+module _ (name : List ℕ) (seed : Option (List ℕ)) (old new : Outside) where
+  -- a run over the file's settings
+  pub ran_piped : (e : Ended) (settings : SettingsFields) → AreSettingsOf (old.files name) settings → Ran e settings seed old new → Piped e name seed old new
+  ran_piped (ended.Closed c) settings are r = record { settings = settings; settings_are = are; talk = r }
+  ran_piped (ended.Settings rule key) settings are r = absurd r
+  ran_piped ended.TooLarge settings are r = absurd r
+  ran_piped ended.FileFault settings are r = absurd r
+  ran_piped ended.KeeperFault settings are r = (r.0, (settings, are, r.1), r.2)
+  ran_piped (ended.Damaged kind id) settings are r = (r.0, (settings, are, r.1), r.2)
+  ran_piped ended.NoMemory settings are (quiet, inl unasked) = (quiet, inl unasked)
+  ran_piped ended.NoMemory settings are (quiet, inr asked) = (quiet, inr (settings, are, asked))
+
+  -- no settings, and nothing else was done
+  pub unread_piped : (e : Ended) → IsUnread e (old.files name) old.file_faults new.file_faults → Untouched old new → IsUnbegun old new → Piped e name seed old new
+  unread_piped (ended.Settings rule key) u quiet unbegun = (unbegun, u)
+  unread_piped ended.TooLarge u quiet unbegun = (unbegun, u)
+  unread_piped ended.FileFault u quiet unbegun = (unbegun, u)
+  unread_piped ended.NoMemory u quiet unbegun = (quiet, inl unbegun.asked)
+  unread_piped (ended.Closed c) u quiet unbegun = absurd u
+  unread_piped ended.KeeperFault u quiet unbegun = absurd u
+  unread_piped (ended.Damaged kind id) u quiet unbegun = absurd u

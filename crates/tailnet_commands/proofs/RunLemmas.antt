@@ -13,20 +13,21 @@ use Rattle.tailnet_desk.specs.Chains.{Chain, IsHistory, Turned}
 use Rattle.tailnet_desk.specs.Seated.{Keeping, Point}
 use Rattle.tailnet_desk.specs.Turns.{IsTurn}
 use Rattle.desk_state.specs.State.{State, opening}
-use Rattle.tailnet_desk.specs.Opening.{unserved}
 use Rattle.tailnet_desk.specs.declared.desk.OpenFault.{OpenFault}
 use Rattle.tailnet_desk.specs.declared.desk.OpenFault.TheVariants as fault
-use Rattle.tailnet_desk.proofs.Histories.{history_of}
+use Rattle.tailnet_desk.proofs.Histories.{Chain-append, history_of}
 use Rattle.tailnet_desk.proofs.SoundHistories.{legal_sound}
 use Rattle.desk_front.specs.Wanted.{front_settings}
-use Rattle.tailnet_commands.specs.Exchanges.{turns_of}
-use Rattle.tailnet_commands.specs.Outside.{from_number}
-use Rattle.tailnet_commands.specs.Run.{Conversation, IsAskedFor, World, Ran, Untouched, IsFaultOf}
-use Rattle.tailnet_commands.specs.Talk.{Talked, after_answers}
-use Rattle.tailnet_commands.proofs.TalkLemmas.{serves_from, with_answers}
-use Rattle.tailnet_commands.proofs.Tellings.{same_moments}
-use Rattle.tailnet_commands.specs.declared.closed.Closed.{Closed}
-use Rattle.tailnet_commands.specs.declared.ended.Ended.{Ended}
+use Rattle.connections.specs.Connection.{IsConnection}
+use Rattle.connections.specs.Exchanges.{turns_of}
+use Rattle.connections.specs.Tellings.{from_number}
+use Rattle.tailnet_commands.specs.Run.{Conversation, IsAskedFor, IsUnserved, Ran, Untouched, IsFaultOf}
+use Rattle.tailnet_commands.specs.Outside.{Outside}
+use Rattle.tailnet_commands.specs.Seeding.{IsSeeded}
+use Rattle.connections.proofs.Seen.{serves_from, with_answers}
+use Rattle.connections.proofs.Tellings.{same_moments}
+use Rattle.run_ends.specs.declared.closed.Closed.{Closed}
+use Rattle.run_ends.specs.declared.ended.Ended.{Ended}
 
 -- what is where an object tells, is where one still tells
 pub where_still : {A : Type 0} (x : A) (a b : Option A) → StillTells a b → IsWhereTold x a → IsWhereTold x b
@@ -64,19 +65,24 @@ still_still {A} a (Some z) (Some y) h k = let e : Some z ≡ Some y = k in h ∙
 pub sound_at_end : (p : Point) (turns : List Turned) (q : Point) → AreSettings p.state.settings → AreSound p.state.rows → IsHistory p turns q → AreSound q.state.rows
 sound_at_end p turns q hold sound h = subst (λ (s : State). AreSound s.rows) (sym h.state) (legal_sound p.state p.keeping.faults h.entries hold sound h.legal)
 
-pub talked_run : (closed : Closed) (settings : SettingsFields) (seed : Option (List ℕ)) (moment : ℤ) (old new : World) (f : ℕ → Option ℤ) (d : State) (keeping : Keeping) (final : Point)
+-- a desk that was opened, then its seed, then a connection
+pub conversed : (closed : Closed) (settings : SettingsFields) (seed : Option (List ℕ)) (moment : ℤ) (old new : Outside) (f g : ℕ → Option ℤ) (d : State) (keeping : Keeping) (middle final : Point)
     → AreSettings settings → damage d.rows ≡ None
     → IsWhereTold moment (option_map clamped (old.told.giving.answers 0)) → ((k : ℕ) → f k ≡ old.told.giving.answers (k + 1))
-    → d ≡ opening settings d.rows moment → IsWhereTold d.rows old.rows → Talked (front_settings settings) closed settings.requests seed (with_answers old.told f) new.told (record { state = d; keeping = keeping }) final
+    → d ≡ opening settings d.rows moment → IsWhereTold d.rows old.rows
+    → IsSeeded seed f g (record { state = d; keeping = keeping }) middle
+    → IsConnection IsTurn (front_settings settings) closed settings.requests [] (with_answers old.told g) new.told middle final
     → IsWhereTold final.state.rows new.rows → RoseBy final.keeping.faults old.keeper_faults new.keeper_faults → IsAskedFor settings old new → Conversation closed settings seed old new
-talked_run closed settings seed moment old new f d keeping final hold whole at shifted is rows_told talked last rose asked =
-    let n = length talked.seeding in
-    let served = serves_from IsTurn (front_settings settings) closed settings.requests [] (after_answers n (with_answers old.told f)) new.told talked.seeded final (from_number (1 + n) old.told.giving.answers)
-    (λ k. shifted (k + n) ∙ ap old.told.giving.answers (omega arith)) talked.serves in
+conversed closed settings seed moment old new f g d keeping middle final hold whole at shifted is rows_told seeded serves last rose asked =
+    let n = length seeded.seeding in
+    let turns = seeded.seeding ++ turns_of serves.exchanges in
+    let served = serves_from IsTurn (front_settings settings) closed settings.requests [] (with_answers old.told g) new.told middle final (from_number (1 + n) old.told.giving.answers)
+    (λ k. seeded.rest k ∙ shifted (k + n) ∙ ap old.told.giving.answers (omega arith)) serves in
     let start : Point = record { state = opening settings d.rows moment; keeping = keeping } in
-    let chain : Chain IsTurn start (talked.seeding ++ turns_of talked.serves.exchanges) final =
-    subst (λ (s : State). Chain IsTurn (record { state = s; keeping = keeping }) (talked.seeding ++ turns_of talked.serves.exchanges) final) is talked.chain in
-    let history = history_of start (talked.seeding ++ turns_of talked.serves.exchanges) final chain in
+    let opened : Point = record { state = d; keeping = keeping } in
+    let joined : Chain IsTurn opened turns final = Chain-append IsTurn opened seeded.seeding (turns_of serves.exchanges) middle final seeded.chain serves.chain in
+    let chain : Chain IsTurn start turns final = subst (λ (s : State). Chain IsTurn (record { state = s; keeping = keeping }) turns final) is joined in
+    let history = history_of start turns final chain in
     let sound = sound_of d.rows whole in
     record {
       rows = d.rows;
@@ -87,20 +93,21 @@ talked_run closed settings seed moment old new f d keeping final hold whole at s
       moment_told = at;
       keeping = keeping;
       final = final;
-      seeding = talked.seeding;
-      seeding_is = talked.seeding_is;
-      seeding_moments = same_moments f (from_number 1 old.told.giving.answers) talked.seeding shifted talked.seeding_moments;
-      seeded = talked.seeded;
+      seeding = seeded.seeding;
+      seeding_is = seeded.seeding_is;
+      seeding_moments = same_moments f (from_number 1 old.told.giving.answers) seeded.seeding shifted seeded.moments;
+      seeded = middle;
+      seeding_leads = subst (λ (s : State). Chain IsTurn (record { state = s; keeping = keeping }) seeded.seeding middle) is seeded.chain;
       serves = served;
       history = history;
-      final_sound = sound_at_end start (talked.seeding ++ turns_of talked.serves.exchanges) final hold sound history;
+      final_sound = sound_at_end start turns final hold sound history;
       final_rows = last;
       rose = rose;
     }
 
 -- a desk that didn't open
-pub faulted : (f : OpenFault) (e : Ended) (settings : SettingsFields) (seed : Option (List ℕ)) (old new : World) → IsFaultOf f e → Untouched old new → IsAskedFor settings old new → (f ≡ fault.KeeperFault → Rose old.keeper_faults new.keeper_faults)
-    → ((kind : _) (id : ℕ) → f ≡ fault.Damaged kind id → IfSome old.rows (λ rows. unserved rows ≡ Some (record { kind = kind; id = id }))) → Ran e settings seed old new
+pub faulted : (f : OpenFault) (e : Ended) (settings : SettingsFields) (seed : Option (List ℕ)) (old new : Outside) → IsFaultOf f e → Untouched old new → IsAskedFor settings old new → (f ≡ fault.KeeperFault → Rose old.keeper_faults new.keeper_faults)
+    → ((kind : _) (id : ℕ) → f ≡ fault.Damaged kind id → IsUnserved kind id old.rows) → Ran e settings seed old new
 faulted fault.KeeperFault e settings seed old new is quiet asked rose damaged = rw is (quiet, asked, rose refl)
 faulted (fault.Damaged kind id) e settings seed old new is quiet asked rose damaged = rw is (quiet, asked, damaged kind id refl)
 faulted fault.NoMemory e settings seed old new is quiet asked rose damaged = rw is (quiet, inr asked)

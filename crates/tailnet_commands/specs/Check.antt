@@ -7,11 +7,11 @@ use Rattle.policy_rows.specs.Faults.{fault_at, fault_text}
 use Rattle.policy_rows.specs.declared.code.PolicyCode.TheVariants as code
 use Rattle.policy_rows.specs.declared.fault.PolicyFault.{PolicyFault}
 use Rattle.policy_rows.specs.declared.policy.Policy.{Policy}
-use Rattle.tailnet_commands.specs.Pieces.{Wrote}
+use Rattle.run_ends.specs.Pieces.{Wrote}
 use Rattle.tailnet_commands.specs.Pipe.{IsTooLarge}
 use Rattle.tailnet_commands.specs.declared.limits.TheConstants.{FILE_LIMIT}
-use Rattle.tailnet_commands.specs.declared.status.Status.{Status}
-use Rattle.tailnet_commands.specs.declared.status.Status.TheVariants as status
+use Rattle.run_ends.specs.declared.status.Status.{Status}
+use Rattle.run_ends.specs.declared.status.Status.TheVariants as status
 
 -- tests aren't run yet: a policy with tests has a fault there
 abbrev pub untested : Policy → Result (Unit {0}) PolicyFault

@@ -12,10 +12,10 @@ use Rattle.settings.specs.declared.fields.SettingsFields.{SettingsFields}
 use Rattle.tail_words.specs.SettingsText.{settings_of}
 use Rattle.tailnet_desk.specs.Opening.{unserved}
 use Rattle.tailnet_commands.specs.Pipe.{Outcome}
-use Rattle.tailnet_commands.specs.Run.{World}
+use Rattle.tailnet_commands.specs.Outside.{Outside}
 use Rattle.tailnet_commands.specs.declared.limits.TheConstants.{FILE_LIMIT}
-use Rattle.tailnet_commands.specs.declared.status.Status.{Status}
-use Rattle.tailnet_commands.specs.declared.status.Status.TheVariants as status
+use Rattle.run_ends.specs.declared.status.Status.{Status}
+use Rattle.run_ends.specs.declared.status.Status.TheVariants as status
 
 -- the request isn't answered 400
 abbrev pub IsAccepted : Wanted → Type 0
@@ -25,9 +25,9 @@ IsAccepted (wants.Ask ask) = Unit {0}
 
 -- Nothing stands in the way of a run: the settings file is there and keeps its rules, the tables are served, the
 -- input is whole requests that are accepted, and no count of faults rises.
-pub record IsClear (file : Option (Option (List ℕ))) (before now : ℕ) (old new : World) : Type 0 where
+pub record IsClear (name : List ℕ) (old new : Outside) : Type 0 where
   pub text : List ℕ
-  pub file_is : file ≡ Some (Some text)
+  pub file_is : old.files name ≡ Some (Some text)
   pub small : length text ≤ FILE_LIMIT
   pub settings : SettingsFields
   pub settings_are : settings_of text ≡ Ok settings
@@ -39,14 +39,12 @@ pub record IsClear (file : Option (Option (List ℕ))) (before now : ℕ) (old n
   pub requests : List Request
   pub whole : Leads input requests []
   pub accepted : AllByRecursion (λ r. IsAccepted (wanted_of (front_settings settings) r)) requests
-  pub no_file_fault : Rose before now → ⊥
+  pub no_file_fault : Rose old.file_faults new.file_faults → ⊥
   pub no_read_fault : Rose old.told.read_faults new.told.read_faults → ⊥
   pub no_write_fault : Rose old.told.giving.write_faults new.told.giving.write_faults → ⊥
   pub no_keeper_fault : Rose old.keeper_faults new.keeper_faults → ⊥
 
 -- Then it ends with status 0, or for want of memory.
 abbrev pub IsComplete : Type 0
-IsComplete = (s : Status) (file : Option (Option (List ℕ))) (before now : ℕ) (seed : Option (List ℕ)) (old new : World)
-    (errors errors_after : Option (List ℕ)) (error_faults error_faults_after : ℕ)
-    → Outcome s file before now seed old new errors errors_after error_faults error_faults_after
-    → IsClear file before now old new → (s ≡ status.Ok) ⊎ (s ≡ status.NoMemory)
+IsComplete = (s : Status) (name : List ℕ) (seed : Option (List ℕ)) (old new : Outside)
+    → Outcome s name seed old new → IsClear name old new → (s ≡ status.Ok) ⊎ (s ≡ status.NoMemory)

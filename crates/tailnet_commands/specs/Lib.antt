@@ -1,11 +1,5 @@
 pub mod Outside
-pub mod Pieces
-pub mod Lines
-pub mod Numbers
-pub mod Exchanges
-pub mod Asked
-pub mod Serve
-pub mod Talk
+pub mod Seeding
 pub mod Run
 pub mod Pipe
 pub mod Check

@@ -1,87 +1,78 @@
--- What the outside tells at a moment, and what a list of turns took of it.
-use Rattle.std.specs.Prelude.{◌≡◌, ◌≤◌, ◌+◌, ℕ, ℤ, Bool, true, false, Option, None, Some, List, [], ◌∷◌, length, if◌then◌else◌}
-use Rattle.std.specs.Option.{option_map}
-use Rattle.moments.specs.Moments.{clamped}
-use Rattle.io_edge.specs.Edge.{IsWhereTold, Rose, RoseBy}
-use Rattle.io_edge.specs.Stream as stream
-use Rattle.tailnet_desk.specs.Asks.{draws}
-use Rattle.tailnet_desk.specs.Chains.{Turned}
-use Rattle.tailnet_desk.specs.Step.{moment_of}
-use Rattle.tailnet_desk.specs.declared.ask.Ask.{Ask}
-use Rattle.tailnet_desk.specs.declared.entry.Event.{Event}
-use Rattle.tailnet_desk.specs.declared.entry.Event.TheVariants as event
+-- All that a run may touch, and what it tells at a moment.
+use Rattle.std.specs.Prelude.{ℕ, ℤ, Option, List}
+use Rattle.io_edge.specs.Door.{Finished, Opening}
+use Rattle.net_rows.specs.declared.rows.Rows.{Rows}
+use Rattle.connections.specs.Connection.{Told, told}
 
--- The turn asks this. Words came with it only if they are drawn for it.
-pub record IsTurnOf (ask : Ask) (t : Turned) : Type 0 where
-  pub moment : ℤ
-  pub words : Option (List ℕ)
-  pub event_is : t.event ≡ event.Ask ask moment words
-  pub undrawn : draws ask ≡ false → words ≡ None
+-- what doors tell: the bytes of the connections that come, the connections given back, what the doors were asked for, and their count of faults
+pub record DoorsTold : Type 0 where
+  pub coming : Option (List (List (List ℕ)))
+  pub finished : Option (List (List Finished))
+  pub asked : Option (List Opening)
+  pub faults : ℕ
 
--- what the sink, the clock and the entropy tell, and their counts of faults
-pub record Giving : Type 0 where
-  pub held : Option (List ℕ)
+abbrev pub doors_told : {D : Type 0} → (D → Option (List (List (List ℕ)))) → (D → Option (List (List Finished))) → (D → Option (List Opening)) → (D → ℕ) → D → DoorsTold
+doors_told coming finished asked faults d = record { coming = coming d; finished = finished d; asked = asked d; faults = faults d }
+
+-- what a link tells: its bytes left and written, the addresses that it was asked for, and its counts of faults
+pub record LinkTold : Type 0 where
+  pub left : Option (List ℕ)
+  pub holds : Option (List ℕ)
+  pub asked : Option (List (List ℕ))
+  pub read_faults : ℕ
   pub write_faults : ℕ
-  pub answers : ℕ → Option ℤ
-  pub words : ℕ → Option (List ℕ)
-  pub word_faults : ℕ
 
-abbrev pub giving : {O C N : Type 0} → (O → Option (List ℕ)) → (O → ℕ) → (C → ℕ → Option ℤ) → (N → ℕ → Option (List ℕ)) → (N → ℕ) → O → C → N → Giving
-giving holds write_faults answer word word_faults o c n = record {
-  held = holds o;
-  write_faults = write_faults o;
-  answers = answer c;
-  words = word n;
-  word_faults = word_faults n;
+abbrev pub link_told : {L : Type 0} → (L → Option (List ℕ)) → (L → ℕ) → (L → Option (List ℕ)) → (L → ℕ) → (L → Option (List (List ℕ))) → L → LinkTold
+link_told left read_faults holds write_faults asked l = record {
+  left = left l;
+  holds = holds l;
+  asked = asked l;
+  read_faults = read_faults l;
+  write_faults = write_faults l;
 }
 
--- the answers from number n on
-abbrev pub from_number : {A : Type 0} → ℕ → (ℕ → A) → ℕ → A
-from_number n told k = told (k + n)
+-- What a connection's objects tell; the opener's rows, the names that it was asked for and its count of faults; the
+-- files and their count; what errors hold and their count; the doors and the link.
+pub record Outside : Type 0 where
+  pub told : Told
+  pub rows : Option Rows
+  pub asked : Option (List (List ℕ))
+  pub keeper_faults : ℕ
+  pub files : List ℕ → Option (Option (List ℕ))
+  pub file_faults : ℕ
+  pub errors : Option (List ℕ)
+  pub error_faults : ℕ
+  pub doors : DoorsTold
+  pub link : LinkTold
 
--- the moments are the clock's next answers, each brought to the nearest moment, where they are told
-abbrev pub MomentsTold : (ℕ → Option ℤ) → List Turned → Type 0
-MomentsTold told [] = Unit {0}
-MomentsTold told (t ∷ ts) = IsWhereTold (moment_of t.event) (option_map clamped (told 0)) × MomentsTold (from_number 1 told) ts
+-- the outside of a run that has no doors and no link, around any such
+abbrev pub outside : {I O E F P C N : Type 0} → (I → Option (List ℕ)) → (I → ℕ) → (O → Option (List ℕ)) → (O → ℕ) → (E → Option (List ℕ)) → (E → ℕ) → (F → List ℕ → Option (Option (List ℕ))) → (F → ℕ)
+    → (P → Option Rows) → (P → Option (List (List ℕ))) → (P → ℕ) → (C → ℕ → Option ℤ) → (N → ℕ → Option (List ℕ)) → (N → ℕ) → DoorsTold → LinkTold → I → O → E → F → P → C → N → Outside
+outside left read_faults holds write_faults errors error_faults files file_faults rows asked keeper_faults answer word word_faults doors link i o e f p c n = record {
+  told = told left read_faults holds write_faults answer word word_faults i o c n;
+  rows = rows p;
+  asked = asked p;
+  keeper_faults = keeper_faults p;
+  files = files f;
+  file_faults = file_faults f;
+  errors = errors e;
+  error_faults = error_faults e;
+  doors = doors;
+  link = link;
+}
 
--- how often words were drawn for an event, and for those of turns
-abbrev pub drawn_for : Event → ℕ
-drawn_for (event.Ask ask moment None) = 0
-drawn_for (event.Ask ask moment (Some words)) = 1
-
-abbrev pub drawn : List Turned → ℕ
-drawn [] = 0
-drawn (t ∷ ts) = drawn_for t.event + drawn ts
-
--- the words of an event are the entropy's next, where they are told; then those of turns
-abbrev pub AreNextWords : (ℕ → Option (List ℕ)) → Event → Type 0
-AreNextWords told (event.Ask ask moment None) = Unit {0}
-AreNextWords told (event.Ask ask moment (Some words)) = IsWhereTold words (told 0)
-
-abbrev pub WordsTold : (ℕ → Option (List ℕ)) → List Turned → Type 0
-WordsTold told [] = Unit {0}
-WordsTold told (t ∷ ts) = AreNextWords told t.event × WordsTold (from_number (drawn_for t.event) told) ts
-
--- how often a draw that was due failed for an event, and for those of turns
-abbrev pub failed_for : Event → ℕ
-failed_for (event.Ask ask moment None) = if draws ask then 1 else 0
-failed_for (event.Ask ask moment (Some words)) = 0
-
-abbrev pub failed_draws : List Turned → ℕ
-failed_draws [] = 0
-failed_draws (t ∷ ts) = failed_for t.event + failed_draws ts
-
--- what a draw did: whether it was due, what came, and the words and the count before and after
-abbrev pub Drew : Bool → Option (List ℕ) → (ℕ → Option (List ℕ)) → (ℕ → Option (List ℕ)) → ℕ → ℕ → Type 0
-Drew false None old new before now = ((k : ℕ) → new k ≡ old k) × (before ≤ now)
-Drew false (Some words) old new before now = ⊥
-Drew true None old new before now = ((k : ℕ) → new k ≡ old k) × (before ≤ now) × Rose before now
-Drew true (Some words) old new before now = stream.Took old new words × (before ≤ now)
-
--- what turns took of the clock and the entropy
-pub record Took (old new : Giving) (ts : List Turned) : Type 0 where
-  pub moments : MomentsTold old.answers ts
-  pub clock : (k : ℕ) → new.answers k ≡ from_number (length ts) old.answers k
-  pub words : WordsTold old.words ts
-  pub entropy : (k : ℕ) → new.words k ≡ from_number (drawn ts) old.words k
-  pub word_faults : RoseBy (failed_draws ts) old.word_faults new.word_faults
+-- the outside of a run whose settings are read, around any rest
+abbrev pub around : {I O P C N : Type 0} → (I → Option (List ℕ)) → (I → ℕ) → (O → Option (List ℕ)) → (O → ℕ) → (P → Option Rows) → (P → Option (List (List ℕ))) → (P → ℕ) → (C → ℕ → Option ℤ)
+    → (N → ℕ → Option (List ℕ)) → (N → ℕ) → Outside → I → O → P → C → N → Outside
+around left read_faults holds write_faults rows asked keeper_faults answer word word_faults rest i o p c n = record {
+  told = told left read_faults holds write_faults answer word word_faults i o c n;
+  rows = rows p;
+  asked = asked p;
+  keeper_faults = keeper_faults p;
+  files = rest.files;
+  file_faults = rest.file_faults;
+  errors = rest.errors;
+  error_faults = rest.error_faults;
+  doors = rest.doors;
+  link = rest.link;
+}

@@ -1,19 +1,19 @@
 -- What the command `pipe` comes to.
-use Rattle.std.specs.Prelude.{◌≡◌, ◌<◌, ◌≤◌, ◌⊎◌, ℕ, Option, Some, List, length, Result, Ok, Err, IfSome, IsSomeAnd}
+use Rattle.std.specs.Prelude.{◌≡◌, ◌<◌, ◌≤◌, ◌⊎◌, ℕ, Option, List, length, Result, Ok, Err, IfSome, IsSomeAnd}
 use Rattle.io_edge.specs.Edge.{Rose}
 use Rattle.settings.specs.declared.fields.SettingsFields.{SettingsFields}
 use Rattle.tail_words.specs.SettingsText.{settings_of}
 use Rattle.tail_words.specs.declared.fault.SettingsFault.TheVariants.{Refused}
-use Rattle.tailnet_desk.specs.Opening.{unserved}
-use Rattle.tailnet_commands.specs.Lines.{Noted, is_made, line_of}
-use Rattle.tailnet_commands.specs.Run.{Conversation, IsAskedFor, IsUnasked, Untouched, World}
-use Rattle.tailnet_commands.specs.declared.closed.Closed.{Closed}
-use Rattle.tailnet_commands.specs.declared.closed.Closed.TheVariants as closed
-use Rattle.tailnet_commands.specs.declared.ended.Ended.{Ended}
-use Rattle.tailnet_commands.specs.declared.ended.Ended.TheVariants as ended
+use Rattle.tail_words.specs.declared.fault.SettingsRule.{SettingsRule}
+use Rattle.run_ends.specs.Lines.{Noted, is_made, ended_line}
+use Rattle.run_ends.specs.Statuses.{status_of}
+use Rattle.tailnet_commands.specs.Outside.{Outside}
+use Rattle.tailnet_commands.specs.Run.{Conversation, IsAskedFor, IsUnasked, IsUnbegun, IsUnserved, Untouched}
+use Rattle.run_ends.specs.declared.closed.Closed.{Closed}
+use Rattle.run_ends.specs.declared.ended.Ended.{Ended}
+use Rattle.run_ends.specs.declared.ended.Ended.TheVariants as ended
 use Rattle.tailnet_commands.specs.declared.limits.TheConstants.{FILE_LIMIT}
-use Rattle.tailnet_commands.specs.declared.status.Status.{Status}
-use Rattle.tailnet_commands.specs.declared.status.Status.TheVariants as status
+use Rattle.run_ends.specs.declared.status.Status.{Status}
 
 -- where the file is told, it has at most 1 MiB, and these are its settings
 abbrev pub AreSettingsOf : Option (Option (List ℕ)) → SettingsFields → Type 0
@@ -24,63 +24,53 @@ abbrev pub IsTooLarge : Option (Option (List ℕ)) → Type 0
 IsTooLarge file = IfSome file (λ held. IsSomeAnd held (λ text. FILE_LIMIT < length text))
 
 -- where the file is told, it has at most 1 MiB, and this is the first rule that its settings break, at this key
-abbrev pub IsFaulty : ℕ → List ℕ → Option (Option (List ℕ)) → Type 0
+abbrev pub IsFaulty : SettingsRule → List ℕ → Option (Option (List ℕ)) → Type 0
 IsFaulty rule key file = IfSome file (λ held. IsSomeAnd held (λ text. (length text ≤ FILE_LIMIT) × (settings_of text ≡ Err (Refused rule key))))
 
 -- this holds under the settings of the file
 abbrev pub IsUnder : Option (Option (List ℕ)) → (SettingsFields → Type 0) → Type 0
 IsUnder file holds = (settings : SettingsFields) × AreSettingsOf file settings × holds settings
 
+-- why the settings file gave no settings
+abbrev pub IsUnread : Ended → Option (Option (List ℕ)) → ℕ → ℕ → Type 0
+IsUnread (ended.Settings rule key) file before now = IsFaulty rule key file
+IsUnread ended.TooLarge file before now = IsTooLarge file
+IsUnread ended.FileFault file before now = Rose before now
+IsUnread ended.NoMemory file before now = Unit {0}
+IsUnread (ended.Closed closing) file before now = ⊥
+IsUnread ended.KeeperFault file before now = ⊥
+IsUnread (ended.Damaged kind id) file before now = ⊥
+
 -- what reading the settings file gave
 abbrev pub IsSettingsFile : Result SettingsFields Ended → Option (Option (List ℕ)) → ℕ → ℕ → Type 0
 IsSettingsFile (Ok settings) file before now = AreSettingsOf file settings
-IsSettingsFile (Err (ended.Settings rule key)) file before now = IsFaulty rule key file
-IsSettingsFile (Err ended.TooLarge) file before now = IsTooLarge file
-IsSettingsFile (Err ended.FileFault) file before now = Rose before now
-IsSettingsFile (Err ended.NoMemory) file before now = Unit {0}
-IsSettingsFile (Err (ended.Closed closing)) file before now = ⊥
-IsSettingsFile (Err ended.KeeperFault) file before now = ⊥
-IsSettingsFile (Err (ended.Damaged kind id)) file before now = ⊥
+IsSettingsFile (Err e) file before now = IsUnread e file before now
 
--- A connection was served, under the settings of the file.
-pub record Served (closing : Closed) (file : Option (Option (List ℕ))) (seed : Option (List ℕ)) (old new : World) : Type 0 where
+-- A connection was served, under the settings of the file of this name.
+pub record Served (closing : Closed) (name : List ℕ) (seed : Option (List ℕ)) (old new : Outside) : Type 0 where
   pub settings : SettingsFields
-  pub settings_are : AreSettingsOf file settings
+  pub settings_are : AreSettingsOf (old.files name) settings
   pub talk : Conversation closing settings seed old new
 
 -- what `pipe` comes to, by how it ended
-abbrev pub Piped : Ended → Option (Option (List ℕ)) → ℕ → ℕ → Option (List ℕ) → World → World → Type 0
-Piped (ended.Closed closing) file before now seed old new = Served closing file seed old new
-Piped (ended.Settings rule key) file before now seed old new = Untouched old new × IsUnasked old new × IsFaulty rule key file
-Piped ended.TooLarge file before now seed old new = Untouched old new × IsUnasked old new × IsTooLarge file
-Piped ended.FileFault file before now seed old new = Untouched old new × IsUnasked old new × Rose before now
-Piped ended.KeeperFault file before now seed old new =
-    Untouched old new × IsUnder file (λ settings. IsAskedFor settings old new) × Rose old.keeper_faults new.keeper_faults
-Piped (ended.Damaged kind id) file before now seed old new =
-    Untouched old new × IsUnder file (λ settings. IsAskedFor settings old new)
-    × IfSome old.rows (λ rows. unserved rows ≡ Some (record { kind = kind; id = id }))
-Piped ended.NoMemory file before now seed old new =
-    Untouched old new × (IsUnasked old new ⊎ IsUnder file (λ settings. IsAskedFor settings old new))
+abbrev pub Piped : Ended → List ℕ → Option (List ℕ) → Outside → Outside → Type 0
+Piped (ended.Closed closing) name seed old new = Served closing name seed old new
+Piped (ended.Settings rule key) name seed old new = IsUnbegun old new × IsFaulty rule key (old.files name)
+Piped ended.TooLarge name seed old new = IsUnbegun old new × IsTooLarge (old.files name)
+Piped ended.FileFault name seed old new = IsUnbegun old new × Rose old.file_faults new.file_faults
+Piped ended.KeeperFault name seed old new =
+    Untouched old new × IsUnder (old.files name) (λ settings. IsAskedFor settings old new) × Rose old.keeper_faults new.keeper_faults
+Piped (ended.Damaged kind id) name seed old new =
+    Untouched old new × IsUnder (old.files name) (λ settings. IsAskedFor settings old new) × IsUnserved kind id old.rows
+Piped ended.NoMemory name seed old new =
+    Untouched old new × (IsUnasked old new ⊎ IsUnder (old.files name) (λ settings. IsAskedFor settings old new))
 
--- the status of how it ended
-abbrev pub status_of : Ended → Status
-status_of (ended.Closed closed.End) = status.Ok
-status_of (ended.Closed closed.Early) = status.Early
-status_of (ended.Closed closed.ReadFault) = status.ReadFault
-status_of (ended.Closed closed.WriteFault) = status.WriteFault
-status_of (ended.Closed closed.NoMemory) = status.NoMemory
-status_of (ended.Settings rule key) = status.Settings
-status_of ended.TooLarge = status.Settings
-status_of ended.FileFault = status.ReadFault
-status_of ended.KeeperFault = status.KeeperFault
-status_of (ended.Damaged kind id) = status.Damaged
-status_of ended.NoMemory = status.NoMemory
-
--- What a status of `pipe` says: how it ended, what that comes to, with the settings file and the files' count
--- before and after, and the line that errors got.
-pub record Outcome (status : Status) (file : Option (Option (List ℕ))) (before now : ℕ) (seed : Option (List ℕ)) (old new : World)
-    (errors errors_after : Option (List ℕ)) (error_faults error_faults_after : ℕ) : Type 0 where
+-- What a status of `pipe` says of the settings file of this name and the seed: how it ended, what that comes to, and
+-- the line that errors got. Doors and the link are as before.
+pub record Outcome (status : Status) (name : List ℕ) (seed : Option (List ℕ)) (old new : Outside) : Type 0 where
   pub ended : Ended
   pub status_is : status ≡ status_of ended
-  pub piped : Piped ended file before now seed old new
-  pub noted : Noted (line_of ended) (is_made ended) errors errors_after error_faults error_faults_after
+  pub piped : Piped ended name seed old new
+  pub noted : Noted (ended_line ended) (is_made ended) old.errors new.errors old.error_faults new.error_faults
+  pub doors : new.doors ≡ old.doors
+  pub link : new.link ≡ old.link

@@ -5,9 +5,10 @@ use Rattle.moments.specs.Moments.{clamped}
 use Rattle.io_edge.specs.Asked.{and_asked}
 use Rattle.io_edge.specs.Edge.{Rose, RoseBy, IsWhereTold}
 use Rattle.net_rows.specs.Sound.{AreSound}
+use Rattle.net_rows.specs.declared.change.Kind.{Kind}
 use Rattle.net_rows.specs.declared.rows.Rows.{Rows}
 use Rattle.settings.specs.declared.fields.SettingsFields.{SettingsFields}
-use Rattle.tailnet_desk.specs.Chains.{Turned, IsHistory}
+use Rattle.tailnet_desk.specs.Chains.{Chain, Turned, IsHistory}
 use Rattle.tailnet_desk.specs.Opening.{unserved}
 use Rattle.tailnet_desk.specs.Seated.{Keeping, Point}
 use Rattle.tailnet_desk.specs.Turns.{IsTurn}
@@ -15,43 +16,47 @@ use Rattle.desk_state.specs.State.{opening}
 use Rattle.tailnet_desk.specs.declared.desk.OpenFault.{OpenFault}
 use Rattle.tailnet_desk.specs.declared.desk.OpenFault.TheVariants as fault
 use Rattle.desk_front.specs.Wanted.{front_settings}
-use Rattle.tailnet_commands.specs.Exchanges.{turns_of}
-use Rattle.tailnet_commands.specs.Outside.{MomentsTold, from_number}
-use Rattle.tailnet_commands.specs.Talk.{IsSeeding, after_answers}
-use Rattle.tailnet_commands.specs.Serve.{Serves, Told}
-use Rattle.tailnet_commands.specs.declared.closed.Closed.{Closed}
-use Rattle.tailnet_commands.specs.declared.ended.Ended.{Ended}
-use Rattle.tailnet_commands.specs.declared.ended.Ended.TheVariants as ended
+use Rattle.connections.specs.Exchanges.{turns_of}
+use Rattle.connections.specs.Tellings.{MomentsTold, from_number}
+use Rattle.tailnet_commands.specs.Outside.{Outside}
+use Rattle.tailnet_commands.specs.Seeding.{IsSeeding, after_answers}
+use Rattle.connections.specs.Connection.{IsConnection}
+use Rattle.run_ends.specs.declared.closed.Closed.{Closed}
+use Rattle.run_ends.specs.declared.ended.Ended.{Ended}
+use Rattle.run_ends.specs.declared.ended.Ended.TheVariants as ended
 
--- what the connection's objects tell, the opener's rows, the names that it was asked for, and its count of faults
-pub record World : Type 0 where
-  pub told : Told
-  pub rows : Option Rows
-  pub asked : Option (List (List ℕ))
-  pub keeper_faults : ℕ
-
-abbrev pub world : {P : Type 0} → (P → Option Rows) → (P → Option (List (List ℕ))) → (P → ℕ) → P → Told → World
-world rows asked faults opener told = record { told = told; rows = rows opener; asked = asked opener; keeper_faults = faults opener }
-
--- nothing was read or written, and the opener's rows are as before
-pub record Untouched (old new : World) : Type 0 where
+-- nothing was read or written, no random words were drawn, and the opener's rows are as before
+pub record Untouched (old new : Outside) : Type 0 where
   pub left : new.told.left ≡ old.told.left
   pub read_faults : new.told.read_faults ≡ old.told.read_faults
   pub held : new.told.giving.held ≡ old.told.giving.held
   pub write_faults : new.told.giving.write_faults ≡ old.told.giving.write_faults
+  pub words : new.told.giving.words ≡ old.told.giving.words
+  pub word_faults : new.told.giving.word_faults ≡ old.told.giving.word_faults
   pub rows : IfSome old.rows (λ rows. IsWhereTold rows new.rows)
 
+-- of all but files and errors nothing was asked, the clock and the random source neither
+pub record IsUnbegun (old new : Outside) : Type 0 where
+  pub told : new.told ≡ old.told
+  pub rows : new.rows ≡ old.rows
+  pub asked : new.asked ≡ old.asked
+  pub keeper_faults : new.keeper_faults ≡ old.keeper_faults
+
 -- the opener was asked for nothing
-abbrev pub IsUnasked : World → World → Type 0
+abbrev pub IsUnasked : Outside → Outside → Type 0
 IsUnasked old new = new.asked ≡ old.asked
 
 -- the opener was asked once, for the database of the settings
-abbrev pub IsAskedFor : SettingsFields → World → World → Type 0
+abbrev pub IsAskedFor : SettingsFields → Outside → Outside → Type 0
 IsAskedFor settings old new = new.asked ≡ and_asked old.asked settings.database
+
+-- rows, where they are told, aren't served, and this one is the cause
+abbrev pub IsUnserved : Kind → ℕ → Option Rows → Type 0
+IsUnserved kind id told = IfSome told (λ rows. unserved rows ≡ Some (record { kind = kind; id = id }))
 
 -- A connection over a desk that was opened at the clock's first answer. Its tables keep their rules, at the beginning
 -- and at the end.
-pub record Conversation (closed : Closed) (settings : SettingsFields) (seed : Option (List ℕ)) (old new : World) : Type 0 where
+pub record Conversation (closed : Closed) (settings : SettingsFields) (seed : Option (List ℕ)) (old new : Outside) : Type 0 where
   pub rows : Rows
   pub sound : AreSound rows
   pub asked : IsAskedFor settings old new
@@ -65,7 +70,8 @@ pub record Conversation (closed : Closed) (settings : SettingsFields) (seed : Op
   pub seeding_is : IsSeeding seed seeding
   pub seeding_moments : MomentsTold (from_number 1 old.told.giving.answers) seeding
   pub seeded : Point
-  pub serves : Serves IsTurn (front_settings settings) closed settings.requests [] (after_answers (1 + length seeding) old.told) new.told seeded final
+  pub seeding_leads : Chain IsTurn (record { state = opening settings rows moment; keeping = keeping }) seeding seeded
+  pub serves : IsConnection IsTurn (front_settings settings) closed settings.requests [] (after_answers (1 + length seeding) old.told) new.told seeded final
   -- a legal history from the opening state: the seed, and the turns of the served requests
   pub history : IsHistory (record { state = opening settings rows moment; keeping = keeping }) (seeding ++ turns_of serves.exchanges) final
   pub final_sound : AreSound final.state.rows
@@ -73,14 +79,14 @@ pub record Conversation (closed : Closed) (settings : SettingsFields) (seed : Op
   pub rose : RoseBy final.keeping.faults old.keeper_faults new.keeper_faults
 
 -- What a run over settings comes to: a connection, or a fault before anything was read.
-abbrev pub Ran : Ended → SettingsFields → Option (List ℕ) → World → World → Type 0
+abbrev pub Ran : Ended → SettingsFields → Option (List ℕ) → Outside → Outside → Type 0
 Ran (ended.Closed closed) settings seed old new = Conversation closed settings seed old new
 Ran (ended.Settings rule key) settings seed old new = ⊥
 Ran ended.TooLarge settings seed old new = ⊥
 Ran ended.FileFault settings seed old new = ⊥
 Ran ended.KeeperFault settings seed old new = Untouched old new × IsAskedFor settings old new × Rose old.keeper_faults new.keeper_faults
 Ran (ended.Damaged kind id) settings seed old new =
-    Untouched old new × IsAskedFor settings old new × IfSome old.rows (λ rows. unserved rows ≡ Some (record { kind = kind; id = id }))
+    Untouched old new × IsAskedFor settings old new × IsUnserved kind id old.rows
 Ran ended.NoMemory settings seed old new = Untouched old new × (IsUnasked old new ⊎ IsAskedFor settings old new)
 
 -- how a run ends whose desk didn't open

@@ -3,15 +3,13 @@ ghost use Rattle.std.specs.Prelude.{◌≡◌, ◌++◌, IfOk, false, codes};
 ghost use Rattle.tail_base.specs.Steps.{Gives};
 ghost use Rattle.policy_rows.specs.Faults.{fault_text};
 ghost use Rattle.tailnet_commands.specs.Check.{Checked, Said, check_line, untested, verdict_line, verdict_of, verdict_status};
-ghost use Rattle.tailnet_commands.specs.Lines.{Noted};
+ghost use Rattle.run_ends.specs.Lines.{Noted};
 
 use crate::limits::FILE_LIMIT;
-use crate::noting::note_line;
-use crate::status::Status;
-use crate::writing::write_all;
 use io_edge::{FileFault, Files, Sink};
 use policy_doc::read_policy;
 use policy_rows::{Policy, PolicyCode, PolicyFault, fault_text, refused};
+use run_ends::{Status, note_line, write_all};
 use std::alloc::Global;
 use tail_base::{Failure, NoMemory, Text};
 

@@ -1,30 +1,9 @@
-//! What the contract of `pipe` comes to. None of these functions does anything: each states a law.
-ghost use Rattle.std.specs.Prelude.{◌≡◌, ℕ, List, [], ◌∷◌, Some};
+//! What the contract of `pipe` comes to. The function does nothing: it states a law.
 ghost use Rattle.tailnet_commands.specs.Complete.{IsComplete};
-ghost use Rattle.tailnet_commands.specs.Exchanges.{Exchange};
-ghost use Rattle.tailnet_commands.specs.Pieces.{IsPrefix};
-ghost use Rattle.tailnet_commands.specs.Serve.{IsBrokenOff, IsExtra};
-ghost use Rattle.tailnet_commands.specs.declared.closed.Closed.{Closed};
 
 /// Where words and settings are accepted, nothing that was loaded is damaged, the input is whole
 /// requests of which none is answered 400, 411, 413 or 431, and no count of faults rises, a run ends
 /// with status 0, or for want of memory.
 pub fn completeness()
     ensures complete { IsComplete }
-{}
-
-/// Where a connection broke off, each answer but the last was written whole: after a failed write no
-/// request is taken, and behind the last answer no refusal is begun.
-pub fn answers_are_heard()
-    ensures whole { (x y : Exchange) (ys : List Exchange) (extra written : List ℕ)
-        → IsBrokenOff (x ∷ y ∷ ys) extra written → IsPrefix x.bytes written }
-    ensures before_refusal { (x : Exchange) (b : ℕ) (bs written : List ℕ)
-        → IsBrokenOff (x ∷ []) (b ∷ bs) written → IsPrefix x.bytes written }
-    ensures nothing { (x y : Exchange) (ys : List Exchange) (extra : List ℕ)
-        → IsBrokenOff (x ∷ y ∷ ys) extra [] → x.bytes ≡ [] }
-{}
-
-/// Behind a request that ended the connection nothing is answered.
-pub fn nothing_follows_the_end()
-    ensures quiet { (c : Closed) (rest extra : List ℕ) → IsExtra (Some c) rest extra → extra ≡ [] }
 {}

@@ -1,18 +1,15 @@
 //! The command `pipe`.
-ghost use Rattle.std.specs.Prelude.{◌≡◌, IfOk, option_map};
-ghost use Rattle.tailnet_commands.specs.Outside.{giving};
-ghost use Rattle.tailnet_commands.specs.Pipe.{IsSettingsFile, Outcome, Piped, status_of};
-ghost use Rattle.tailnet_commands.specs.Run.{world};
-ghost use Rattle.tailnet_commands.specs.Serve.{told};
+ghost use Rattle.desk_front.specs.Wanted.{front_settings};
+ghost use Rattle.std.specs.Prelude.{◌≡◌, IfErr, IfOk, option_map};
+ghost use Rattle.tailnet_commands.specs.Outside.{DoorsTold, LinkTold, outside};
+ghost use Rattle.tailnet_commands.specs.Pipe.{AreSettingsOf, IsSettingsFile, IsUnread, Outcome};
 
-use crate::closed::Closed;
-use crate::ended::Ended;
 use crate::limits::FILE_LIMIT;
-use crate::noting::note;
 use crate::running::run;
-use crate::status::Status;
+use desk_front::Front;
 use io_edge::{Clock, Entropy, FileFault, Files, Sink, Source};
 use row_keeper::Opener;
+use run_ends::{Ended, Status, note, status_of};
 use settings::Settings;
 use std::alloc::Global;
 use tail_base::{NoMemory, Text};
@@ -36,24 +33,6 @@ fn settings_file<F: Files>(alloc: Global, files: &mut F, name: &str) -> Result<S
     }
 }
 
-fn status_of(ended: &Ended) -> Status
-    ensures value { result ≡ status_of ended.now }
-{
-    match ended {
-        Ended::Closed(Closed::End) => Status::Ok,
-        Ended::Closed(Closed::Early) => Status::Early,
-        Ended::Closed(Closed::ReadFault) => Status::ReadFault,
-        Ended::Closed(Closed::WriteFault) => Status::WriteFault,
-        Ended::Closed(Closed::NoMemory) => Status::NoMemory,
-        Ended::Settings { .. } => Status::Settings,
-        Ended::TooLarge => Status::Settings,
-        Ended::FileFault => Status::ReadFault,
-        Ended::KeeperFault => Status::KeeperFault,
-        Ended::Damaged { .. } => Status::Damaged,
-        Ended::NoMemory => Status::NoMemory,
-    }
-}
-
 /// A copy of the seed, if there is one.
 fn seed_text(alloc: Global, seed: Option<&str>) -> Result<Option<Text>, NoMemory>
     ensures value { IfOk result (λ text. text ≡ option_map (λ t. t.now) seed.entry) }
@@ -64,62 +43,44 @@ fn seed_text(alloc: Global, seed: Option<&str>) -> Result<Option<Text>, NoMemory
     }
 }
 
-/// Reads the settings file, and serves a connection under its settings.
-fn pipe_under<I: Source, O: Sink, F: Files, P: Opener, C: Clock, N: Entropy>(
-    alloc: Global,
-    settings: &str,
+/// What a run begins with.
+#[derive(Drop)]
+struct Prepared {
+    settings: Settings,
+    front: Front,
     seed: Option<Text>,
-    input: &mut I,
-    output: &mut O,
-    files: &mut F,
-    opener: &mut P,
-    clock: &mut C,
-    entropy: &mut N,
-) -> Ended
-    ensures piped { let at = giving O.holds O.write_faults C.answer N.word N.faults in
-        let tell = told I.left I.read_faults in
-        let around = world P.told P.asked P.faults in
-        Piped result (F.holds files.old settings.now) (F.faults files.old) (F.faults files.new) seed
-        (around opener.old (tell input.old (at output.old clock.old entropy.old)))
-        (around opener.new (tell input.new (at output.new clock.new entropy.new))) }
-{
-    match settings_file(alloc, files, settings) {
-        Ok(settings) => run(alloc, settings, seed, input, output, opener, clock, entropy),
-        Err(ended) => ended,
-    }
 }
 
-/// The same with a copy of the seed.
-fn pipe_seeded<I: Source, O: Sink, F: Files, P: Opener, C: Clock, N: Entropy>(
+/// A copy of the seed, the settings of the file, and the front under them.
+fn prepare<F: Files>(
     alloc: Global,
-    settings: &str,
-    seed: Option<&str>,
-    input: &mut I,
-    output: &mut O,
     files: &mut F,
-    opener: &mut P,
-    clock: &mut C,
-    entropy: &mut N,
-) -> Ended
-    ensures piped { let at = giving O.holds O.write_faults C.answer N.word N.faults in
-        let tell = told I.left I.read_faults in
-        let around = world P.told P.asked P.faults in
-        Piped result (F.holds files.old settings.now) (F.faults files.old) (F.faults files.new)
-        (option_map (λ t. t.now) seed.entry)
-        (around opener.old (tell input.old (at output.old clock.old entropy.old)))
-        (around opener.new (tell input.new (at output.new clock.new entropy.new))) }
+    name: &str,
+    seed: Option<&str>,
+) -> Result<Prepared, Ended>
+    ensures settings { IfOk result (λ p. AreSettingsOf (F.holds files.old name.now) p.settings) }
+    ensures front { IfOk result (λ p. p.front ≡ front_settings p.settings) }
+    ensures seed { IfOk result (λ p. p.seed ≡ option_map (λ t. t.now) seed.entry) }
+    ensures err { IfErr result (λ e. IsUnread e (F.holds files.old name.now)
+        (F.faults files.old) (F.faults files.new)) }
 {
-    match seed_text(alloc, seed) {
-        Ok(seed) => pipe_under(
-            alloc, settings, seed, input, output, files, opener, clock, entropy,
-        ),
-        Err(NoMemory) => Ended::NoMemory,
-    }
+    let Ok(seed) = seed_text(alloc, seed) else {
+        return Err(Ended::NoMemory);
+    };
+    let settings = settings_file(alloc, files, name)?;
+    let Ok(front) = Front::new(alloc, &settings) else {
+        return Err(Ended::NoMemory);
+    };
+    Ok(Prepared {
+        settings,
+        front,
+        seed,
+    })
 }
 
 /// All that `pipe` does once its words are read: it reads the settings file, opens a desk over what
 /// the opener keeps, hands it the seed, if there is one, and serves the requests of the input on the
-/// output. The line of its status goes to errors.
+/// output. The line of its status goes to errors. It has no doors and no link.
 pub fn pipe_command<I: Source, O: Sink, E: Sink, F: Files, P: Opener, C: Clock, N: Entropy>(
     alloc: Global,
     settings: &str,
@@ -132,19 +93,25 @@ pub fn pipe_command<I: Source, O: Sink, E: Sink, F: Files, P: Opener, C: Clock, 
     clock: &mut C,
     entropy: &mut N,
 ) -> Status
-    ensures outcome { let at = giving O.holds O.write_faults C.answer N.word N.faults in
-        let tell = told I.left I.read_faults in
-        let around = world P.told P.asked P.faults in
-        Outcome result (F.holds files.old settings.now) (F.faults files.old) (F.faults files.new)
-        (option_map (λ t. t.now) seed.entry)
-        (around opener.old (tell input.old (at output.old clock.old entropy.old)))
-        (around opener.new (tell input.new (at output.new clock.new entropy.new)))
-        (E.holds errors.old) (E.holds errors.new)
-        (E.write_faults errors.old) (E.write_faults errors.new) }
+    ensures outcome { (doors : DoorsTold) (link : LinkTold) →
+        let at = outside I.left I.read_faults O.holds O.write_faults E.holds E.write_faults
+        F.holds F.faults P.told P.asked P.faults C.answer N.word N.faults doors link in
+        Outcome result settings.now (option_map (λ t. t.now) seed.entry)
+        (at input.old output.old errors.old files.old opener.old clock.old entropy.old)
+        (at input.new output.new errors.new files.new opener.new clock.new entropy.new) }
 {
-    let ended = pipe_seeded(
-        alloc, settings, seed, input, output, files, opener, clock, entropy,
-    );
+    let ended = match prepare(alloc, files, settings, seed) {
+        Ok(
+            Prepared {
+                settings,
+                front,
+                seed,
+            },
+        ) => run(
+            alloc, &front, settings, seed, input, output, opener, clock, entropy,
+        ),
+        Err(ended) => ended,
+    };
     note(alloc, errors, &ended);
     status_of(&ended)
 }

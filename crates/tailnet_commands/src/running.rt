@@ -1,19 +1,19 @@
 //! A run over settings.
 ghost use Rattle.std.specs.Prelude.{◌≡◌};
 ghost use Rattle.desk_front.specs.Wanted.{front_settings};
-ghost use Rattle.tailnet_commands.specs.Outside.{giving};
-ghost use Rattle.tailnet_commands.specs.Run.{IsFaultOf, Ran, world};
-ghost use Rattle.tailnet_commands.specs.Serve.{told};
+ghost use Rattle.tailnet_commands.specs.Outside.{Outside, around};
+ghost use Rattle.tailnet_commands.specs.Run.{IsFaultOf, Ran};
 
-use crate::conversing::talk;
-use crate::ended::Ended;
+use crate::seeding::seed_desk;
+use connections::serve_desk;
 use desk_front::Front;
 use io_edge::{Clock, EdgeFault, Entropy, Sink, Source};
 use moments::Moment;
 use row_keeper::Opener;
+use run_ends::Ended;
 use settings::Settings;
 use std::alloc::Global;
-use tail_base::{NoMemory, Text};
+use tail_base::Text;
 use tailnet_desk::{Desk, OpenFault};
 
 /// How a run ends whose desk didn't open.
@@ -27,8 +27,10 @@ fn ended_of(fault: OpenFault) -> Ended
     }
 }
 
-/// Opens a desk over what the opener keeps, and serves one connection over it behind this front.
-fn run_behind<I: Source, O: Sink, P: Opener, C: Clock, N: Entropy>(
+/// Opens a desk over what the opener keeps, hands it the seed, if there is one, and serves one
+/// connection over it behind this front. What is told of the rest of the outside, before and after,
+/// is any.
+pub(crate) fn run<I: Source, O: Sink, P: Opener, C: Clock, N: Entropy>(
     alloc: Global,
     front: &Front,
     settings: Settings,
@@ -40,12 +42,12 @@ fn run_behind<I: Source, O: Sink, P: Opener, C: Clock, N: Entropy>(
     entropy: &mut N,
 ) -> Ended
     requires site { front.now ≡ front_settings settings }
-    ensures ran { let at = giving O.holds O.write_faults C.answer N.word N.faults in
-        let tell = told I.left I.read_faults in
-        let around = world P.told P.asked P.faults in
+    ensures ran { (before after : Outside) →
+        let at = around I.left I.read_faults O.holds O.write_faults P.told P.asked P.faults
+        C.answer N.word N.faults in
         Ran result settings seed
-        (around opener.old (tell input.old (at output.old clock.old entropy.old)))
-        (around opener.new (tell input.new (at output.new clock.new entropy.new))) }
+        (at before input.old output.old opener.old clock.old entropy.old)
+        (at after input.new output.new opener.new clock.new entropy.new) }
 {
     let moment = Moment::clamp(clock.seconds());
     let fields = settings.fields();
@@ -59,8 +61,9 @@ fn run_behind<I: Source, O: Sink, P: Opener, C: Clock, N: Entropy>(
         Ok(mut desk) => {
             // Its tables keep their rules, as those of each open desk do.
             let _rules = desk.tables();
-            let closed = talk(
-                alloc, front, requests, seed, &mut desk, input, output, clock, entropy,
+            seed_desk(alloc, &mut desk, clock, seed);
+            let closed = serve_desk(
+                alloc, front, requests, &mut desk, input, output, clock, entropy,
             );
             opener.close(desk.close());
             Ended::Closed(closed)
@@ -69,31 +72,5 @@ fn run_behind<I: Source, O: Sink, P: Opener, C: Clock, N: Entropy>(
             opener.close(keeper);
             ended_of(fault)
         }
-    }
-}
-
-/// Opens a desk over what the opener keeps, and serves one connection over it.
-pub(crate) fn run<I: Source, O: Sink, P: Opener, C: Clock, N: Entropy>(
-    alloc: Global,
-    settings: Settings,
-    seed: Option<Text>,
-    input: &mut I,
-    output: &mut O,
-    opener: &mut P,
-    clock: &mut C,
-    entropy: &mut N,
-) -> Ended
-    ensures ran { let at = giving O.holds O.write_faults C.answer N.word N.faults in
-        let tell = told I.left I.read_faults in
-        let around = world P.told P.asked P.faults in
-        Ran result settings seed
-        (around opener.old (tell input.old (at output.old clock.old entropy.old)))
-        (around opener.new (tell input.new (at output.new clock.new entropy.new))) }
-{
-    match Front::new(alloc, &settings) {
-        Ok(front) => run_behind(
-            alloc, &front, settings, seed, input, output, opener, clock, entropy,
-        ),
-        Err(NoMemory) => Ended::NoMemory,
     }
 }

@@ -11,10 +11,9 @@ use Rattle.net_rows.specs.declared.machine.Machine.{Machine}
 use Rattle.net_rows.proofs.PutLemmas.{put_member}
 use Rattle.tailcfg.specs.declared.profile.Profile.{Profile}
 use Rattle.tailcfg.specs.declared.register.Register.{Register}
-use Rattle.tailcfg.specs.declared.response.Response.{Response}
+use Rattle.map_delta.specs.declared.view.View.{View}
 use Rattle.tailcfg.specs.declared.update.Update.{Update}
 use Rattle.map_delta.specs.Fresh.{fresh}
-use Rattle.map_delta.specs.Responses.{first_response}
 use Rattle.desk_state.specs.Decisions.{changing, only}
 use Rattle.desk_state.specs.State.{State, is_ahead}
 use Rattle.desk_state.specs.Users.{tags_granted}
@@ -40,7 +39,7 @@ use Rattle.tailnet_laws.specs.Shown.{Hides, IsExpired}
 use Rattle.tailnet_laws.proofs.Every.{Every, either_of, every_bind, every_err, every_if, every_of_row, every_ok, every_or, every_refuse}
 use Rattle.tailnet_laws.proofs.LiveMachines.{NoneLive, asking_live, none_live, peer_live}
 
-map_hides : (s : State) (v : Machine) (n : ℕ) → NoneLive s n → v.id ≢ n → Hides (first_response (fresh s.settings s.rows (live_ids s) v) None None) n
+map_hides : (s : State) (v : Machine) (n : ℕ) → NoneLive s n → v.id ≢ n → Hides (fresh s.settings s.rows (live_ids s) v) n
 map_hides s v n none other = record {
   own = other;
   peers = λ p inside e. let live = peer_live s v p inside in none live.0 live.1 live.2 (sym live.3 ∙ e);
@@ -56,12 +55,12 @@ none_after s v u n none other a inside live e =
 
 -- the map that is answered shows no node of this id
 abbrev Hidden : ℕ → Decision MachineAnswer → Type 0
-Hidden n d = (map : Response) → d.answer ≡ Map map → Hides map n
+Hidden n d = (map : View) → d.answer ≡ Map map → Hides map n
 
-hidden_map : (s : State) (v : Machine) (n : ℕ) → NoneLive s n → v.id ≢ n → (map : Response) → map_for s v ≡ Map map → Hides map n
+hidden_map : (s : State) (v : Machine) (n : ℕ) → NoneLive s n → v.id ≢ n → (map : View) → map_for s v ≡ Map map → Hides map n
 hidden_map s v n none other map is =
-    let same : first_response (fresh s.settings s.rows (live_ids s) v) None None ≡ map = cc in
-    subst (λ (r : Response). Hides r n) same (map_hides s v n none other)
+    let same : fresh s.settings s.rows (live_ids s) v ≡ map = cc in
+    subst (λ (r : View). Hides r n) same (map_hides s v n none other)
 
 hidden_decision : (s : State) (v : Machine) (told : Option Update) (n : ℕ) → NoneLive s n → v.id ≢ n → Hidden n (map_decision s v told)
 hidden_decision s v None n none other = hidden_map s v n none other
@@ -72,13 +71,13 @@ hidden_decision s v (Some u) n none other =
     (λ _. hidden_map (after_change s change) (told_row v u) n (none_after s v u n none other) other)
 
 -- other answers are no map
-registered_apart : (p : Profile) (expired : Bool) (map : Response) → Registered p expired ≡ Map map → ⊥
+registered_apart : (p : Profile) (expired : Bool) (map : View) → Registered p expired ≡ Map map → ⊥
 registered_apart p expired map is = absurd (cc)
 
-login_apart : (text : List ℕ) (map : Response) → LoginAt text ≡ Map map → ⊥
+login_apart : (text : List ℕ) (map : View) → LoginAt text ≡ Map map → ⊥
 login_apart text map is = absurd (cc)
 
-updated_apart : (map : Response) → Updated ≡ Map map → ⊥
+updated_apart : (map : View) → Updated ≡ Map map → ⊥
 updated_apart map is = absurd (cc)
 
 register_hides : (s : State) (n : ℕ) (mk : MachineKey) (form : Register) (words : Option (List ℕ)) → Every (Hidden n) (register s mk form words)
@@ -141,6 +140,6 @@ answers_hide s m (ask.Register mk form) words sound h = register_hides s m.id mk
 answers_hide s m (ask.Update mk node told) words sound h = update_hides s m.id mk node told
 answers_hide s m (ask.OneMap mk node told) words sound h = map_answer_hides s m mk node told sound h
 
-pub expired_hidden : (s : State) (m : Machine) (x : MachineAsk) (words : Option (List ℕ)) (d : Decision MachineAnswer) (map : Response)
+pub expired_hidden : (s : State) (m : Machine) (x : MachineAsk) (words : Option (List ℕ)) (d : Decision MachineAnswer) (map : View)
     → AreSound s.rows → IsExpired s m → decision s x words ≡ Ok d → d.answer ≡ Map map → Hides map m.id
 expired_hidden s m x words d map sound h is answer = answers_hide s m x words sound h d is map answer

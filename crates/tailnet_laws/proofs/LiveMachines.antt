@@ -16,7 +16,7 @@ use Rattle.net_rows.proofs.Members.{cut_member, find_none, first_member, list_an
 use Rattle.net_rows.proofs.RowAt.{row_at_is}
 use Rattle.tailcfg.specs.declared.node_row.NodeRow.{NodeRow}
 use Rattle.tailcfg.specs.declared.update.Update.{Update}
-use Rattle.map_delta.specs.Fresh.{fresh, is_listed, sees, shown}
+use Rattle.map_delta.specs.Fresh.{fresh, is_listed, is_peer_of, shown}
 use Rattle.desk_state.specs.State.{State, is_ahead, is_live}
 use Rattle.desk_state.specs.declared.refusal.Refusal.TheVariants.{NotLive, UnknownMachine}
 use Rattle.desk_state.specs.declared.refusal.Refusal.{Refusal}
@@ -53,7 +53,7 @@ listed_live s n h =
 -- a peer is a live machine
 pub peer_live : (s : State) (v : Machine) (p : NodeRow) → Contains (fresh s.settings s.rows (live_ids s) v).peers p → (a : Machine) × Contains s.rows.machines a × (is_live s a ≡ true) × (p.id ≡ a.id)
 peer_live s v p h =
-    let seen = shown_of (sees (live_ids s) v.id) (shown s.settings.base_domain) s.rows.machines p h in
+    let seen = shown_of (is_peer_of (live_ids s) v.id) (shown s.settings.base_domain) s.rows.machines p h in
     let tests = and_parts (not (seen.0.id == v.id)) (is_listed (live_ids s) seen.0.id) seen.2 in
     let live = listed_live s seen.0.id tests.1 in
     (live.0, live.1, live.2, ap (λ (n : NodeRow). n.id) seen.3 ∙ live.3)

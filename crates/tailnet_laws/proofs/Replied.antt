@@ -3,7 +3,7 @@ use Rattle.std.proofs.Common.{◌≡◌, Result, Ok, Err, refl}
 use Rattle.tail_base.specs.Steps.{◌>>=◌}
 use Rattle.net_rows.specs.Sound.{AreSound}
 use Rattle.net_rows.specs.declared.machine.Machine.{Machine}
-use Rattle.tailcfg.specs.declared.response.Response.{Response}
+use Rattle.map_delta.specs.declared.view.View.{View}
 use Rattle.desk_state.specs.Decisions.{answered}
 use Rattle.desk_state.specs.State.{State, at_moment}
 use Rattle.desk_state.specs.declared.decision.Decision.{Decision}
@@ -24,21 +24,21 @@ use Rattle.tailnet_laws.specs.Shown.{Hides, IsExpired}
 use Rattle.tailnet_laws.proofs.Hiding.{expired_hidden}
 
 -- a map that is replied to a machine is one that was decided
-machine_reply : (s : State) (r : Result (Decision MachineAnswer) Refusal) (map : Response) → (outcome s (r >>= λ d. Ok (answered answer.Machine d))).reply ≡ Done (answer.Machine (Map map))
+machine_reply : (s : State) (r : Result (Decision MachineAnswer) Refusal) (map : View) → (outcome s (r >>= λ d. Ok (answered answer.Machine d))).reply ≡ Done (answer.Machine (Map map))
     → (d : Decision MachineAnswer) × (r ≡ Ok d) × (d.answer ≡ Map map)
 machine_reply s (Err e) map is = absurd (cc)
 machine_reply s (Ok d) map is = (d, refl, cc)
 
 -- others are replied no map
-operator_reply : (s : State) (r : Result (Decision OperatorAnswer) Refusal) (map : Response) → (outcome s (r >>= λ d. Ok (answered answer.Operator d))).reply ≡ Done (answer.Machine (Map map)) → ⊥
+operator_reply : (s : State) (r : Result (Decision OperatorAnswer) Refusal) (map : View) → (outcome s (r >>= λ d. Ok (answered answer.Operator d))).reply ≡ Done (answer.Machine (Map map)) → ⊥
 operator_reply s (Err e) map is = absurd (cc)
 operator_reply s (Ok d) map is = absurd (cc)
 
-seed_reply : (s : State) (r : Result (Decision (Unit {0})) Refusal) (map : Response) → (outcome s (r >>= λ d. Ok (answered (λ nothing. answer.Seeded) d))).reply ≡ Done (answer.Machine (Map map)) → ⊥
+seed_reply : (s : State) (r : Result (Decision (Unit {0})) Refusal) (map : View) → (outcome s (r >>= λ d. Ok (answered (λ nothing. answer.Seeded) d))).reply ≡ Done (answer.Machine (Map map)) → ⊥
 seed_reply s (Err e) map is = absurd (cc)
 seed_reply s (Ok d) map is = absurd (cc)
 
-pub reply_hides : (s : State) (m : Machine) (e : Event) (map : Response) → AreSound s.rows → IsExpired (at_moment s (moment_of e)) m
+pub reply_hides : (s : State) (m : Machine) (e : Event) (map : View) → AreSound s.rows → IsExpired (at_moment s (moment_of e)) m
     → (step s e).reply ≡ Done (answer.Machine (Map map)) → Hides map m.id
 reply_hides s m (event.Ask (ask.Seed text) moment words) map sound h is = absurd (seed_reply (at_moment s moment) (seed (at_moment s moment) text) map is)
 reply_hides s m (event.Ask (ask.Operator x) moment words) map sound h is =

@@ -1,13 +1,13 @@
 -- Whom a map shows.
-use Rattle.std.specs.Prelude.{◌≡◌, ◌≢◌, ℕ, false, Contains, IfSome}
+use Rattle.std.specs.Prelude.{◌≡◌, ◌≢◌, ℕ, false, Contains}
 use Rattle.net_rows.specs.declared.machine.Machine.{Machine}
 use Rattle.tailcfg.specs.declared.node_row.NodeRow.{NodeRow}
-use Rattle.tailcfg.specs.declared.response.Response.{Response}
+use Rattle.map_delta.specs.declared.view.View.{View}
 use Rattle.desk_state.specs.State.{State, is_ahead}
 
 -- The map shows no node of this id, neither as its own nor as a peer.
-pub record Hides (map : Response) (id : ℕ) : Type 0 where
-  pub own : IfSome map.node (λ node. node.id ≢ id)
+pub record Hides (map : View) (id : ℕ) : Type 0 where
+  pub own : map.node.id ≢ id
   pub peers : (peer : NodeRow) → Contains map.peers peer → peer.id ≢ id
 
 -- The machine has a row, and its node key has expired.

@@ -3,7 +3,7 @@ ghost use Rattle.std.specs.Prelude.{◌≡◌, ◌≢◌, ℕ, List, Option, Ok,
 ghost use Rattle.net_rows.specs.Sound.{AreSound};
 ghost use Rattle.net_rows.specs.declared.machine.Machine.{Machine};
 ghost use Rattle.tailcfg.specs.declared.node_row.NodeRow.{NodeRow};
-ghost use Rattle.tailcfg.specs.declared.response.Response.{Response};
+ghost use Rattle.map_delta.specs.declared.view.View.{View};
 ghost use Rattle.tailcfg.specs.declared.update.Update as update;
 ghost use Rattle.map_delta.specs.Fresh.{fresh};
 ghost use Rattle.desk_state.specs.State.{State, at_moment};
@@ -25,9 +25,9 @@ ghost use Rattle.tailnet_laws.specs.Shown.{Hides, IsExpired};
 /// none that a step replies.
 pub fn expired_machines_are_in_no_map()
     ensures hides { (s : State) (m : Machine) (x : MachineAsk) (words : Option (List ℕ))
-        (d : Decision MachineAnswer) (map : Response) → AreSound s.rows → IsExpired s m
+        (d : Decision MachineAnswer) (map : View) → AreSound s.rows → IsExpired s m
         → decision s x words ≡ Ok d → d.answer ≡ Map map → Hides map m.id }
-    ensures replies { (s : State) (m : Machine) (e : Event) (map : Response) → AreSound s.rows
+    ensures replies { (s : State) (m : Machine) (e : Event) (map : View) → AreSound s.rows
         → IsExpired (at_moment s (moment_of e)) m
         → (step s e).reply ≡ Done (answer.Machine (Map map)) → Hides map m.id }
 {}

@@ -12,11 +12,12 @@ mod words;
 use io_edge::{MemoryClock, MemoryEntropy, MemoryFiles, MemorySink, MemorySource, NamedBytes};
 use net_rows::Tables;
 use row_keeper::MemoryOpener;
+use run_ends::Status;
 use std::alloc::Global;
 use std::process::Abort;
 use std::test::Fail;
 use tail_base::{Bytes, Items, NoMemory, Text};
-use tailnet_commands::{Status, pipe_command};
+use tailnet_commands::pipe_command;
 
 pub(crate) const SETTINGS: &[u8] =
     b"base_domain = \"tail.example\"\nserver_url = \"http://tail.example\"\ntoken = \"secret\"\n";

@@ -1,18 +1,17 @@
 //! The top call.
 ghost use Rattle.std.specs.Prelude.{◌≡◌, map, string_bytes};
 ghost use Rattle.tail_words.specs.Words.{command_of};
-ghost use Rattle.tailnet_commands.specs.Outside.{giving};
-ghost use Rattle.tailnet_commands.specs.Run.{world};
-ghost use Rattle.tailnet_commands.specs.Serve.{told};
+ghost use Rattle.tailnet_commands.specs.Outside.{doors_told, link_told, outside};
 ghost use Rattle.tailnetd.specs.Top.{Top};
 
 use io_edge::{Clock, Doors, Entropy, Files, Link, Pause, Sink, Source};
 use row_keeper::Opener;
+use run_ends::{Status, note_usage};
 use std::alloc::Global;
 use std::sync::Wait;
 use std::thread::Threads;
 use tail_words::{Command, Pipe, read_command};
-use tailnet_commands::{Status, note_usage, pipe_command, policy_check};
+use tailnet_commands::{pipe_command, policy_check};
 
 /// The whole program over its outside: the words after its name, and all that it may touch.
 ///
@@ -45,15 +44,15 @@ pub fn tailnetd<
     _pause: &A,
     link: &mut L,
 ) -> Status
-    ensures outcome { let at = giving O.holds O.write_faults C.answer N.word N.faults in
-        let tell = told I.left I.read_faults in
-        let around = world P.told P.asked P.faults in
+    ensures outcome { let at = outside I.left I.read_faults O.holds O.write_faults
+        E.holds E.write_faults F.holds F.faults P.told P.asked P.faults C.answer N.word N.faults in
+        let doors_at = doors_told D.coming D.finished D.asked D.faults in
+        let link_at = link_told L.left L.read_faults L.holds L.write_faults L.asked in
         Top (command_of (map string_bytes words.now)) result
-        (F.holds files.old) (F.faults files.old) (F.faults files.new)
-        (around opener.old (tell input.old (at output.old clock.old entropy.old)))
-        (around opener.new (tell input.new (at output.new clock.new entropy.new)))
-        (E.holds errors.old) (E.holds errors.new)
-        (E.write_faults errors.old) (E.write_faults errors.new) }
+        (at (doors_at doors.old) (link_at link.old)
+        input.old output.old errors.old files.old opener.old clock.old entropy.old)
+        (at (doors_at doors.new) (link_at link.new)
+        input.new output.new errors.new files.new opener.new clock.new entropy.new) }
     ensures doors { doors.new ≡ doors.old }
     ensures link { link.new ≡ link.old }
 {

@@ -4,3 +4,5 @@ pub mod Nodes
 pub mod Parts
 pub mod Registered
 pub mod Responses
+pub mod Routes
+pub mod Tokens

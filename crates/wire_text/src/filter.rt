@@ -1,92 +1,117 @@
 //! Rules of a packet filter.
-ghost use Rattle.std.specs.Prelude.{◌≡◌, IfOk, map};
-ghost use Rattle.serde_json.specs.View.{view};
-ghost use Rattle.wire_text.specs.Filters.{dest_data, ports_data, rule_data, sources_data, span_data, span_text};
+ghost use Rattle.std.specs.Prelude.{◌≡◌, ◌∷◌, [], codes, OnOk};
+ghost use Rattle.serde_json.specs.Data.{string};
+ghost use Rattle.wire_text.specs.Filters.{dest_data, ports_data, rule_data, sources_data, span_data};
+ghost use Rattle.wire_text.specs.Parts.{array_data};
+ghost use Rattle.wire_text.specs.Tokens.{Adds, data_tokens, each_tokens};
 
-use crate::json_form::JsonForm;
-use crate::parts::text_value;
+use crate::addr_text::append_span;
+use crate::marks::{begin_array, begin_object, end_array, end_object};
+use crate::token_form::{TokenForm, write_member};
+use crate::values::write_text;
+use json::Writer;
 use net_addr::Prefix;
 use port_sets::PortRange;
-use serde_json::{Value, json};
-use std::alloc::Global;
-use tail_base::{NoMemory, Text};
+use tail_base::NoMemory;
 use tailcfg::{DestRange, FilterRule, Sources};
 
-/// A prefix, without its length where it is one address.
-fn span_text(alloc: Global, prefix: &Prefix) -> Result<Text, NoMemory>
-    ensures value { IfOk result (λ text. text ≡ span_text prefix.now) }
-{
-    let base = prefix.base();
-    let bits = if base.is_v6() { 128 } else { 32 };
-    if prefix.len() == bits {
-        base.write(alloc)
-    } else {
-        prefix.write(alloc)
+/// A prefix as filters show it: without its length where it is one address.
+#[derive(Clone, Copy, Drop)]
+struct Span {
+    prefix: Prefix,
+}
+
+impl TokenForm for Span {
+    ghost json = { λ s. span_data s.prefix };
+
+    #[tactic(auto, unfolding(crate::specs::Filters::span_data))]
+    fn write_json(&self, room: &mut String, out: &mut Writer) -> Result<(), NoMemory> {
+        room.clear();
+        append_span(&self.prefix, room)?;
+        write_text(room.as_str(), out)
     }
 }
 
-#[tactic(auto, unfolding(crate::specs::Filters::span_data))]
-fn span_value(alloc: Global, prefix: &Prefix) -> Result<Value, NoMemory>
-    ensures value { IfOk result (λ v. view v ≡ span_data prefix.now) }
+fn write_each_span(prefixes: &[Prefix], room: &mut String, out: &mut Writer) -> Result<(), NoMemory>
+    ensures adds { OnOk result (Adds (each_tokens span_data prefixes.now) out.old out.new) }
 {
-    let text = span_text(alloc, prefix)?;
-    text_value(alloc, text.as_str())
-}
-
-fn span_values(alloc: Global, prefixes: &[Prefix]) -> Result<Vec<Value>, NoMemory>
-    ensures value { IfOk result (λ vs. map view vs.items ≡ map span_data prefixes.now) }
-{
-    let mut values = Vec::new(alloc);
     for prefix in prefixes {
-        values.push(span_value(alloc, prefix)?)?;
+        Span { prefix: *prefix }.write_json(room, out)?;
     }
-    Ok(values)
+    Ok(())
 }
 
-impl JsonForm for Sources {
+/// Writes the prefixes of sources.
+fn write_spans(prefixes: &[Prefix], room: &mut String, out: &mut Writer) -> Result<(), NoMemory>
+    ensures adds { OnOk result
+        (Adds (data_tokens (array_data span_data prefixes.now)) out.old out.new) }
+{
+    begin_array(out)?;
+    write_each_span(prefixes, room, out)?;
+    end_array(out)?;
+    Ok(())
+}
+
+/// Writes that every address is a source.
+fn write_any(out: &mut Writer) -> Result<(), NoMemory>
+    ensures adds { OnOk result
+        (Adds (data_tokens (array_data string (codes "*" ∷ []))) out.old out.new) }
+{
+    begin_array(out)?;
+    write_text("*", out)?;
+    end_array(out)?;
+    Ok(())
+}
+
+impl TokenForm for Sources {
     ghost json = { sources_data };
 
     #[tactic(auto, unfolding(crate::specs::Filters::sources_data))]
-    fn to_json(&self, alloc: Global) -> Result<Value, NoMemory> {
+    fn write_json(&self, room: &mut String, out: &mut Writer) -> Result<(), NoMemory> {
         match self {
-            Sources::Any => Ok(json!(in alloc; ["*"])?),
-            Sources::Only(prefixes) => {
-                Ok(Value::Array(span_values(alloc, prefixes.as_slice())?))
-            }
+            Sources::Any => write_any(out),
+            Sources::Only(prefixes) => write_spans(prefixes.as_slice(), room, out),
         }
     }
 }
 
-impl JsonForm for PortRange {
+impl TokenForm for PortRange {
     ghost json = { ports_data };
 
     #[tactic(auto, unfolding(crate::specs::Filters::ports_data))]
-    fn to_json(&self, alloc: Global) -> Result<Value, NoMemory> {
-        Ok(json!(in alloc; {"First": self.first, "Last": self.last})?)
+    fn write_json(&self, room: &mut String, out: &mut Writer) -> Result<(), NoMemory> {
+        begin_object(out)?;
+        write_member("First", &self.first, room, out)?;
+        write_member("Last", &self.last, room, out)?;
+        end_object(out)?;
+        Ok(())
     }
 }
 
-impl JsonForm for DestRange {
+impl TokenForm for DestRange {
     ghost json = { dest_data };
 
     #[tactic(auto, unfolding(crate::specs::Filters::dest_data))]
-    fn to_json(&self, alloc: Global) -> Result<Value, NoMemory> {
-        Ok(json!(in alloc; {
-            "IP": span_value(alloc, &self.to)?,
-            "Ports": self.ports.to_json(alloc)?,
-        })?)
+    fn write_json(&self, room: &mut String, out: &mut Writer) -> Result<(), NoMemory> {
+        let to = Span { prefix: self.to };
+        begin_object(out)?;
+        write_member("IP", &to, room, out)?;
+        write_member("Ports", &self.ports, room, out)?;
+        end_object(out)?;
+        Ok(())
     }
 }
 
-impl JsonForm for FilterRule {
+impl TokenForm for FilterRule {
     ghost json = { rule_data };
 
     #[tactic(auto, unfolding(crate::specs::Filters::rule_data))]
-    fn to_json(&self, alloc: Global) -> Result<Value, NoMemory> {
-        Ok(json!(in alloc; {
-            "DstPorts": self.dests.to_json(alloc)?,
-            "IPProto": self.protos.to_json(alloc)?,
-            "SrcIPs": self.sources.to_json(alloc)?,
-        })?)
+    fn write_json(&self, room: &mut String, out: &mut Writer) -> Result<(), NoMemory> {
+        begin_object(out)?;
+        write_member("DstPorts", &self.dests, room, out)?;
+        write_member("IPProto", &self.protos, room, out)?;
+        write_member("SrcIPs", &self.sources, room, out)?;
+        end_object(out)?;
+        Ok(())
     }
 }

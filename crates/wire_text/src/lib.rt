@@ -2,23 +2,31 @@
 //! words by which other JSON is written.
 #![tactic(auto)]
 
+mod addr_text;
 mod dns;
 mod filter;
+mod groups;
 mod json_form;
+mod key_text;
 mod lists;
+mod marks;
 mod members;
+mod moment_text;
 mod node;
+mod numerals;
 mod parts;
 mod patch;
 mod profile;
 mod registered;
 mod response;
+mod response_parts;
+mod routes;
+mod token_form;
+mod values;
 
 pub use json_form::JsonForm;
 pub use members::put_form;
 pub use parts::text_value;
 pub use registered::{login_at_text, registered_text};
-pub use response::response_text;
-
-#[cfg(test)]
-mod tests;
+pub use response::{append_response, response_text};
+pub use response_parts::ResponseParts;

@@ -1,72 +1,91 @@
 //! Nodes.
-ghost use Rattle.std.specs.Prelude.{◌≡◌, ◌++◌, codes, IfOk};
+ghost use Rattle.std.specs.Prelude.{◌≡◌, ◌∷◌, ◌++◌, codes, OnOk, string_bytes};
 ghost use Rattle.std.specs.Fmt.{decimal};
+ghost use Rattle.json.specs.Token.{key};
 ghost use Rattle.serde_json.specs.Data.{string};
-ghost use Rattle.serde_json.specs.View.{view, members_view};
 ghost use Rattle.wire_text.specs.Nodes.{host_data, keyed_members, named_members, node_data};
+ghost use Rattle.wire_text.specs.Tokens.{Adds, closing_tokens, data_tokens};
 
-use crate::json_form::JsonForm;
-use crate::members::put_form;
-use crate::parts::text_value;
-use serde_json::{Map, Value, json};
-use std::alloc::{AllocError, Global};
-use tail_base::NoMemory;
+use crate::marks::{begin_object, end_object, write_name};
+use crate::numerals::append_decimal;
+use crate::token_form::{TokenForm, write_member};
+use crate::values::write_text;
+use json::Writer;
+use tail_base::{NoMemory, Text};
 use tailcfg::NodeRow;
 
-fn host_value(alloc: Global, name: &str) -> Result<Value, AllocError>
-    ensures value { IfOk result (λ v. view v ≡ host_data name.now) }
+/// Writes what is told of the host.
+fn write_host(host: &Text, room: &mut String, out: &mut Writer) -> Result<(), NoMemory>
+    ensures adds { OnOk result
+        (Adds (key (codes "Hostinfo") ∷ data_tokens (host_data host.now)) out.old out.new) }
 {
-    json!(in alloc; {"Hostname": name})
+    write_name("Hostinfo", out)?;
+    begin_object(out)?;
+    write_member("Hostname", host, room, out)?;
+    end_object(out)?;
+    Ok(())
 }
 
-/// The id by which a node is known for good.
-fn stable_id(alloc: Global, id: u32) -> Result<Value, NoMemory>
-    ensures value { IfOk result (λ v. view v ≡ string (codes "n" ++ decimal id)) }
+fn write_stable_text(id: u32, room: &mut String, out: &mut Writer) -> Result<(), NoMemory>
+    ensures adds { OnOk result
+        (Adds (data_tokens (string (codes "n" ++ decimal id))) out.old out.new) }
 {
-    let text = format!(in alloc; "n{id}")?;
-    text_value(alloc, text.as_str())
+    room.clear();
+    room.push_str("n")?;
+    append_decimal(id, room)?;
+    write_text(room.as_str(), out)
 }
 
-// Members are put from the last on, so that each comes before all that are there.
-
-fn named_members(alloc: Global, node: &NodeRow) -> Result<Map<String, Value>, NoMemory>
-    ensures value { IfOk result (λ m. members_view m.entries ≡ named_members node.now) }
+/// Writes the id by which a node is known for good.
+fn write_stable_id(id: u32, room: &mut String, out: &mut Writer) -> Result<(), NoMemory>
+    ensures adds { OnOk result (Adds
+        (key (codes "StableID") ∷ data_tokens (string (codes "n" ++ decimal id))) out.old out.new) }
 {
-    let mut members = Map::new(alloc);
-    put_form(&mut members, alloc, "User", &node.user)?;
-    put_form(&mut members, alloc, "Tags", &node.tags)?;
-    serde_json::put(&mut members, alloc, "StableID", stable_id(alloc, node.id)?)?;
-    put_form(&mut members, alloc, "Online", &node.online)?;
-    put_form(&mut members, alloc, "Name", &node.name)?;
-    put_form(&mut members, alloc, "MachineAuthorized", &true)?;
-    Ok(members)
+    write_name("StableID", out)?;
+    write_stable_text(id, room, out)?;
+    Ok(())
 }
 
-fn keyed_members(alloc: Global, node: &NodeRow) -> Result<Map<String, Value>, NoMemory>
-    ensures value { IfOk result (λ m. members_view m.entries ≡ keyed_members node.now) }
+/// Writes the members from `MachineAuthorized` on.
+fn write_named(node: &NodeRow, room: &mut String, out: &mut Writer) -> Result<(), NoMemory>
+    ensures adds { OnOk result (Adds (closing_tokens (named_members node.now)) out.old out.new) }
 {
-    let mut members = named_members(alloc, node)?;
-    put_form(&mut members, alloc, "Machine", &node.machine)?;
-    put_form(&mut members, alloc, "KeyExpiry", &node.expiry)?;
-    put_form(&mut members, alloc, "Key", &node.key)?;
-    put_form(&mut members, alloc, "ID", &node.id)?;
-    let host = host_value(alloc, node.host.as_str())?;
-    serde_json::put(&mut members, alloc, "Hostinfo", host)?;
-    Ok(members)
+    write_member("MachineAuthorized", &true, room, out)?;
+    write_member("Name", &node.name, room, out)?;
+    write_member("Online", &node.online, room, out)?;
+    write_stable_id(node.id, room, out)?;
+    write_member("Tags", &node.tags, room, out)?;
+    write_member("User", &node.user, room, out)?;
+    end_object(out)?;
+    Ok(())
 }
 
-impl JsonForm for NodeRow {
+/// Writes the members from `Hostinfo` on.
+fn write_keyed(node: &NodeRow, room: &mut String, out: &mut Writer) -> Result<(), NoMemory>
+    ensures adds { OnOk result (Adds (closing_tokens (keyed_members node.now)) out.old out.new) }
+{
+    write_host(&node.host, room, out)?;
+    write_member("ID", &node.id, room, out)?;
+    write_member("Key", &node.key, room, out)?;
+    write_member("KeyExpiry", &node.expiry, room, out)?;
+    write_member("Machine", &node.machine, room, out)?;
+    write_named(node, room, out)?;
+    Ok(())
+}
+
+impl TokenForm for NodeRow {
     ghost json = { node_data };
 
     #[tactic(auto, unfolding(crate::specs::Nodes::node_data))]
-    fn to_json(&self, alloc: Global) -> Result<Value, NoMemory> {
-        let mut members = keyed_members(alloc, self)?;
-        put_form(&mut members, alloc, "HomeDERP", &self.derp)?;
-        put_form(&mut members, alloc, "Endpoints", &self.endpoints)?;
-        put_form(&mut members, alloc, "DiscoKey", &self.disco)?;
-        put_form(&mut members, alloc, "Created", &self.created)?;
-        put_form(&mut members, alloc, "AllowedIPs", &self.allowed)?;
-        put_form(&mut members, alloc, "Addresses", &self.addresses)?;
-        Ok(Value::Object(members))
+    fn write_json(&self, room: &mut String, out: &mut Writer) -> Result<(), NoMemory> {
+        begin_object(out)?;
+        write_member("Addresses", &self.addresses, room, out)?;
+        write_member("AllowedIPs", &self.allowed, room, out)?;
+        write_member("Created", &self.created, room, out)?;
+        write_member("DiscoKey", &self.disco, room, out)?;
+        write_member("Endpoints", &self.endpoints, room, out)?;
+        write_member("HomeDERP", &self.derp, room, out)?;
+        write_keyed(self, room, out)?;
+        Ok(())
     }
 }

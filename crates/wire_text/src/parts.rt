@@ -1,15 +1,15 @@
-//! The small values: numbers, texts, keys, prefixes, endpoints and times.
+//! The small values: numbers, texts, keys, prefixes and times.
 ghost use Rattle.std.specs.Prelude.{◌≡◌, IfOk};
 ghost use Rattle.serde_json.specs.Data.{boolean, string};
 ghost use Rattle.serde_json.specs.View.{view};
-ghost use Rattle.wire_text.specs.Parts.{number_data, node_key_data, machine_key_data, disco_key_data, prefix_data, endpoint_data, moment_data, time_data};
+ghost use Rattle.wire_text.specs.Parts.{number_data, node_key_data, machine_key_data, prefix_data, moment_data, time_data};
 
 use crate::json_form::JsonForm;
 use moments::Moment;
-use net_addr::{Endpoint, Prefix};
+use net_addr::Prefix;
 use serde_json::Value;
 use std::alloc::Global;
-use tail_base::{DiscoKey, MachineKey, NoMemory, NodeKey, Tag, Text};
+use tail_base::{MachineKey, NoMemory, NodeKey, Tag, Text};
 
 /// A text as a JSON string.
 pub fn text_value(alloc: Global, text: &str) -> Result<Value, NoMemory>
@@ -26,23 +26,7 @@ impl JsonForm for bool {
     }
 }
 
-impl JsonForm for u8 {
-    ghost json = { number_data };
-
-    fn to_json(&self, _: Global) -> Result<Value, NoMemory> {
-        Ok(Value::from(*self))
-    }
-}
-
 impl JsonForm for u32 {
-    ghost json = { number_data };
-
-    fn to_json(&self, _: Global) -> Result<Value, NoMemory> {
-        Ok(Value::from(*self))
-    }
-}
-
-impl JsonForm for u64 {
     ghost json = { number_data };
 
     fn to_json(&self, _: Global) -> Result<Value, NoMemory> {
@@ -86,30 +70,10 @@ impl JsonForm for MachineKey {
     }
 }
 
-impl JsonForm for DiscoKey {
-    ghost json = { disco_key_data };
-
-    #[tactic(auto, unfolding(crate::specs::Parts::disco_key_data))]
-    fn to_json(&self, alloc: Global) -> Result<Value, NoMemory> {
-        let text = self.write(alloc)?;
-        text_value(alloc, text.as_str())
-    }
-}
-
 impl JsonForm for Prefix {
     ghost json = { prefix_data };
 
     #[tactic(auto, unfolding(crate::specs::Parts::prefix_data))]
-    fn to_json(&self, alloc: Global) -> Result<Value, NoMemory> {
-        let text = self.write(alloc)?;
-        text_value(alloc, text.as_str())
-    }
-}
-
-impl JsonForm for Endpoint {
-    ghost json = { endpoint_data };
-
-    #[tactic(auto, unfolding(crate::specs::Parts::endpoint_data))]
     fn to_json(&self, alloc: Global) -> Result<Value, NoMemory> {
         let text = self.write(alloc)?;
         text_value(alloc, text.as_str())

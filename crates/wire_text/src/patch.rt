@@ -1,24 +1,24 @@
 //! Patches of peers.
 ghost use Rattle.wire_text.specs.Nodes.{patch_data};
 
-use crate::json_form::JsonForm;
-use crate::members::{put_form, put_option};
-use serde_json::{Map, Value};
-use std::alloc::Global;
+use crate::marks::{begin_object, end_object};
+use crate::token_form::{TokenForm, write_member, write_option};
+use json::Writer;
 use tail_base::NoMemory;
 use tailcfg::Patch;
 
-impl JsonForm for Patch {
+impl TokenForm for Patch {
     ghost json = { patch_data };
 
     #[tactic(auto, unfolding(crate::specs::Nodes::patch_data))]
-    fn to_json(&self, alloc: Global) -> Result<Value, NoMemory> {
-        let mut members = Map::new(alloc);
-        put_option(&mut members, alloc, "Online", &self.online)?;
-        put_form(&mut members, alloc, "NodeID", &self.id)?;
-        put_option(&mut members, alloc, "Endpoints", &self.endpoints)?;
-        put_option(&mut members, alloc, "DiscoKey", &self.disco)?;
-        put_option(&mut members, alloc, "DERPRegion", &self.derp)?;
-        Ok(Value::Object(members))
+    fn write_json(&self, room: &mut String, out: &mut Writer) -> Result<(), NoMemory> {
+        begin_object(out)?;
+        write_option("DERPRegion", &self.derp, room, out)?;
+        write_option("DiscoKey", &self.disco, room, out)?;
+        write_option("Endpoints", &self.endpoints, room, out)?;
+        write_member("NodeID", &self.id, room, out)?;
+        write_option("Online", &self.online, room, out)?;
+        end_object(out)?;
+        Ok(())
     }
 }

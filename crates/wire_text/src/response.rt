@@ -1,65 +1,78 @@
 //! Responses of a map session.
-ghost use Rattle.std.specs.Prelude.{◌≡◌, IfOk};
-ghost use Rattle.serde_json.specs.View.{view, members_view};
+ghost use Rattle.std.specs.Prelude.{◌≡◌, ◌++◌, IfOk, OnOk};
 ghost use Rattle.wire_text.specs.Responses.{peer_members, response_data, response_text as text_of_response};
+ghost use Rattle.wire_text.specs.Tokens.{Adds, closing_tokens, data_tokens};
 
-use crate::members::{put_list, put_option};
-use serde_json::{Map, Value};
+use crate::marks::{begin_object, end_object};
+use crate::response_parts::ResponseParts;
+use crate::token_form::{write_lent, write_list, write_option};
+use json::Writer;
 use std::alloc::Global;
 use tail_base::{NoMemory, Text};
 use tailcfg::Response;
 
+/// Writes the members from `Peers` on.
 #[tactic(auto, unfolding(crate::specs::Responses::peer_members))]
-fn peer_members(alloc: Global, response: &Response) -> Result<Map<String, Value>, NoMemory>
-    ensures value { IfOk result (λ m. members_view m.entries ≡ peer_members response.now) }
+fn write_peers(
+    response: &ResponseParts<'_>,
+    room: &mut String,
+    out: &mut Writer,
+) -> Result<(), NoMemory>
+    ensures adds { OnOk result
+        (Adds (closing_tokens (peer_members response.now)) out.old out.new) }
 {
-    let mut members = Map::new(alloc);
-    put_list(
-        &mut members,
-        alloc,
-        "UserProfiles",
-        response.profiles.as_slice(),
-    )?;
-    put_option(&mut members, alloc, "Seq", &response.seq)?;
-    put_list(
-        &mut members,
-        alloc,
-        "PeersRemoved",
-        response.removed.as_slice(),
-    )?;
-    put_list(
-        &mut members,
-        alloc,
-        "PeersChangedPatch",
-        response.patches.as_slice(),
-    )?;
-    put_list(
-        &mut members,
-        alloc,
-        "PeersChanged",
-        response.changed.as_slice(),
-    )?;
-    put_list(&mut members, alloc, "Peers", response.peers.as_slice())?;
-    Ok(members)
+    write_list("Peers", response.peers, room, out)?;
+    write_list("PeersChanged", response.changed, room, out)?;
+    write_list("PeersChangedPatch", response.patches, room, out)?;
+    write_list("PeersRemoved", response.removed, room, out)?;
+    write_option("Seq", &response.seq, room, out)?;
+    write_list("UserProfiles", response.profiles, room, out)?;
+    end_object(out)?;
+    Ok(())
 }
 
 #[tactic(auto, unfolding(crate::specs::Responses::response_data))]
-fn response_value(alloc: Global, response: &Response) -> Result<Value, NoMemory>
-    ensures value { IfOk result (λ v. view v ≡ response_data response.now) }
+fn write_response(
+    response: &ResponseParts<'_>,
+    room: &mut String,
+    out: &mut Writer,
+) -> Result<(), NoMemory>
+    ensures adds { OnOk result
+        (Adds (data_tokens (response_data response.now)) out.old out.new) }
 {
-    let mut members = peer_members(alloc, response)?;
-    put_option(&mut members, alloc, "PacketFilter", &response.filter)?;
-    put_option(&mut members, alloc, "Node", &response.node)?;
-    put_option(&mut members, alloc, "MapSessionHandle", &response.handle)?;
-    put_option(&mut members, alloc, "Domain", &response.domain)?;
-    put_option(&mut members, alloc, "DNSConfig", &response.dns)?;
-    Ok(Value::Object(members))
+    begin_object(out)?;
+    write_lent("DNSConfig", response.dns, room, out)?;
+    write_lent("Domain", response.domain, room, out)?;
+    write_lent("MapSessionHandle", response.handle, room, out)?;
+    write_lent("Node", response.node, room, out)?;
+    write_lent("PacketFilter", response.filter, room, out)?;
+    write_peers(response, room, out)?;
+    Ok(())
 }
 
-/// The body of a response (`tailcfg.MapResponse`): keys in byte order, no spaces.
+/// The bytes, and behind them the text of a response (`tailcfg.MapResponse`): keys in byte order, no
+/// spaces.
+pub fn append_response(
+    alloc: Global,
+    bytes: Vec<u8>,
+    response: &ResponseParts<'_>,
+) -> Result<Vec<u8>, NoMemory>
+    ensures value { IfOk result
+        (λ made. made.items ≡ bytes.items ++ text_of_response response.now) }
+{
+    let mut room = String::new(alloc);
+    let mut out = Writer::new(bytes);
+    write_response(response, &mut room, &mut out)?;
+    Ok(out.into_inner())
+}
+
+/// The body of a response.
 pub fn response_text(alloc: Global, response: &Response) -> Result<Text, NoMemory>
     ensures value { IfOk result (λ text. text ≡ text_of_response response.now) }
 {
-    let text = response_value(alloc, response)?.to_string(alloc)?;
-    Ok(Text::from_string(text))
+    let bytes = append_response(alloc, Vec::new(alloc), &ResponseParts::of(response))?;
+    match String::from_utf8(bytes) {
+        Ok(text) => Ok(Text::from_string(text)),
+        Err(_) => Err(NoMemory),
+    }
 }

@@ -1,10 +1,11 @@
 //! Policy files.
 use io_edge::{MemoryFiles, MemorySink, NamedBytes};
+use run_ends::Status;
 use std::alloc::Global;
 use std::process::Abort;
 use std::test::Fail;
 use tail_base::{Bytes, Items, NoMemory, Text};
-use tailnet_commands::{Status, policy_check};
+use tailnet_commands::policy_check;
 
 fn checked(alloc: Global, text: &[u8]) -> Result<(Status, MemorySink), NoMemory> {
     let mut list = Items::new(alloc);

@@ -1,9 +1,9 @@
 //! One call after the other fails.
 use crate::tests::{CALM, Plan, REGISTERED, REGISTERED_TWICE, SETTINGS, TWICE, piped};
+use run_ends::Status;
 use std::alloc::Global;
 use std::test::Fail;
 use tail_base::NoMemory;
-use tailnet_commands::Status;
 
 /// A line is what fails at which call, the status, what is on the output, and the line on errors.
 const FAULTS: &str = "read 1, read fault, nothing, tailnetd: read fault
@@ -53,7 +53,7 @@ fn output_of(name: &str) -> &'static [u8] {
 }
 
 /// The line on errors, which isn't there where it has no text.
-fn line_of(alloc: Global, text: &str) -> Result<String, NoMemory> {
+fn ended_line(alloc: Global, text: &str) -> Result<String, NoMemory> {
     match text.strip_prefix(" ") {
         Some(line) => Ok(format!(in alloc; "{line}\n")?),
         None => Ok(String::new(alloc)),
@@ -70,7 +70,7 @@ fn each_call_fails_in_turn(rt: HostRuntime) -> Result<(), Fail> {
         let ran = piped(rt.alloc(), SETTINGS, TWICE, &plan)?;
         assert!(rt; ran.status == status_of(status), "{line}");
         assert!(rt; ran.output.bytes() == output_of(output), "{line}");
-        let errors = line_of(rt.alloc(), errors)?;
+        let errors = ended_line(rt.alloc(), errors)?;
         assert!(rt; ran.errors.bytes() == errors.as_bytes(), "{line}");
     }
     Ok(())

@@ -9,10 +9,10 @@
 //! of the seed's user.
 use crate::tests::{CALM, Plan, SETTINGS, piped_at};
 use io_edge::MemoryClock;
+use run_ends::Status;
 use std::alloc::Global;
 use std::process::Abort;
 use tail_base::{Items, NoMemory, Text};
-use tailnet_commands::Status;
 
 /// What the program is given, and what it has to answer.
 #[derive(Drop)]

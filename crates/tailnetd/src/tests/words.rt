@@ -6,13 +6,13 @@ use io_edge::{
 };
 use net_rows::Tables;
 use row_keeper::MemoryOpener;
+use run_ends::Status;
 use std::alloc::Global;
 use std::process::Abort;
 use std::sync::Wait;
 use std::test::Fail;
 use std::thread::Threads;
 use tail_base::{Bytes, Items, NoMemory};
-use tailnet_commands::Status;
 
 /// What the top call is given.
 #[derive(Drop)]

@@ -6,6 +6,7 @@ use Rattle.std.proofs.lemmas.Str.{IsUtf8-from_is_utf8, is_utf8-from_IsUtf8}
 use Rattle.toml.specs.Data.{Members}
 use Rattle.toml.specs.Parse.{parse_document}
 use Rattle.tail_words.specs.declared.fault.SettingsFault.TheVariants.{Refused}
+use Rattle.tail_words.specs.declared.fault.SettingsRule.TheVariants.{Toml}
 use Rattle.tail_words.specs.SettingsText.{settings_at, settings_of, table_of}
 use Rattle.tail_base.specs.Steps.{◌>>=◌, or_fault}
 use Rattle.tail_words.proofs.FaultLemmas.{fails_from, read_from}
@@ -20,11 +21,11 @@ table_none text unread =
 
 settings_some : (text : List ℕ) (table : Members) → table_of text ≡ Some table → settings_of text ≡ settings_at table
 unfolding settings_of
-settings_some text table same = ap (λ o. or_fault (Refused 1 (codes "text")) o >>= settings_at) same
+settings_some text table same = ap (λ o. or_fault (Refused Toml (codes "text")) o >>= settings_at) same
 
-settings_none : (text : List ℕ) → table_of text ≡ None → settings_of text ≡ Err (Refused 1 (codes "text"))
+settings_none : (text : List ℕ) → table_of text ≡ None → settings_of text ≡ Err (Refused Toml (codes "text"))
 unfolding settings_of
-settings_none text same = ap (λ o. or_fault (Refused 1 (codes "text")) o >>= settings_at) same
+settings_none text same = ap (λ o. or_fault (Refused Toml (codes "text")) o >>= settings_at) same
 
 pub returns-in-Ok : goal.returns-in-Ok
 returns-in-Ok c =

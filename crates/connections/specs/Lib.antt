@@ -1,0 +1,4 @@
+pub mod Tellings
+pub mod Exchanges
+pub mod Asked
+pub mod Connection

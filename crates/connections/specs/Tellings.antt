@@ -1,0 +1,87 @@
+-- What the outside tells at a moment, and what a list of turns took of it.
+use Rattle.std.specs.Prelude.{◌≡◌, ◌≤◌, ◌+◌, ℕ, ℤ, Bool, true, false, Option, None, Some, List, [], ◌∷◌, length, if◌then◌else◌}
+use Rattle.std.specs.Option.{option_map}
+use Rattle.moments.specs.Moments.{clamped}
+use Rattle.io_edge.specs.Edge.{IsWhereTold, Rose, RoseBy}
+use Rattle.io_edge.specs.Stream as stream
+use Rattle.tailnet_desk.specs.Asks.{draws}
+use Rattle.tailnet_desk.specs.Chains.{Turned}
+use Rattle.tailnet_desk.specs.Step.{moment_of}
+use Rattle.tailnet_desk.specs.declared.ask.Ask.{Ask}
+use Rattle.tailnet_desk.specs.declared.entry.Event.{Event}
+use Rattle.tailnet_desk.specs.declared.entry.Event.TheVariants as event
+
+-- The turn asks this. Words came with it only if they are drawn for it.
+pub record IsTurnOf (ask : Ask) (t : Turned) : Type 0 where
+  pub moment : ℤ
+  pub words : Option (List ℕ)
+  pub event_is : t.event ≡ event.Ask ask moment words
+  pub undrawn : draws ask ≡ false → words ≡ None
+
+-- what the sink, the clock and the entropy tell, and their counts of faults
+pub record Giving : Type 0 where
+  pub held : Option (List ℕ)
+  pub write_faults : ℕ
+  pub answers : ℕ → Option ℤ
+  pub words : ℕ → Option (List ℕ)
+  pub word_faults : ℕ
+
+abbrev pub giving : {O C N : Type 0} → (O → Option (List ℕ)) → (O → ℕ) → (C → ℕ → Option ℤ) → (N → ℕ → Option (List ℕ)) → (N → ℕ) → O → C → N → Giving
+giving holds write_faults answer word word_faults o c n = record {
+  held = holds o;
+  write_faults = write_faults o;
+  answers = answer c;
+  words = word n;
+  word_faults = word_faults n;
+}
+
+-- the answers from number n on
+abbrev pub from_number : {A : Type 0} → ℕ → (ℕ → A) → ℕ → A
+from_number n told k = told (k + n)
+
+-- the moments are the clock's next answers, each brought to the nearest moment, where they are told
+abbrev pub MomentsTold : (ℕ → Option ℤ) → List Turned → Type 0
+MomentsTold told [] = Unit {0}
+MomentsTold told (t ∷ ts) = IsWhereTold (moment_of t.event) (option_map clamped (told 0)) × MomentsTold (from_number 1 told) ts
+
+-- how often words were drawn for an event, and for those of turns
+abbrev pub drawn_for : Event → ℕ
+drawn_for (event.Ask ask moment None) = 0
+drawn_for (event.Ask ask moment (Some words)) = 1
+
+abbrev pub drawn : List Turned → ℕ
+drawn [] = 0
+drawn (t ∷ ts) = drawn_for t.event + drawn ts
+
+-- the words of an event are the entropy's next, where they are told; then those of turns
+abbrev pub AreNextWords : (ℕ → Option (List ℕ)) → Event → Type 0
+AreNextWords told (event.Ask ask moment None) = Unit {0}
+AreNextWords told (event.Ask ask moment (Some words)) = IsWhereTold words (told 0)
+
+abbrev pub WordsTold : (ℕ → Option (List ℕ)) → List Turned → Type 0
+WordsTold told [] = Unit {0}
+WordsTold told (t ∷ ts) = AreNextWords told t.event × WordsTold (from_number (drawn_for t.event) told) ts
+
+-- how often a draw that was due failed for an event, and for those of turns
+abbrev pub failed_for : Event → ℕ
+failed_for (event.Ask ask moment None) = if draws ask then 1 else 0
+failed_for (event.Ask ask moment (Some words)) = 0
+
+abbrev pub failed_draws : List Turned → ℕ
+failed_draws [] = 0
+failed_draws (t ∷ ts) = failed_for t.event + failed_draws ts
+
+-- what a draw did: whether it was due, what came, and the words and the count before and after
+abbrev pub Drew : Bool → Option (List ℕ) → (ℕ → Option (List ℕ)) → (ℕ → Option (List ℕ)) → ℕ → ℕ → Type 0
+Drew false None old new before now = ((k : ℕ) → new k ≡ old k) × (before ≤ now)
+Drew false (Some words) old new before now = ⊥
+Drew true None old new before now = ((k : ℕ) → new k ≡ old k) × (before ≤ now) × Rose before now
+Drew true (Some words) old new before now = stream.Took old new words × (before ≤ now)
+
+-- what turns took of the clock and the entropy
+pub record TurnsTook (old new : Giving) (ts : List Turned) : Type 0 where
+  pub moments : MomentsTold old.answers ts
+  pub clock : (k : ℕ) → new.answers k ≡ from_number (length ts) old.answers k
+  pub words : WordsTold old.words ts
+  pub entropy : (k : ℕ) → new.words k ≡ from_number (drawn ts) old.words k
+  pub word_faults : RoseBy (failed_draws ts) old.word_faults new.word_faults

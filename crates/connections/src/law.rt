@@ -1,0 +1,22 @@
+//! What a connection's contract comes to. None of these functions does anything: each states a law.
+ghost use Rattle.connections.specs.Connection.{IsBrokenOff, IsExtra};
+ghost use Rattle.connections.specs.Exchanges.{Exchange};
+ghost use Rattle.run_ends.specs.Pieces.{IsPrefix};
+ghost use Rattle.run_ends.specs.declared.closed.Closed.{Closed};
+ghost use Rattle.std.specs.Prelude.{◌≡◌, ℕ, List, [], ◌∷◌, Some};
+
+/// Where a connection broke off, each answer but the last was written whole: after a failed write no
+/// request is taken, and behind the last answer no refusal is begun.
+pub fn answers_are_heard()
+    ensures whole { (x y : Exchange) (ys : List Exchange) (extra written : List ℕ)
+        → IsBrokenOff (x ∷ y ∷ ys) extra written → IsPrefix x.bytes written }
+    ensures before_refusal { (x : Exchange) (b : ℕ) (bs written : List ℕ)
+        → IsBrokenOff (x ∷ []) (b ∷ bs) written → IsPrefix x.bytes written }
+    ensures nothing { (x y : Exchange) (ys : List Exchange) (extra : List ℕ)
+        → IsBrokenOff (x ∷ y ∷ ys) extra [] → x.bytes ≡ [] }
+{}
+
+/// Behind a request that ended the connection nothing is answered.
+pub fn nothing_follows_the_end()
+    ensures quiet { (c : Closed) (rest extra : List ℕ) → IsExtra (Some c) rest extra → extra ≡ [] }
+{}

@@ -1,0 +1,36 @@
+//! A connection over a desk.
+ghost use Rattle.connections.specs.Connection.{IsConnection, told};
+ghost use Rattle.std.specs.Prelude.{◌<◌, []};
+ghost use Rattle.tailnet_desk.specs.Seated.{point_of};
+ghost use Rattle.tailnet_desk.specs.Turns.{IsTurn};
+
+use crate::serving::serve;
+use desk_front::Front;
+use io_edge::{Clock, Entropy, Sink, Source};
+use row_keeper::Keeper;
+use run_ends::Closed;
+use std::alloc::Global;
+use tailnet_desk::Desk;
+
+/// Serves a connection over a desk. Its state, and what is told of its keeper, stand at both ends,
+/// joined by the turns of the served requests.
+pub fn serve_desk<K: Keeper, I: Source, O: Sink, C: Clock, N: Entropy>(
+    alloc: Global,
+    front: &Front,
+    requests: u32,
+    desk: &mut Desk<K>,
+    input: &mut I,
+    output: &mut O,
+    clock: &mut C,
+    entropy: &mut N,
+) -> Closed
+    requires some { 0 < requests }
+    ensures serves { let at = told I.left I.read_faults O.holds O.write_faults
+        C.answer N.word N.faults in
+        let point = point_of K.told K.faults K.calls in
+        IsConnection IsTurn front.now result requests []
+        (at input.old output.old clock.old entropy.old)
+        (at input.new output.new clock.new entropy.new) (point desk.old) (point desk.new) }
+{
+    serve(alloc, front, requests, desk, input, output, clock, entropy)
+}

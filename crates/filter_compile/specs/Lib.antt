@@ -1,0 +1,4 @@
+pub mod Admits
+pub mod Filters
+pub mod Parts
+pub mod Unrestricted

@@ -1,0 +1,27 @@
+-- The packet filter of a machine if no policy is in force.
+use Rattle.std.specs.Prelude.{◌≡◌, ◌<◌, ◌^◌, true, false, List, [], ◌∷◌}
+use Rattle.net_addr.specs.Bits.{Block}
+use Rattle.net_addr.specs.Blocks.{prefix_of_addr}
+use Rattle.tailcfg.specs.declared.filter.DestRange.{DestRange}
+use Rattle.tailcfg.specs.declared.filter.FilterRule.{FilterRule}
+use Rattle.tailcfg.specs.declared.filter.Sources.TheVariants as src
+use Rattle.policy_eval.specs.declared.site.Site.{Site}
+
+-- one of the machine's addresses is of IPv4, and the other of IPv6
+pub record HasBothFamilies (m : Site) : Type 0 where
+  pub v4 : m.v4.v6 ≡ false
+  pub v4_small : m.v4.bits < 2 ^ 32
+  pub v6 : m.v6.v6 ≡ true
+  pub v6_small : m.v6.bits < 2 ^ 128
+
+-- a prefix with all ports
+abbrev pub at_all_ports : Block → DestRange
+at_all_ports to = record { to = to; ports = record { first = 0; last = 65535 } }
+
+-- one rule: from everywhere to the machine's two addresses, by ICMP, TCP, UDP and ICMPv6
+abbrev pub unrestricted : Site → List FilterRule
+unrestricted m = record {
+  sources = src.Any;
+  dests = at_all_ports (prefix_of_addr m.v4) ∷ at_all_ports (prefix_of_addr m.v6) ∷ [];
+  protos = 1 ∷ 6 ∷ 17 ∷ 58 ∷ [];
+} ∷ []

@@ -1,0 +1,7 @@
+pub mod AnyLemmas
+pub mod ListLemmas
+pub mod LiveLaws
+pub mod OpenLaws
+pub mod ReachLaws
+pub mod SightLaws
+pub mod WorldLaws

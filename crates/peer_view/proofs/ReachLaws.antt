@@ -1,0 +1,169 @@
+-- Reach is local, and goes by rules.
+use Rattle.std.proofs.Common.{◌≡◌, ◌<◌, ◌&&◌, ◌||◌, ◌==◌, ℕ, Bool, true, false, List, ◌⊎◌, refl, ap, sym, ◌∙◌, inl, inr}
+use Rattle.std.specs.Prelude.{Contains, Option}
+use Rattle.std.specs.Bool.{beq}
+use Rattle.std.specs.List.{list_any}
+use Rattle.std.proofs.lemmas.Bool.{and_from, and_parts, eq-eqb, eqb-true, or_cases, or_left, or_right}
+use Rattle.tail_base.proofs.Bools.{beq-from, beq-true, same_tests}
+use Rattle.net_addr.specs.Bits.{Address, family_size}
+use Rattle.net_addr.proofs.SearchLemmas.{address_finds, address_found}
+use Rattle.net_rows.specs.Damage.{address_eq}
+use Rattle.policy_rows.specs.declared.dest.Dest.{Dest}
+use Rattle.policy_rows.specs.declared.group.Group.{Group}
+use Rattle.policy_rows.specs.declared.policy.Policy.{Policy}
+use Rattle.policy_rows.specs.declared.rule.Rule.{Rule}
+use Rattle.policy_rows.specs.declared.selector.Selector.{Selector}
+use Rattle.policy_rows.specs.declared.selector.Selector.TheVariants as sel
+use Rattle.policy_eval.specs.Covers.{covers, dest_covers, is_own, is_own_devices}
+use Rattle.policy_eval.specs.Ends.{end_at, holder_of}
+use Rattle.policy_eval.specs.Grants.{groups_of, rules_of, some_source}
+use Rattle.policy_eval.specs.Reach.{AreSoundRules, entry_reaches, reaches_into, rule_reaches}
+use Rattle.policy_eval.specs.Sites.{AreDistinct, serves, site_has}
+use Rattle.policy_eval.specs.declared.end.End.{End}
+use Rattle.policy_eval.specs.declared.site.Site.{Site}
+use Rattle.policy_eval.proofs.EndLemmas.{own_end}
+use Rattle.policy_eval.proofs.ReachLemmas.{reach_is}
+use Rattle.peer_view.specs.Reaches.{IsSoundSite, covers_site, site_end, joins_own_by, site_addresses, reaches, sends, site_reaches, takes}
+use Rattle.peer_view.proofs.AnyLemmas.{any_and, any_or, any_pair, any_same, either_and, either_or, or_none}
+
+address_of : (a b : Address) → address_eq a b ≡ true → a ≡ b
+address_of a b h =
+    let p = and_parts (beq a.v6 b.v6) (a.bits == b.bits) h in
+    ap (λ (x : Bool). record a { v6 = x }) (beq-true a.v6 b.v6 p.0) ∙ ap (λ (n : ℕ). record b { bits = n }) (eqb-true a.bits b.bits p.1)
+
+own_address : (a : Address) → address_eq a a ≡ true
+own_address a = and_from (beq a.v6 a.v6) (a.bits == a.bits) (beq-from a.v6 a.v6 refl) (eq-eqb a.bits a.bits refl)
+
+-- an address that a site has is one of its two
+own_two : (b : Site) (addr : Address) → site_has addr b ≡ true → (b.v4 ≡ addr) ⊎ (b.v6 ≡ addr)
+own_two b addr h =
+    elim (or_cases (address_eq b.v4 addr) (address_eq b.v6 addr) h) [
+      | inl p ↦ inl (address_of b.v4 addr p)
+      | inr q ↦ inr (address_of b.v6 addr q)
+    ]
+
+has_v4 : (b : Site) → site_has b.v4 b ≡ true
+has_v4 b = or_left (address_eq b.v4 b.v4) (address_eq b.v6 b.v4) (own_address b.v4)
+
+has_v6 : (b : Site) → site_has b.v6 b ≡ true
+has_v6 b = or_right (address_eq b.v4 b.v6) (address_eq b.v6 b.v6) (own_address b.v6)
+
+-- the destination covers one of the machine's own ends
+abbrev covers_own : List Group → Site → End → Dest → Bool
+covers_own groups b s entry = list_any (λ y. dest_covers groups entry.to s (site_end b y)) (site_addresses b)
+
+-- the machine at a site of the list
+record IsSiteOf (sites : List Site) (b : Site) : Type 0 where
+  distinct : AreDistinct sites
+  inside : Contains sites b
+
+end_is : (sites : List Site) (b : Site) → IsSiteOf sites b → (addr : Address) → site_has addr b ≡ true → end_at sites addr ≡ site_end b addr
+end_is sites b at addr has = own_end sites at.distinct addr b at.inside has
+
+-- an entry that covers an address of the set covers one of the two
+to_own : (groups : List Group) (sites : List Site) (b : Site) (s : End) (entry : Dest) → IsSiteOf sites b → entry_reaches groups sites (serves b) s entry ≡ true → covers_own groups b s entry ≡ true
+to_own groups sites b s entry at h =
+    let found = address_finds (λ addr. serves b addr && dest_covers groups entry.to s (end_at sites addr)) h in
+    let p = and_parts (serves b found.0) (dest_covers groups entry.to s (end_at sites found.0)) found.2 in
+    let f : Address → Bool = λ y. dest_covers groups entry.to s (site_end b y) in
+    let here : f found.0 ≡ true = ap (λ (e : End). dest_covers groups entry.to s e) (sym (end_is sites b at found.0 p.0)) ∙ p.1 in
+    elim (own_two b found.0 p.0) [
+      | inl e ↦ or_left (f b.v4) (f b.v6 || false) (ap f e ∙ here)
+      | inr e ↦ or_right (f b.v4) (f b.v6 || false) (or_left (f b.v6) false (ap f e ∙ here))
+    ]
+
+from_one : (groups : List Group) (sites : List Site) (b : Site) (s : End) (entry : Dest) → IsSiteOf sites b → (addr : Address) → addr.bits < family_size addr.v6 → site_has addr b ≡ true
+    → dest_covers groups entry.to s (site_end b addr) ≡ true → entry_reaches groups sites (serves b) s entry ≡ true
+from_one groups sites b s entry at addr small has h =
+    let here : dest_covers groups entry.to s (end_at sites addr) ≡ true = ap (λ (e : End). dest_covers groups entry.to s e) (end_is sites b at addr has) ∙ h in
+    address_found (λ y. serves b y && dest_covers groups entry.to s (end_at sites y)) addr small
+    (and_from (serves b addr) (dest_covers groups entry.to s (end_at sites addr)) has here)
+
+from_own : (groups : List Group) (sites : List Site) (b : Site) (s : End) (entry : Dest) → IsSiteOf sites b → IsSoundSite b → covers_own groups b s entry ≡ true → entry_reaches groups sites (serves b) s entry ≡ true
+from_own groups sites b s entry at small h =
+    let f : Address → Bool = λ y. dest_covers groups entry.to s (site_end b y) in
+    elim (or_cases (f b.v4) (f b.v6 || false) h) [
+      | inl p ↦ from_one groups sites b s entry at b.v4 small.v4 (has_v4 b) p
+      | inr q ↦ elim (or_cases (f b.v6) false q) [
+        | inl p ↦ from_one groups sites b s entry at b.v6 small.v6 (has_v6 b) p
+        | inr none ↦ absurd (cc)
+      ]
+    ]
+
+entry_is : (groups : List Group) (sites : List Site) (b : Site) (s : End) (entry : Dest) → IsSiteOf sites b → IsSoundSite b → entry_reaches groups sites (serves b) s entry ≡ covers_own groups b s entry
+entry_is groups sites b s entry at small =
+    same_tests (entry_reaches groups sites (serves b) s entry) (covers_own groups b s entry) (to_own groups sites b s entry at) (from_own groups sites b s entry at small)
+
+-- a destination covers a machine's end from another's by itself, or as `autogroup:self` by the two machines
+dest_is : (groups : List Group) (to : Selector) (a b : Site) (x y : Address)
+    → dest_covers groups to (site_end a x) (site_end b y) ≡ (covers groups to (site_end b y) || (is_own_devices to && is_own (holder_of a) (holder_of b)))
+dest_is groups sel.All a b x y = refl
+dest_is groups (sel.Net net) a b x y = or_none (covers groups (sel.Net net) (site_end b y))
+dest_is groups (sel.User login) a b x y = or_none (covers groups (sel.User login) (site_end b y))
+dest_is groups (sel.Group name) a b x y = or_none (covers groups (sel.Group name) (site_end b y))
+dest_is groups (sel.Tagged tag) a b x y = or_none (covers groups (sel.Tagged tag) (site_end b y))
+dest_is groups sel.Member a b x y = or_none (covers groups sel.Member (site_end b y))
+dest_is groups sel.AllTagged a b x y = or_none (covers groups sel.AllTagged (site_end b y))
+dest_is groups sel.Internet a b x y = or_none (covers groups sel.Internet (site_end b y))
+dest_is groups sel.OwnDevices a b x y = refl
+
+own_is : (groups : List Group) (entry : Dest) (a b : Site) (x : Address)
+    → covers_own groups b (site_end a x) entry ≡ (covers_site groups b entry.to || (is_own_devices entry.to && is_own (holder_of a) (holder_of b)))
+own_is groups entry a b x =
+    let c : Bool = is_own_devices entry.to && is_own (holder_of a) (holder_of b) in
+    let p : Address → Bool = λ y. covers groups entry.to (site_end b y) in
+    any_same (λ y. dest_covers groups entry.to (site_end a x) (site_end b y)) (λ y. p y || c) (site_addresses b) (λ y. dest_is groups entry.to a b x y)
+    ∙ either_or (p b.v4) (p b.v6) c
+
+-- the rule lets through from one machine to the other whoever may send
+abbrev goes : List Group → Site → Site → Rule → Bool
+goes groups a b r = takes groups r b || joins_own_by r a b
+
+dests_are : (groups : List Group) (sites : List Site) (a b : Site) (x : Address) (r : Rule) → IsSiteOf sites b → IsSoundSite b
+    → list_any (entry_reaches groups sites (serves b) (site_end a x)) r.dests ≡ goes groups a b r
+dests_are groups sites a b x r at small =
+    let c : Bool = is_own (holder_of a) (holder_of b) in
+    let p : Dest → Bool = λ entry. covers_site groups b entry.to in
+    let q : Dest → Bool = λ entry. is_own_devices entry.to in
+    any_same (entry_reaches groups sites (serves b) (site_end a x)) (λ entry. p entry || (q entry && c)) r.dests
+    (λ entry. entry_is groups sites b (site_end a x) entry at small ∙ own_is groups entry a b x)
+    ∙ (any_or p (λ entry. q entry && c) r.dests ∙ ap (λ m. list_any p r.dests || m) (any_and q c r.dests))
+
+-- one of the machine's addresses may send by the rule
+abbrev sends_at : List Group → Site → Address → Rule → Bool
+sends_at groups a x r = some_source groups r (site_end a x)
+
+rules_are : (groups : List Group) (rules : List Rule) (sites : List Site) (a b : Site) (x : Address) → IsSiteOf sites b → IsSoundSite b
+    → list_any (rule_reaches groups sites (serves b) (site_end a x)) rules ≡ list_any (λ r. sends_at groups a x r && goes groups a b r) rules
+rules_are groups rules sites a b x at small =
+    any_same (rule_reaches groups sites (serves b) (site_end a x)) (λ r. sends_at groups a x r && goes groups a b r) rules
+    (λ r. ap (λ m. sends_at groups a x r && m) (dests_are groups sites a b x r at small))
+
+one_address : (policy : Option Policy) (sites : List Site) (a b : Site) (x : Address) → AreSoundRules (rules_of policy) → IsSiteOf sites a → IsSiteOf sites b → IsSoundSite b → site_has x a ≡ true
+    → reaches_into policy sites (serves b) (end_at sites x) ≡ list_any (λ r. sends_at (groups_of policy) a x r && goes (groups_of policy) a b r) (rules_of policy)
+one_address policy sites a b x sound from at small has =
+    ap (λ (s : End). reaches_into policy sites (serves b) s) (end_is sites a from x has)
+    ∙ (reach_is policy sites (serves b) (site_end a x) sound ∙ rules_are (groups_of policy) (rules_of policy) sites a b x at small)
+
+-- both of a machine's addresses, rule by rule
+both_are : (groups : List Group) (rules : List Rule) (a b : Site)
+    → (list_any (λ r. sends_at groups a a.v4 r && goes groups a b r) rules || (list_any (λ r. sends_at groups a a.v6 r && goes groups a b r) rules || false)) ≡ site_reaches groups rules a b
+both_are groups rules a b =
+    let p : Rule → Bool = λ r. sends_at groups a a.v4 r in
+    let q : Rule → Bool = λ r. sends_at groups a a.v6 r in
+    let g : Rule → Bool = λ r. goes groups a b r in
+    any_pair (λ r. p r && g r) (λ r. q r && g r) rules
+    ∙ any_same (λ r. (p r && g r) || ((q r && g r) || false)) (λ r. sends groups r a && g r) rules
+    (λ r. either_and (p r) (q r) (g r) ∙ ap (λ m. m && g r) (any_pair (λ s. covers groups s (site_end a a.v4)) (λ s. covers groups s (site_end a a.v6)) r.sources))
+
+-- Reach between machines of the list goes by rules, over the two machines alone.
+pub local_reach : (policy : Option Policy) (sites : List Site) (a b : Site) → AreSoundRules (rules_of policy) → AreDistinct sites → Contains sites a → Contains sites b → IsSoundSite b
+    → reaches policy sites a b ≡ site_reaches (groups_of policy) (rules_of policy) a b
+local_reach policy sites a b sound distinct m n small =
+    let from : IsSiteOf sites a = record { distinct = distinct; inside = m } in
+    let at : IsSiteOf sites b = record { distinct = distinct; inside = n } in
+    let first = one_address policy sites a b a.v4 sound from at small (has_v4 a) in
+    let second = one_address policy sites a b a.v6 sound from at small (has_v6 a) in
+    ap (λ m. m || (reaches_into policy sites (serves b) (end_at sites a.v6) || false)) first
+    ∙ (ap (λ m. list_any (λ r. sends_at (groups_of policy) a a.v4 r && goes (groups_of policy) a b r) (rules_of policy) || (m || false)) second
+    ∙ both_are (groups_of policy) (rules_of policy) a b)

@@ -1,0 +1,56 @@
+//! Laws of the definitions. None of these functions does anything: each states a law.
+ghost use Rattle.std.specs.Prelude.{◌≡◌, ◌==◌, ◌&&◌, ◌||◌, ℕ, Contains, List, None, Option, not};
+ghost use Rattle.net_rows.specs.Damage.{damage};
+ghost use Rattle.net_rows.specs.declared.rows.Rows.{Rows};
+ghost use Rattle.policy_rows.specs.declared.policy.Policy.{Policy};
+ghost use Rattle.policy_eval.specs.Grants.{groups_of, rules_of};
+ghost use Rattle.policy_eval.specs.Reach.{AreSoundRules};
+ghost use Rattle.policy_eval.specs.Sites.{AreDistinct, sites_of};
+ghost use Rattle.policy_eval.specs.declared.site.Site.{Site};
+ghost use Rattle.settings.specs.declared.fields.SettingsFields.{SettingsFields};
+ghost use Rattle.peer_view.specs.Seen.{Node, Seen, node_reaches, seen_of, sees};
+ghost use Rattle.peer_view.specs.Reaches.{IsSoundSite, reaches, site_reaches};
+
+/// Whether a machine reaches another one depends on the rules and the two machines alone, whatever
+/// other machines there are.
+pub fn reach_is_local()
+    ensures sites { (policy : Option Policy) (sites : List Site) (a b : Site)
+        → AreSoundRules (rules_of policy) → AreDistinct sites
+        → Contains sites a → Contains sites b → IsSoundSite b
+        → reaches policy sites a b ≡ site_reaches (groups_of policy) (rules_of policy) a b }
+    ensures tables { (policy : Option Policy) (rows : Rows) (live : List ℕ) (a b : Site)
+        → AreSoundRules (rules_of policy) → damage rows ≡ None
+        → Contains (sites_of rows live) a → Contains (sites_of rows live) b
+        → reaches policy (sites_of rows live) a b
+        ≡ site_reaches (groups_of policy) (rules_of policy) a b }
+    ensures nodes { (settings : SettingsFields) (policy : Option Policy) (rows : Rows)
+        (live online : List ℕ) (a b : Node)
+        → AreSoundRules (rules_of policy) → damage rows ≡ None
+        → Contains (seen_of settings policy rows live online).nodes a
+        → Contains (seen_of settings policy rows live online).nodes b
+        → node_reaches (seen_of settings policy rows live online) a b
+        ≡ site_reaches (groups_of policy) (rules_of policy) a.site b.site }
+{}
+
+/// So does whether a machine sees another one. Who is seen sees, too.
+pub fn sight_is_mutual_and_by_rules()
+    ensures same { (w : Seen) (m p : Node) → sees w m p ≡ sees w p m }
+    ensures rules { (settings : SettingsFields) (policy : Option Policy) (rows : Rows)
+        (live online : List ℕ) (m p : Node)
+        → AreSoundRules (rules_of policy) → damage rows ≡ None
+        → Contains (seen_of settings policy rows live online).nodes m
+        → Contains (seen_of settings policy rows live online).nodes p
+        → sees (seen_of settings policy rows live online) m p
+        ≡ (not (m.row.id == p.row.id)
+        && (site_reaches (groups_of policy) (rules_of policy) m.site p.site
+        || site_reaches (groups_of policy) (rules_of policy) p.site m.site)) }
+{}
+
+/// Without a policy each live machine sees all others.
+pub fn all_see_all_without_policy()
+    ensures all { (settings : SettingsFields) (rows : Rows) (live online : List ℕ) (m p : Node)
+        → damage rows ≡ None
+        → Contains (seen_of settings None rows live online).nodes m
+        → Contains (seen_of settings None rows live online).nodes p
+        → sees (seen_of settings None rows live online) m p ≡ not (m.row.id == p.row.id) }
+{}

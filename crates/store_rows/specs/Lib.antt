@@ -1,0 +1,6 @@
+pub mod Reads
+pub mod Cells
+pub mod Lists
+pub mod Addresses
+pub mod Endpoints
+pub mod Rows

@@ -1,0 +1,25 @@
+//! Values that stand in one column.
+ghost use Rattle.std.specs.Prelude.{◌≡◌, IfOk};
+ghost use Rattle.store_rows.specs.Reads.{IsReadBack};
+ghost use Rattle.store_rows.specs.declared.cell.Cell.{Cell};
+
+use crate::cell::Cell;
+use std::alloc::Global;
+use tail_base::NoMemory;
+
+/// A value that stands in one column.
+pub trait Column: Drop + Sized {
+    /// How the value is stored.
+    ghost stored: { Self → Cell };
+
+    /// The values that the type has.
+    ghost Fits: { Self → Type 0 };
+
+    /// The value as it is stored.
+    fn write(&self, alloc: Global) -> Result<Cell, NoMemory>
+        ensures value { IfOk result (λ made. made ≡ stored self.now) };
+
+    /// The value that is stored so, if there is one.
+    fn read(alloc: Global, given: &Cell) -> Result<Option<Self>, NoMemory>
+        ensures exact { IfOk result (λ found. IsReadBack stored Fits given.now found) };
+}

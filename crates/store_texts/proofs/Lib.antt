@@ -1,0 +1,5 @@
+pub mod Deletes
+pub mod Inserts
+pub mod Meanings
+pub mod Selects
+pub mod Updates

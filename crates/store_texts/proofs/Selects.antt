@@ -1,0 +1,35 @@
+-- What the texts mean: computed.
+use Rattle.std.proofs.Common.{refl}
+use Rattle.sqlite_tied.specs.Compute.{everything}
+use Rattle.sqlite.specs.Listing.{understood}
+use Rattle.store_texts.specs.Commands.{select_meta, select_users, select_auth_keys, select_pending, select_machines, select_extras, select_policy}
+use Rattle.store_texts.specs.Means.{Means}
+use Rattle.store_texts.specs.Texts.{select_meta_text, select_users_text, select_auth_keys_text, select_pending_text, select_machines_text, select_extras_text, select_policy_text}
+
+pub select_meta_means : Means select_meta_text select_meta
+unfolding understood everything
+select_meta_means = record { command_is = refl; whole = refl; plain = (refl, refl); no_listing = refl }
+
+pub select_users_means : Means select_users_text select_users
+unfolding understood everything
+select_users_means = record { command_is = refl; whole = refl; plain = (refl, refl); no_listing = refl }
+
+pub select_auth_keys_means : Means select_auth_keys_text select_auth_keys
+unfolding understood everything
+select_auth_keys_means = record { command_is = refl; whole = refl; plain = (refl, refl); no_listing = refl }
+
+pub select_pending_means : Means select_pending_text select_pending
+unfolding understood everything
+select_pending_means = record { command_is = refl; whole = refl; plain = (refl, refl); no_listing = refl }
+
+pub select_machines_means : Means select_machines_text select_machines
+unfolding understood everything
+select_machines_means = record { command_is = refl; whole = refl; plain = (refl, refl); no_listing = refl }
+
+pub select_extras_means : Means select_extras_text select_extras
+unfolding understood everything
+select_extras_means = record { command_is = refl; whole = refl; plain = (refl, refl); no_listing = refl }
+
+pub select_policy_means : Means select_policy_text select_policy
+unfolding understood everything
+select_policy_means = record { command_is = refl; whole = refl; plain = (refl, refl); no_listing = refl }

@@ -1,0 +1,4 @@
+pub mod Commands
+pub mod Means
+pub mod Schema
+pub mod Texts

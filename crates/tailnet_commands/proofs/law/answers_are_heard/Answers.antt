@@ -1,5 +1,0 @@
-use Rattle.tailnet_commands.proofs.Heard.{heard, heard_before_refusal, nothing_heard}
-use Rattle.tailnet_commands.proofs.law.answers_are_heard.Goals as goal
-
-pub returns : goal.returns
-returns c = record { whole = heard; before_refusal = heard_before_refusal; nothing = nothing_heard }

@@ -1,5 +1,0 @@
-use Rattle.tailnet_commands.proofs.Heard.{ended_quiet}
-use Rattle.tailnet_commands.proofs.law.nothing_follows_the_end.Goals as goal
-
-pub returns : goal.returns
-returns c = record { quiet = ended_quiet }

@@ -1,7 +1,0 @@
-use Rattle.tailnet_commands.proofs.Writes.{wrote_more, parts}
-use Rattle.tailnet_commands.proofs.writing.write_all.Goals as goal
-
-pub loop-rest-preserved : goal.loop-rest-preserved
-loop-rest-preserved g c = λ new now failed w.
-    let done = c.in_ok-n.ensures in
-    c.loop-rest.invariant new now failed (wrote_more _ _ new _ _ now _ _ _ failed (parts c.loop-rest.rest.now c.in_ok-n.n) done.appended done.cause.later w)

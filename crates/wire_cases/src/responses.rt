@@ -1,0 +1,134 @@
+//! The texts of `tailcfg`'s own names, as a client reads them, and the frames that carry them.
+use crate::parts::{dns, empty, node, one, patch, profile, rule};
+use map_delta::frame_bytes;
+use std::alloc::Global;
+use std::test::Fail;
+use tail_base::{Duplicate, Items, Text};
+use tailcfg::Response;
+use wire_text::{login_at_text, registered_text, response_text};
+
+// Whole maps are among the conversations of the program.
+#[test]
+fn a_change(rt: HostRuntime) -> Result<(), Fail> {
+    let alloc = rt.alloc();
+    let mut closing = empty(alloc);
+    closing.seq = Some(2);
+    closing.filter = Some(Items::new(alloc));
+    closing.removed = Items::from_slice(alloc, &[2])?;
+    let text = response_text(alloc, &closing)?;
+    assert!(rt; text.as_str() == "{\"PacketFilter\":[],\"PeersRemoved\":[2],\"Seq\":2}");
+    Ok(())
+}
+
+#[test]
+fn a_registration(rt: HostRuntime) -> Result<(), Fail> {
+    let alloc = rt.alloc();
+    let registered = registered_text(alloc, &profile(alloc, 1, "seed@", "seed")?, false)?;
+    assert!(rt;
+        registered.as_str()
+            == "{\"AuthURL\":\"\",\"Error\":\"\",\"Login\":{\"ID\":1,\"LoginName\":\"seed@\"},\"MachineAuthorized\":true,\"NodeKeyExpired\":false,\"User\":{\"DisplayName\":\"seed\",\"ID\":1}}"
+    );
+    Ok(())
+}
+
+#[test]
+fn a_waiting_machine(rt: HostRuntime) -> Result<(), Fail> {
+    let alloc = rt.alloc();
+    let server = Text::from_str(alloc, "http://tail.example")?;
+    let pending = Text::from_str(alloc, "reg-1-00000000000000010000000000000002")?;
+    let waiting = login_at_text(alloc, &server, &pending)?;
+    assert!(rt;
+        waiting.as_str()
+            == "{\"AuthURL\":\"http://tail.example/register/reg-1-00000000000000010000000000000002\",\"Error\":\"\",\"Login\":{\"ID\":0,\"LoginName\":\"\"},\"MachineAuthorized\":false,\"NodeKeyExpired\":false,\"User\":{\"DisplayName\":\"\",\"ID\":0}}"
+    );
+    Ok(())
+}
+
+fn add_texts(alloc: Global, response: &mut Response) -> Result<(), Fail> {
+    response.handle = Some(Text::from_str(alloc, "s1")?);
+    response.seq = Some(7);
+    response.domain = Some(Text::from_str(alloc, "tail.example")?);
+    Ok(())
+}
+
+fn add_rows(alloc: Global, response: &mut Response) -> Result<(), Fail> {
+    response.changed = one(alloc, node(alloc)?)?;
+    response.removed = Items::from_slice(alloc, &[4, 6])?;
+    response.patches = one(alloc, patch(alloc)?)?;
+    Ok(())
+}
+
+/// A response in which each kind of member stands.
+fn full(alloc: Global) -> Result<Response, Fail> {
+    let mut response = empty(alloc);
+    add_texts(alloc, &mut response)?;
+    add_rows(alloc, &mut response)?;
+    response.filter = Some(one(alloc, rule(alloc)?)?);
+    response.dns = Some(dns(alloc)?);
+    let tagged = profile(alloc, 2_147_483_647, "tagged-devices", "Tagged Devices")?;
+    response.profiles = one(alloc, tagged)?;
+    Ok(response)
+}
+
+/// The text of that response, a member a line.
+const FULL: [&str; 9] = [
+    "{\"DNSConfig\":{\"Domains\":[\"tail.example\"],\"ExtraRecords\":[{\"Name\":\"nas.tail.example\",\"Type\":\"A\",\"Value\":\"100.64.0.9\"},{\"Name\":\"six.tail.example\",\"Type\":\"AAAA\",\"Value\":\"fd7a:115c:a1e0::9\"}],\"Proxied\":true,\"Resolvers\":[{\"Addr\":\"1.1.1.1\"},{\"Addr\":\"2606:4700:4700::1111\"}],\"Routes\":{\"corp.example\":[{\"Addr\":\"fd00::53\"}],\"example.net\":[{\"Addr\":\"10.0.0.55\"}],\"example.org\":[{\"Addr\":\"10.0.0.53\"}]}},",
+    "\"Domain\":\"tail.example\",",
+    "\"MapSessionHandle\":\"s1\",",
+    "\"PacketFilter\":[{\"DstPorts\":[{\"IP\":\"fd7a:115c:a1e0::2\",\"Ports\":{\"First\":22,\"Last\":22}}],\"IPProto\":[6],\"SrcIPs\":[\"10.0.0.0/8\",\"100.64.0.1\"]}],",
+    "\"PeersChanged\":[{\"Addresses\":[\"100.64.0.1/32\",\"fd7a:115c:a1e0::1/128\"],\"AllowedIPs\":[\"::/0\"],\"Created\":\"2001-09-09T01:46:40Z\",\"DiscoKey\":\"discokey:0000000000000000000000000000000000000000000000000000000000000000\",\"Endpoints\":[],\"HomeDERP\":0,\"Hostinfo\":{\"Hostname\":\"no\\\"de\"},\"ID\":5,\"Key\":\"nodekey:a5a5a5a5a5a5a5a5a5a5a5a5a5a5a5a5a5a5a5a5a5a5a5a5a5a5a5a5a5a5a5a5\",\"KeyExpiry\":\"0001-01-01T00:00:00Z\",\"Machine\":\"mkey:1111111111111111111111111111111111111111111111111111111111111111\",\"MachineAuthorized\":true,\"Name\":\"node.tail.example.\",\"Online\":false,\"StableID\":\"n5\",\"Tags\":[],\"User\":2147483647}],",
+    "\"PeersChangedPatch\":[{\"DERPRegion\":3,\"Endpoints\":[\"192.0.2.7:41641\",\"[fd00::1]:5\"],\"NodeID\":2,\"Online\":false}],",
+    "\"PeersRemoved\":[4,6],",
+    "\"Seq\":7,",
+    "\"UserProfiles\":[{\"DisplayName\":\"Tagged Devices\",\"ID\":2147483647,\"LoginName\":\"tagged-devices\"}]}",
+];
+
+fn full_text(alloc: Global) -> Result<Text, Fail> {
+    let mut wanted = Text::new(alloc);
+    for line in &FULL {
+        wanted.push(line)?;
+    }
+    Ok(wanted)
+}
+
+#[test]
+fn a_whole_response(rt: HostRuntime) -> Result<(), Fail> {
+    let alloc = rt.alloc();
+    let wanted = full_text(alloc)?;
+    let made = response_text(alloc, &full(alloc)?)?;
+    assert_eq!(rt; made.as_str(), wanted.as_str());
+    Ok(())
+}
+
+#[test]
+fn a_frame_has_the_length_of_its_text(rt: HostRuntime) -> Result<(), Fail> {
+    let alloc = rt.alloc();
+    let mut greeting = empty(alloc);
+    greeting.handle = Some(Text::from_str(alloc, "s1-0000000000000001")?);
+    let frame = frame_bytes(alloc, &greeting)?;
+    let wanted: &[u8] = b"\x2a\x00\x00\x00{\"MapSessionHandle\":\"s1-0000000000000001\"}";
+    assert!(rt; frame.as_slice() == wanted);
+    Ok(())
+}
+
+fn are_rows_copied(alloc: Global) -> Result<bool, Fail> {
+    let node = node(alloc)?.copy(alloc)?;
+    let profile = profile(alloc, 1, "ann@", "ann")?.copy(alloc)?;
+    Ok(node.name.as_str() == "node.tail.example." && profile.display.as_str() == "ann")
+}
+
+fn are_settings_copied(alloc: Global) -> Result<bool, Fail> {
+    let dns = dns(alloc)?.copy(alloc)?;
+    let rule = rule(alloc)?.copy(alloc)?;
+    Ok(dns.extras.len() == 2 && dns.settings.routes.len() == 4 && rule.dests.len() == 1)
+}
+
+#[test]
+fn parts_of_responses_are_copied(rt: HostRuntime) -> Result<(), Fail> {
+    let alloc = rt.alloc();
+    let patch = patch(alloc)?.copy(alloc)?;
+    assert_eq!(rt; patch.online, Some(false));
+    assert!(rt; are_rows_copied(alloc)?);
+    assert!(rt; are_settings_copied(alloc)?);
+    Ok(())
+}

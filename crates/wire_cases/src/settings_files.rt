@@ -1,0 +1,159 @@
+//! Settings files: their faults, defaults and keys; and the words of the command line.
+use settings::SettingsFields;
+use std::alloc::Global;
+use std::test::Fail;
+use tail_words::{Command, SettingsFault, read_command, read_settings, read_words};
+use tailcfg::DnsSettings;
+
+/// The rule and key of the fault of a settings file.
+fn is_refused(rt: &HostRuntime, text: &[u8], rule: u8, key: &str) -> bool {
+    match read_settings(rt.alloc(), text) {
+        Err(SettingsFault::Refused { rule: r, key: k }) => r.number() == rule && k.as_str() == key,
+        _ => false,
+    }
+}
+
+/// A line is the number and the key of the first rule that a file breaks, and the file with `; ` for the ends of its lines.
+const FAULTY: &str = r#"1 text token
+4 workers workers = 0; base_domain = "a.example"
+4 workers workers = 65
+3 workers workers = 1.0
+4 workers workers = -1
+3 base_domain workers = 0; base_domain = 3
+2 work workers = 0; work = 1
+4 base_domain base_domain = "a..b"
+4 token token = ""
+4 server_url server_url = "a b"
+3 listen listen = 8080
+4 connections connections = 1000000001
+4 requests key_seconds = 0; requests = 0
+4 ephemeral_seconds ephemeral_seconds = 0
+4 prefix_v4 prefix_v4 = "100.64.0.0/31"
+4 prefix_v4 prefix_v4 = "100.0.0.0/10"
+4 prefix_v4 prefix_v4 = "fd7a:115c:a1e0::/48"
+3 prefix_v4 prefix_v4 = 10
+4 prefix_v6 prefix_v6 = "fd7a:115c:a1e0::/127"
+3 dns dns = 1
+3 dns.magic dns.magic = 1
+2 dns.magic "dns.magic" = true
+2 dns.other dns.other = 1
+3 dns.resolvers dns.resolvers = ["1.1.1.1", 1]
+4 dns.resolvers dns.resolvers = ["1.1.1.256"]
+3 dns.routes dns.routes = { "a..b" = [1] }
+4 dns.routes dns.routes = { "a..b" = ["1.1.1.1"] }
+4 dns.search dns.search = ["a.b", "-"]
+5 base_domain dns.search = []; connections = 0
+5 token server_url = "http://a"; base_domain = "a.b""#;
+
+/// The file that a line of the table stands for.
+fn file_of(alloc: Global, text: &str) -> Result<String, Fail> {
+    let mut file = String::new(alloc);
+    for line in text.split("; ") {
+        file.push_str(line)?;
+        file.push_str("\n")?;
+    }
+    Ok(file)
+}
+
+#[test]
+fn files_and_their_first_faults(rt: HostRuntime) -> Result<(), Fail> {
+    for line in FAULTY.lines() {
+        let (rule, rest) = line.split_once(" ").ok_or("no rule")?;
+        let (key, text) = rest.split_once(" ").ok_or("no key")?;
+        let file = file_of(rt.alloc(), text)?;
+        let rule = rule.parse::<u8>().ok().ok_or("no number")?;
+        assert!(rt; is_refused(&rt, file.as_bytes(), rule, key), "{line}");
+    }
+    assert!(rt; is_refused(&rt, b"token = \"\xff\"", 1, "text"));
+    Ok(())
+}
+
+/// Whether the settings are those of a file with the needed keys alone.
+fn are_defaults(fields: &SettingsFields) -> bool {
+    fields.base_domain.as_str() == "ts.example"
+        && fields.server_url.as_str() == "https://a.example"
+        && fields.token.as_str() == "t"
+        && fields.listen.as_str() == "127.0.0.1:8080"
+        && fields.database.as_str() == ":memory:"
+        && fields.dns.proxied
+        && fields.workers == 4
+        && fields.prefix_v4.len() == 10
+        && fields.dns.domains.len() == 1
+        && fields.dns.domains.as_slice()[0].as_str() == "ts.example"
+}
+
+#[test]
+fn a_whole_file(rt: HostRuntime) -> Result<(), Fail> {
+    let text = b"base_domain = \"ts.example\"\nserver_url = \"https://a.example\"\ntoken = \"t\"\n";
+    let settings = read_settings(rt.alloc(), text).ok().ok_or("a good file")?;
+    assert!(rt; are_defaults(settings.fields()));
+    Ok(())
+}
+
+const ALL_KEYS: &[u8] =
+    b"base_domain = \"ts.example\"\nserver_url = \"https://a.example\"\ntoken = \"t\"\n\
+        connections = 1\ndatabase = \"d\"\nephemeral_seconds = 2\npending_seconds = 3\nkey_seconds = 4\n\
+        listen = \"l\"\npoll_turns = 5\nrequests = 6\nprefix_v4 = \"100.64.1.0/30\"\n\
+        prefix_v6 = \"fd7a:115c:a1e0:1::/126\"\nworkers = 64\n[dns]\nmagic = false\n\
+        resolvers = [\"1.1.1.1\", \"::1\"]\nroutes = { \"b.c\" = [], \"a.b\" = [\"2.2.2.2\"] }\nsearch = [\"x.y\"]\n";
+
+/// Whether the settings are those of the file with all keys.
+fn are_all_keys(fields: &SettingsFields) -> bool {
+    fields.connections == 1
+        && fields.ephemeral_seconds == 2
+        && fields.pending_seconds == 3
+        && fields.key_seconds == 4
+        && fields.poll_turns == 5
+        && fields.requests == 6
+        && fields.database.as_str() == "d"
+        && fields.listen.as_str() == "l"
+        && fields.workers == 64
+        && fields.prefix_v4.len() == 30
+        && fields.prefix_v6.len() == 126
+}
+
+/// The same of its table `dns`.
+fn is_all_dns(dns: &DnsSettings) -> bool {
+    !dns.proxied
+        && dns.resolvers.len() == 2
+        && dns.routes.len() == 2
+        && dns.routes.as_slice()[0].suffix.as_str() == "a.b"
+        && dns.domains.len() == 1
+        && dns.domains.as_slice()[0].as_str() == "x.y"
+}
+
+#[test]
+fn all_keys_of_a_file(rt: HostRuntime) -> Result<(), Fail> {
+    let settings = read_settings(rt.alloc(), ALL_KEYS)
+        .ok()
+        .ok_or("a good file")?;
+    assert!(rt; are_all_keys(settings.fields()));
+    assert!(rt; is_all_dns(&settings.fields().dns));
+    Ok(())
+}
+
+#[test]
+fn words_of_the_command_line(rt: HostRuntime) -> Result<(), Fail> {
+    let mut words = Vec::new(rt.alloc());
+    words.push(String::from_str(rt.alloc(), "pipe")?)?;
+    assert!(rt; read_words(&words).is_none());
+    words.push(String::from_str(rt.alloc(), "a.toml")?)?;
+    let alone = read_words(&words).ok_or("a file")?;
+    assert!(rt; alone.file == "a.toml" && alone.seed.is_none());
+    words.push(String::from_str(rt.alloc(), "--seed")?)?;
+    assert!(rt; read_words(&words).is_none());
+    words.push(String::from_str(rt.alloc(), "k1")?)?;
+    let seeded = read_words(&words).ok_or("a seed")?;
+    assert!(rt; seeded.file == "a.toml" && seeded.seed == Some("k1"));
+    words.push(String::new(rt.alloc()))?;
+    assert!(rt; read_words(&words).is_none());
+    assert!(rt; matches!(read_command(&words[..2]), Some(Command::Pipe(_))));
+    let mut check = Vec::new(rt.alloc());
+    check.push(String::from_str(rt.alloc(), "policy-check")?)?;
+    assert!(rt; read_command(&check).is_none());
+    check.push(String::from_str(rt.alloc(), "a.hujson")?)?;
+    assert!(rt;
+        matches!(read_command(&check), Some(Command::PolicyCheck { file }) if file == "a.hujson")
+    );
+    Ok(())
+}
