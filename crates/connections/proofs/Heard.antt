@@ -1,5 +1,5 @@
 -- What is heard of a connection that broke off.
-use Rattle.std.proofs.Common.{◌≡◌, ℕ, Option, None, Some, List, [], ◌∷◌, ◌++◌, inl, inr, refl, sym, ap, ◌∙◌, append_assoc, ⊥}
+use Rattle.std.proofs.Common.{◌≡◌, ℕ, Option, None, Some, List, [], ◌∷◌, ◌++◌, inl, inr, refl, sym, ap, ◌∙◌, append_assoc}
 use Rattle.connections.specs.Exchanges.{Exchange, AreUnbroken, answers_of}
 use Rattle.run_ends.specs.Pieces.{IsPrefix}
 use Rattle.connections.specs.Connection.{IsBrokenOff, IsExtra}
