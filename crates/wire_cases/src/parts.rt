@@ -116,18 +116,23 @@ pub(crate) fn dns(alloc: Global) -> Result<Dns, Fail> {
     Ok(Dns { settings, extras })
 }
 
-/// A rule from a network and an address to the SSH port of another.
-pub(crate) fn rule(alloc: Global) -> Result<FilterRule, Fail> {
+/// The SSH port of an address.
+fn dests(alloc: Global) -> Result<Items<DestRange>, Fail> {
+    let to = prefix(b"fd7a:115c:a1e0::2/128")?;
     let ports = PortRange {
         first: 22,
         last: 22,
     };
-    let to = prefix(b"fd7a:115c:a1e0::2/128")?;
+    Ok(one(alloc, DestRange { to, ports })?)
+}
+
+/// A rule from a network and an address to the SSH port of another.
+pub(crate) fn rule(alloc: Global) -> Result<FilterRule, Fail> {
     let protos = Items::from_slice(alloc, &[6])?;
-    let dests = Items::from_slice(alloc, &[DestRange { to, ports }])?;
-    let sources = Sources::Only(prefixes(alloc, &[b"10.0.0.0/8", b"100.64.0.1/32"])?);
+    let dests = dests(alloc)?;
+    let sources = prefixes(alloc, &[b"10.0.0.0/8", b"100.64.0.1/32"])?;
     Ok(FilterRule {
-        sources,
+        sources: Sources::Only(sources),
         dests,
         protos,
     })
