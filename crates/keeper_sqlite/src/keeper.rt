@@ -1,5 +1,6 @@
 //! A keeper over a connection to a database.
-ghost use Rattle.std.specs.Prelude.{◌≡◌, None, false};
+ghost use Rattle.std.specs.Prelude.{◌≡◌, ◌≤◌, None, Err, false, IsTrue, OnOk, IsErrOf};
+ghost use Rattle.io_edge.specs.Edge.{Rose};
 
 use crate::commit::commit;
 use crate::fault::Fault;
@@ -49,6 +50,37 @@ impl<S: Alter> SqliteKeeper<S> {
     {
         self.faults
     }
+
+    /// Raises the count of faults.
+    fn raise(&mut self)
+        ensures rose { Rose self.old.faults self.new.faults }
+        ensures later { self.old.faults ≤ self.new.faults }
+        ensures same { self.new ≡ record self.old { faults = self.new.faults } }
+    {
+        self.faults = self.faults.saturating_add(1);
+    }
+
+    /// Keeps the change. Before the tables were loaded it fails, and nothing is asked of the store.
+    fn keep(&mut self, alloc: Global, change: &Change) -> Result<(), EdgeFault>
+        ensures waits { self.old.is_loaded ≡ false
+            → (result ≡ Err EdgeFault.Failed) × (self.new.conn ≡ self.old.conn) }
+        ensures calls { self.new.calls ≡ self.old.calls }
+        ensures later { self.old.faults ≤ self.new.faults }
+        ensures cause { IsErrOf result EdgeFault.Failed → Rose self.old.faults self.new.faults }
+    {
+        if !self.is_loaded {
+            self.raise();
+            return Err(EdgeFault::Failed);
+        }
+        match commit(&mut self.conn, alloc, change) {
+            Ok(()) => Ok(()),
+            Err(Fault::NoMemory) => Err(EdgeFault::NoMemory),
+            Err(Fault::Failed) => {
+                self.raise();
+                Err(EdgeFault::Failed)
+            }
+        }
+    }
 }
 
 impl<S: Alter + Drop> Keeper for SqliteKeeper<S> {
@@ -63,7 +95,7 @@ impl<S: Alter + Drop> Keeper for SqliteKeeper<S> {
         let loaded = load(&mut self.conn, alloc);
         match &loaded {
             Ok(_) => self.is_loaded = true,
-            Err(LoadFault::Failed) => self.faults = self.faults.saturating_add(1),
+            Err(LoadFault::Failed) => self.raise(),
             Err(LoadFault::Damaged { .. } | LoadFault::NoMemory) => {}
         }
         loaded
@@ -71,17 +103,6 @@ impl<S: Alter + Drop> Keeper for SqliteKeeper<S> {
 
     fn commit(&mut self, alloc: Global, change: &Change) -> Result<(), EdgeFault> {
         self.calls = self.calls.saturating_add(1);
-        if !self.is_loaded {
-            self.faults = self.faults.saturating_add(1);
-            return Err(EdgeFault::Failed);
-        }
-        match commit(&mut self.conn, alloc, change) {
-            Ok(()) => Ok(()),
-            Err(Fault::NoMemory) => Err(EdgeFault::NoMemory),
-            Err(Fault::Failed) => {
-                self.faults = self.faults.saturating_add(1);
-                Err(EdgeFault::Failed)
-            }
-        }
+        self.keep(alloc, change)
     }
 }

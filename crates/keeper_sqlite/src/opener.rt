@@ -1,5 +1,5 @@
 //! An opener over one connection.
-ghost use Rattle.std.specs.Prelude.{◌≡◌, None};
+ghost use Rattle.std.specs.Prelude.{◌≡◌, None, Some, Err, false, IfOk, OnErr};
 
 use crate::keeper::SqliteKeeper;
 use io_edge::EdgeFault;
@@ -24,6 +24,21 @@ impl<S: Alter> SqliteOpener<S> {
             faults: 0,
         }
     }
+
+    /// The connection as a keeper; a fault, and nothing else, while it is out.
+    fn hand_out(&mut self) -> Result<SqliteKeeper<S>, EdgeFault>
+        ensures held { IfOk result (λ keeper. self.old.conn ≡ Some keeper.conn) }
+        ensures fresh { IfOk result (λ keeper. (keeper.faults ≡ 0) × (keeper.calls ≡ 0)) }
+        ensures waits { IfOk result (λ keeper. keeper.is_loaded ≡ false) }
+        ensures out { self.old.conn ≡ None → result ≡ Err EdgeFault.Failed }
+        ensures err { OnErr result (result ≡ Err EdgeFault.Failed) }
+        ensures faults { self.new.faults ≡ self.old.faults }
+    {
+        match self.conn.take() {
+            Some(conn) => Ok(SqliteKeeper::adopt(conn)),
+            None => Err(EdgeFault::Failed),
+        }
+    }
 }
 
 impl<S: Alter + Drop + Send> Opener for SqliteOpener<S> {
@@ -36,13 +51,11 @@ impl<S: Alter + Drop + Send> Opener for SqliteOpener<S> {
     ghost faults = { λ o. o.faults };
 
     fn open(&mut self, _: Global, _: &str) -> Result<SqliteKeeper<S>, EdgeFault> {
-        match self.conn.take() {
-            Some(conn) => Ok(SqliteKeeper::adopt(conn)),
-            None => {
-                self.faults = self.faults.saturating_add(1);
-                Err(EdgeFault::Failed)
-            }
+        let handed = self.hand_out();
+        if handed.is_err() {
+            self.faults = self.faults.saturating_add(1);
         }
+        handed
     }
 
     fn close(&mut self, keeper: SqliteKeeper<S>) {
