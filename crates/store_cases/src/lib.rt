@@ -6,6 +6,8 @@ mod damaged;
 #[cfg(test)]
 mod files;
 #[cfg(test)]
+mod generic;
+#[cfg(test)]
 mod made;
 #[cfg(test)]
 mod others;
