@@ -9,7 +9,9 @@ use keeper_sqlite::HostOpener;
 use run_ends::Status;
 use std::alloc::Global;
 use std::fs;
+use std::sync::Wait;
 use std::test::Fail;
+use std::thread::Threads;
 use tail_base::{Bytes, Items, NoMemory, Text};
 
 const FOLDER: &str = "tailnetd_reopened";
@@ -39,7 +41,7 @@ fn settings(alloc: Global) -> Result<MemoryFiles, NoMemory> {
     Ok(MemoryFiles::new(files, Items::new(alloc)))
 }
 
-fn outside(alloc: Global, input: &[u8]) -> Result<Outside, NoMemory> {
+fn outside_of(alloc: Global, input: &[u8]) -> Result<Outside, NoMemory> {
     let mut moments = Items::new(alloc);
     moments.push(1_000_000_000)?;
     let mut random = Items::new(alloc);
@@ -65,16 +67,21 @@ fn words(alloc: Global) -> Result<Vec<String>, Fail> {
 }
 
 /// The top call over the host's databases.
-fn run(rt: &HostRuntime, words: &[String], given: &mut Outside) -> Status {
+fn run<R: Threads + Wait + Sync>(
+    threads: &R,
+    rt: HostRuntime,
+    words: &[String],
+    given: &mut Outside,
+) -> Status {
     tailnetd(
-        rt,
+        threads,
         rt.alloc(),
         words,
         &mut given.input,
         &mut given.output,
         &mut given.errors,
         &mut given.files,
-        &mut HostOpener::new(*rt),
+        &mut HostOpener::new(rt),
         &mut given.clock,
         &mut given.entropy,
         &mut NoDoors::new(),
@@ -84,10 +91,14 @@ fn run(rt: &HostRuntime, words: &[String], given: &mut Outside) -> Status {
 }
 
 /// What a whole run over the input answers.
-fn answers(rt: &HostRuntime, input: &[u8]) -> Result<MemorySink, Fail> {
+fn answers<R: Threads + Wait + Sync>(
+    threads: &R,
+    rt: HostRuntime,
+    input: &[u8],
+) -> Result<MemorySink, Fail> {
     let words = words(rt.alloc())?;
-    let mut given = outside(rt.alloc(), input)?;
-    if run(rt, &words, &mut given) == Status::Ok {
+    let mut given = outside_of(rt.alloc(), input)?;
+    if run(threads, rt, &words, &mut given) == Status::Ok {
         Ok(given.output)
     } else {
         Err(Fail::from("the run isn't whole"))
@@ -100,8 +111,8 @@ fn what_was_registered_is_listed_by_another_run(rt: HostRuntime) -> Result<(), F
     fs::create_dir(&rt, FOLDER)?;
     let mut both = Vec::from_slice(rt.alloc(), FIRST)?;
     both.extend_from_slice(NODES)?;
-    let first = answers(&rt, &both)?;
-    let second = answers(&rt, NODES)?;
+    let first = answers(&rt, rt, &both)?;
+    let second = answers(&rt, rt, NODES)?;
     assert!(rt; second.bytes().ends_with(b",\"user\":\"seed@\"}]}"));
     assert!(rt; first.bytes().ends_with(second.bytes()));
     fs::remove_dir_all(&rt, FOLDER)?;
