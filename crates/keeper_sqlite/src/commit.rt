@@ -1,4 +1,9 @@
 //! A change of the tables as one transaction.
+ghost use Rattle.std.specs.Prelude.{◌≡◌, is_ok, OnOk, OnErr};
+ghost use Rattle.sqlite.specs.State.{HasCleanDisk};
+ghost use Rattle.sqlite.specs.Held.{state};
+ghost use Rattle.keeper_sqlite.specs.Pending.{IsPending, IsSettled, Leaves};
+
 use crate::cells::values_of;
 use crate::fault::Fault;
 use crate::kept::Kept;
@@ -16,7 +21,11 @@ use tail_base::Text;
 use tailcfg::DnsExtra;
 
 /// Takes out the row of an id.
-fn remove<S: Alter>(tx: &mut Transaction<'_, S>, gone: RowKey) -> Result<(), Fault> {
+#[tactic(auto, using(crate::proofs::Pending::nothing, crate::proofs::Pending::then))]
+fn remove<S: Alter>(tx: &mut Transaction<'_, S>, gone: RowKey) -> Result<(), Fault>
+    ensures same_reference { tx.new.conn.ghost_name ≡ tx.old.conn.ghost_name }
+    ensures pending { IsPending S.Store tx.old.conn.now tx.new.conn.now (is_ok result) }
+{
     let (text, id) = match gone {
         RowKey::User(id) => (delete_users(), id),
         RowKey::Key(id) => (delete_auth_keys(), id),
@@ -27,7 +36,11 @@ fn remove<S: Alter>(tx: &mut Transaction<'_, S>, gone: RowKey) -> Result<(), Fau
     Ok(())
 }
 
-fn remove_all<S: Alter>(tx: &mut Transaction<'_, S>, gone: &[RowKey]) -> Result<(), Fault> {
+#[tactic(auto, using(crate::proofs::Pending::nothing, crate::proofs::Pending::then))]
+fn remove_all<S: Alter>(tx: &mut Transaction<'_, S>, gone: &[RowKey]) -> Result<(), Fault>
+    ensures same_reference { tx.new.conn.ghost_name ≡ tx.old.conn.ghost_name }
+    ensures pending { IsPending S.Store tx.old.conn.now tx.new.conn.now (is_ok result) }
+{
     for key in gone {
         remove(tx, *key)?;
     }
@@ -35,13 +48,17 @@ fn remove_all<S: Alter>(tx: &mut Transaction<'_, S>, gone: &[RowKey]) -> Result<
 }
 
 /// Replaces the row that has the key of these cells, and adds it where there is none.
+#[tactic(auto, using(crate::proofs::Pending::nothing, crate::proofs::Pending::then))]
 fn put_cells<S: Alter>(
     tx: &mut Transaction<'_, S>,
     alloc: Global,
     update: &str,
     insert: &str,
     cells: &[Cell],
-) -> Result<(), Fault> {
+) -> Result<(), Fault>
+    ensures same_reference { tx.new.conn.ghost_name ≡ tx.old.conn.ghost_name }
+    ensures pending { IsPending S.Store tx.old.conn.now tx.new.conn.now (is_ok result) }
+{
     let values = values_of(alloc, cells)?;
     if run(tx, update, values.as_slice())? == 0 {
         run(tx, insert, values.as_slice())?;
@@ -50,22 +67,30 @@ fn put_cells<S: Alter>(
 }
 
 /// Puts the row of an id.
+#[tactic(auto, using(crate::proofs::Pending::nothing, crate::proofs::Pending::then))]
 fn put<T: Kept, S: Alter>(
     tx: &mut Transaction<'_, S>,
     alloc: Global,
     row: &T,
-) -> Result<(), Fault> {
+) -> Result<(), Fault>
+    ensures same_reference { tx.new.conn.ghost_name ≡ tx.old.conn.ghost_name }
+    ensures pending { IsPending S.Store tx.old.conn.now tx.new.conn.now (is_ok result) }
+{
     let cells = row.write(alloc)?;
     put_cells(tx, alloc, T::update(), T::insert(), cells.as_slice())
 }
 
 /// Adds the extra record of a place.
+#[tactic(auto, using(crate::proofs::Pending::nothing, crate::proofs::Pending::then))]
 fn add_extra<S: Alter>(
     tx: &mut Transaction<'_, S>,
     alloc: Global,
     place: u32,
     extra: &DnsExtra,
-) -> Result<(), Fault> {
+) -> Result<(), Fault>
+    ensures same_reference { tx.new.conn.ghost_name ≡ tx.old.conn.ghost_name }
+    ensures pending { IsPending S.Store tx.old.conn.now tx.new.conn.now (is_ok result) }
+{
     let cells = write_extra(alloc, place, extra)?;
     let values = values_of(alloc, cells.as_slice())?;
     run(tx, insert_extras(), values.as_slice())?;
@@ -73,11 +98,15 @@ fn add_extra<S: Alter>(
 }
 
 /// Puts the list of extra records: all rows go, and the new ones stand from place 1 on.
+#[tactic(auto, using(crate::proofs::Pending::nothing, crate::proofs::Pending::then))]
 fn put_extras<S: Alter>(
     tx: &mut Transaction<'_, S>,
     alloc: Global,
     extras: &[DnsExtra],
-) -> Result<(), Fault> {
+) -> Result<(), Fault>
+    ensures same_reference { tx.new.conn.ghost_name ≡ tx.old.conn.ghost_name }
+    ensures pending { IsPending S.Store tx.old.conn.now tx.new.conn.now (is_ok result) }
+{
     run(tx, clear_extras(), &[])?;
     let mut place = 0u32;
     for extra in extras {
@@ -87,11 +116,15 @@ fn put_extras<S: Alter>(
     Ok(())
 }
 
+#[tactic(auto, using(crate::proofs::Pending::nothing, crate::proofs::Pending::then))]
 fn put_policy<S: Alter>(
     tx: &mut Transaction<'_, S>,
     alloc: Global,
     text: &Text,
-) -> Result<(), Fault> {
+) -> Result<(), Fault>
+    ensures same_reference { tx.new.conn.ghost_name ≡ tx.old.conn.ghost_name }
+    ensures pending { IsPending S.Store tx.old.conn.now tx.new.conn.now (is_ok result) }
+{
     let cells = write_policy_text(alloc, text)?;
     put_cells(
         tx,
@@ -102,7 +135,11 @@ fn put_policy<S: Alter>(
     )
 }
 
-fn put_row<S: Alter>(tx: &mut Transaction<'_, S>, alloc: Global, row: &Row) -> Result<(), Fault> {
+#[tactic(auto, using(crate::proofs::Pending::nothing, crate::proofs::Pending::then))]
+fn put_row<S: Alter>(tx: &mut Transaction<'_, S>, alloc: Global, row: &Row) -> Result<(), Fault>
+    ensures same_reference { tx.new.conn.ghost_name ≡ tx.old.conn.ghost_name }
+    ensures pending { IsPending S.Store tx.old.conn.now tx.new.conn.now (is_ok result) }
+{
     match row {
         Row::User(user) => put(tx, alloc, user),
         Row::Key(key) => put(tx, alloc, key),
@@ -113,11 +150,15 @@ fn put_row<S: Alter>(tx: &mut Transaction<'_, S>, alloc: Global, row: &Row) -> R
     }
 }
 
+#[tactic(auto, using(crate::proofs::Pending::nothing, crate::proofs::Pending::then))]
 fn put_all<S: Alter>(
     tx: &mut Transaction<'_, S>,
     alloc: Global,
     puts: &[Row],
-) -> Result<(), Fault> {
+) -> Result<(), Fault>
+    ensures same_reference { tx.new.conn.ghost_name ≡ tx.old.conn.ghost_name }
+    ensures pending { IsPending S.Store tx.old.conn.now tx.new.conn.now (is_ok result) }
+{
     for row in puts {
         put_row(tx, alloc, row)?;
     }
@@ -125,21 +166,29 @@ fn put_all<S: Alter>(
 }
 
 /// Puts the row of the counters.
+#[tactic(auto, using(crate::proofs::Pending::nothing, crate::proofs::Pending::then))]
 pub(crate) fn put_next<S: Alter>(
     tx: &mut Transaction<'_, S>,
     alloc: Global,
     next: &Counters,
-) -> Result<(), Fault> {
+) -> Result<(), Fault>
+    ensures same_reference { tx.new.conn.ghost_name ≡ tx.old.conn.ghost_name }
+    ensures pending { IsPending S.Store tx.old.conn.now tx.new.conn.now (is_ok result) }
+{
     let cells = write_meta(alloc, next)?;
     put_cells(tx, alloc, update_meta(), insert_meta(), cells.as_slice())
 }
 
 /// Writes the change: gone rows go first, then the rows are put in order, and then the counters.
+#[tactic(auto, using(crate::proofs::Pending::nothing, crate::proofs::Pending::then))]
 fn write<S: Alter>(
     tx: &mut Transaction<'_, S>,
     alloc: Global,
     change: &Change,
-) -> Result<(), Fault> {
+) -> Result<(), Fault>
+    ensures same_reference { tx.new.conn.ghost_name ≡ tx.old.conn.ghost_name }
+    ensures pending { IsPending S.Store tx.old.conn.now tx.new.conn.now (is_ok result) }
+{
     remove_all(tx, change.gone.as_slice())?;
     put_all(tx, alloc, change.puts.as_slice())?;
     put_next(tx, alloc, &change.next)
@@ -150,7 +199,12 @@ pub(crate) fn commit<S: Alter>(
     conn: &mut Connection<S>,
     alloc: Global,
     change: &Change,
-) -> Result<(), Fault> {
+) -> Result<(), Fault>
+    ensures ok { HasCleanDisk (state S.Store conn.new)
+        → OnOk result (IsSettled (state S.Store conn.new)) }
+    ensures err { HasCleanDisk (state S.Store conn.new)
+        → OnErr result (Leaves (state S.Store conn.old) (state S.Store conn.new)) }
+{
     if !conn.is_autocommit() {
         return Err(Fault::Failed);
     }

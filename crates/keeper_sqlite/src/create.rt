@@ -1,4 +1,7 @@
 //! The tables of a database that has none.
+ghost use Rattle.std.specs.Prelude.{◌≡◌, is_ok};
+ghost use Rattle.keeper_sqlite.specs.Pending.{IsPending};
+
 use crate::commit::put_next;
 use crate::fault::Fault;
 use crate::sql::run;
@@ -18,7 +21,11 @@ pub(crate) const FIRST: Counters = Counters {
     machine: 1,
 };
 
-fn make_tables<S: Alter>(tx: &mut Transaction<'_, S>) -> Result<(), Fault> {
+#[tactic(auto, using(crate::proofs::Pending::nothing, crate::proofs::Pending::then))]
+fn make_tables<S: Alter>(tx: &mut Transaction<'_, S>) -> Result<(), Fault>
+    ensures same_reference { tx.new.conn.ghost_name ≡ tx.old.conn.ghost_name }
+    ensures pending { IsPending S.Store tx.old.conn.now tx.new.conn.now (is_ok result) }
+{
     let texts = [
         create_meta(),
         create_users(),

@@ -117,7 +117,8 @@ fn are_plain(orders: &[Order], places: &[usize]) -> bool
 /// Whether the key is the first column, and the rowid.
 fn is_keyed(table: &Table) -> bool
     ensures exact { IsTrue result
-        ↔ ((table.now.key ≡ Some 0) × (table.now.primary ≡ 0 ∷ []) × (table.now.is_counted ≡ false)) }
+        ↔ ((table.now.key ≡ Some 0) × (table.now.primary ≡ 0 ∷ [])
+        × (table.now.is_counted ≡ false)) }
 {
     table.key == Some(0) && is_alone(table.primary.as_slice(), 0) && !table.is_counted
 }
@@ -136,8 +137,8 @@ fn is_plain(table: &Table) -> bool
         && table.stamps.formats.is_empty()
 }
 
-/// Whether the table has this name, this place in the store, and these columns, of which those at these
-/// places are unique.
+/// Whether the table has this name, this place in the store, and these columns, of which those at
+/// these places are unique.
 pub(crate) fn is_table(
     table: &Table,
     name: &str,

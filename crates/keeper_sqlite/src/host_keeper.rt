@@ -9,8 +9,8 @@ use row_keeper::{Keeper, LoadFault};
 use sqlite::{File, FileStore, MemStore};
 use std::alloc::Global;
 
-/// A keeper over a database in memory, or over one in a file. It has no type parameter, so that code
-/// that asks for `Send` sees nothing of the stores.
+/// A keeper over a database in memory, or over one in a file. It has no type parameter, so that
+/// code that asks for `Send` sees nothing of the stores.
 #[derive(Drop)]
 pub enum HostKeeper {
     Memory(SqliteKeeper<MemStore>),
@@ -28,7 +28,8 @@ impl HostKeeper {
         }
     }
 
-    /// Lets the database go. A file first gets what stands in its log; where that fails, the log keeps it.
+    /// Lets the database go. A file first gets what stands in its log; where that fails, the log
+    /// keeps it.
     pub(crate) fn end(self) {
         match self {
             HostKeeper::Memory(_keeper) => {}

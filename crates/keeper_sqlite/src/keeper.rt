@@ -1,6 +1,9 @@
 //! A keeper over a connection to a database.
-ghost use Rattle.std.specs.Prelude.{◌≡◌, ◌≤◌, None, Err, false, IsTrue, OnOk, IsErrOf};
+ghost use Rattle.std.specs.Prelude.{◌≡◌, ◌≤◌, None, Err, false, IsTrue, OnOk, OnErr, IsErrOf};
 ghost use Rattle.io_edge.specs.Edge.{Rose};
+ghost use Rattle.keeper_sqlite.specs.Pending.{IsSettled, Leaves};
+ghost use Rattle.sqlite.specs.Held.{state};
+ghost use Rattle.sqlite.specs.State.{HasCleanDisk};
 
 use crate::commit::commit;
 use crate::fault::Fault;
@@ -64,6 +67,10 @@ impl<S: Alter> SqliteKeeper<S> {
     fn keep(&mut self, alloc: Global, change: &Change) -> Result<(), EdgeFault>
         ensures waits { self.old.is_loaded ≡ false
             → (result ≡ Err EdgeFault.Failed) × (self.new.conn ≡ self.old.conn) }
+        ensures ok { HasCleanDisk (state S.Store self.new.conn)
+            → OnOk result (IsSettled (state S.Store self.new.conn)) }
+        ensures err { HasCleanDisk (state S.Store self.new.conn)
+            → OnErr result (Leaves (state S.Store self.old.conn) (state S.Store self.new.conn)) }
         ensures calls { self.new.calls ≡ self.old.calls }
         ensures later { self.old.faults ≤ self.new.faults }
         ensures cause { IsErrOf result EdgeFault.Failed → Rose self.old.faults self.new.faults }

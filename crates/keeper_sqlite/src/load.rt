@@ -1,4 +1,8 @@
 //! The tables that a database keeps.
+ghost use Rattle.std.specs.Prelude.{◌≡◌, OnOk};
+ghost use Rattle.sqlite.specs.Held.{state};
+ghost use Rattle.store_texts.specs.Schema.{schema_1};
+
 use crate::cells::cells_of;
 use crate::create::{FIRST, create};
 use crate::fault::Fault;
@@ -178,7 +182,8 @@ fn read_texts<S: Alter>(
     Ok(())
 }
 
-/// All rows that the database keeps. The first in the order of reading that is no stored row is damaged.
+/// All rows that the database keeps. The first in the order of reading that is no stored row is
+/// damaged.
 fn read_rows<S: Alter>(conn: &mut Connection<S>, alloc: Global) -> Result<Rows, LoadFault> {
     let mut rows = no_rows(alloc);
     read_users(conn, alloc, &mut rows)?;
@@ -187,8 +192,8 @@ fn read_rows<S: Alter>(conn: &mut Connection<S>, alloc: Global) -> Result<Rows, 
     Ok(rows)
 }
 
-/// Makes the tables in a database that has nothing. One that has what the store doesn't read is left as it
-/// is.
+/// Makes the tables in a database that has nothing. One that has what the store doesn't read is left
+/// as it is.
 fn make<S: Alter>(conn: &mut Connection<S>, alloc: Global) -> Result<(), Fault> {
     let listed = rows_of(conn, "SELECT name FROM sqlite_schema")?;
     if listed.is_empty() {
@@ -199,7 +204,9 @@ fn make<S: Alter>(conn: &mut Connection<S>, alloc: Global) -> Result<(), Fault> 
 }
 
 /// Sees that the database has our tables and nothing else, and makes them where it has nothing.
-fn prepare<S: Alter>(conn: &mut Connection<S>, alloc: Global) -> Result<(), LoadFault> {
+fn prepare<S: Alter>(conn: &mut Connection<S>, alloc: Global) -> Result<(), LoadFault>
+    ensures ours { OnOk result ((state S.Store conn.new).now.schema ≡ schema_1) }
+{
     if is_empty(conn.schema()) {
         make(conn, alloc)?;
     }
