@@ -5,6 +5,7 @@ mod faults;
 mod limits;
 mod lives;
 mod refusals;
+mod reopened;
 mod rows;
 mod talks;
 mod words;
