@@ -7,7 +7,7 @@ use Rattle.net_rows.specs.Rows.{after}
 use Rattle.net_rows.specs.declared.change.Change.{Change}
 use Rattle.net_rows.specs.declared.machine.Machine.{Machine}
 use Rattle.tailcfg.specs.declared.update.Update.{Update}
-use Rattle.map_delta.specs.Fresh.{fresh}
+use Rattle.fresh_maps.specs.Fresh.{fresh}
 use Rattle.desk_state.specs.Decisions.{changing, only}
 use Rattle.desk_state.specs.State.{State, is_live}
 use Rattle.desk_state.specs.declared.decision.Decision.{Decision}

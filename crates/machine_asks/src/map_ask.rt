@@ -14,7 +14,7 @@ use crate::told::told_row;
 use crate::who_asks::asking;
 use desk_state::{Decision, Refusal, Snapshot, is_live, keep_rules};
 use machine_rows::{row_replaced, same_told};
-use map_delta::plain_map;
+use fresh_maps::plain_map;
 use net_rows::{Change, Machine, Tables};
 use std::alloc::Global;
 use tail_base::{Duplicate, Failure, Items, MachineKey, NoMemory, NodeKey};

@@ -10,7 +10,7 @@ use crate::logout::{is_logout, logout, node_key_replaced, rotates};
 use crate::waiting::wait;
 use desk_state::{Decision, Refusal, Snapshot, is_live};
 use machine_rows::is_taken;
-use map_delta::profile_of;
+use fresh_maps::profile_of;
 use net_rows::Machine;
 use std::alloc::Global;
 use tail_base::{Failure, MachineKey, NoMemory, NodeKey};

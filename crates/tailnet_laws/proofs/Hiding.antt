@@ -11,9 +11,9 @@ use Rattle.net_rows.specs.declared.machine.Machine.{Machine}
 use Rattle.net_rows.proofs.PutLemmas.{put_member}
 use Rattle.tailcfg.specs.declared.profile.Profile.{Profile}
 use Rattle.tailcfg.specs.declared.register.Register.{Register}
-use Rattle.map_delta.specs.declared.view.View.{View}
+use Rattle.fresh_maps.specs.declared.view.View.{View}
 use Rattle.tailcfg.specs.declared.update.Update.{Update}
-use Rattle.map_delta.specs.Fresh.{fresh}
+use Rattle.fresh_maps.specs.Fresh.{fresh}
 use Rattle.desk_state.specs.Decisions.{changing, only}
 use Rattle.desk_state.specs.State.{State, is_ahead}
 use Rattle.desk_state.specs.Users.{tags_granted}

@@ -16,7 +16,7 @@ use Rattle.net_rows.proofs.Members.{cut_member, find_none, first_member, list_an
 use Rattle.net_rows.proofs.RowAt.{row_at_is}
 use Rattle.tailcfg.specs.declared.node_row.NodeRow.{NodeRow}
 use Rattle.tailcfg.specs.declared.update.Update.{Update}
-use Rattle.map_delta.specs.Fresh.{fresh, is_listed, is_peer_of, shown}
+use Rattle.fresh_maps.specs.Fresh.{fresh, is_listed, is_peer_of, shown}
 use Rattle.desk_state.specs.State.{State, is_ahead, is_live}
 use Rattle.desk_state.specs.declared.refusal.Refusal.TheVariants.{NotLive, UnknownMachine}
 use Rattle.desk_state.specs.declared.refusal.Refusal.{Refusal}

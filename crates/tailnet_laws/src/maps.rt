@@ -3,9 +3,9 @@ ghost use Rattle.std.specs.Prelude.{◌≡◌, ◌≢◌, ℕ, List, Option, Ok,
 ghost use Rattle.net_rows.specs.Sound.{AreSound};
 ghost use Rattle.net_rows.specs.declared.machine.Machine.{Machine};
 ghost use Rattle.tailcfg.specs.declared.node_row.NodeRow.{NodeRow};
-ghost use Rattle.map_delta.specs.declared.view.View.{View};
+ghost use Rattle.fresh_maps.specs.declared.view.View.{View};
 ghost use Rattle.tailcfg.specs.declared.update.Update as update;
-ghost use Rattle.map_delta.specs.Fresh.{fresh};
+ghost use Rattle.fresh_maps.specs.Fresh.{fresh};
 ghost use Rattle.desk_state.specs.State.{State, at_moment};
 ghost use Rattle.desk_state.specs.declared.decision.Decision.{Decision};
 ghost use Rattle.desk_state.specs.declared.refusal.Refusal.TheVariants.{NotLive};

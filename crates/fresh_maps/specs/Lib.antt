@@ -1,0 +1,4 @@
+pub mod Profiles
+pub mod Fresh
+pub mod Responses
+pub mod Frames

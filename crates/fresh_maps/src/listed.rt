@@ -1,0 +1,45 @@
+//! Ids that others are looked up among.
+ghost use Rattle.std.specs.Prelude.{◌≡◌};
+ghost use Rattle.fresh_maps.specs.Fresh.{is_listed};
+
+use std::marker::Model;
+
+/// Ids, and whether they rise: then one is found by halving.
+#[derive(Drop)]
+pub(crate) struct Listed<'a> {
+    ids: &'a [u32],
+    rise: bool,
+}
+
+impl<'a> Model for Listed<'a> {
+    ghost use Rattle.std.specs.Prelude.{◌≡◌, ℕ, List, true};
+    ghost use Rattle.std.specs.List.Sorted.{IsNonDecreasingBy};
+
+    ghost Value = { List ℕ };
+
+    ghost view = { λ a. a.ids.now };
+
+    ghost invariant = { λ a. a.rise ≡ true → IsNonDecreasingBy (λ id. id) a.ids.now };
+}
+
+impl<'a> Listed<'a> {
+    pub(crate) fn of(ids: &'a [u32]) -> Listed<'a>
+        ensures value { result ≡ ids.now }
+    {
+        Listed {
+            ids,
+            rise: ids.is_sorted(),
+        }
+    }
+
+    /// Whether the id is one of them.
+    pub(crate) fn has(&self, id: u32) -> bool
+        ensures value { result ≡ is_listed self.now id }
+    {
+        if self.rise {
+            self.ids.binary_search(&id).is_ok()
+        } else {
+            self.ids.iter().any(|other| *other == id)
+        }
+    }
+}
