@@ -1,3 +1,4 @@
-pub mod ListedLemmas
-pub mod NodeLemmas
+pub mod FilterLemmas
+pub mod OrderLemmas
+pub mod PeerLemmas
 pub mod ShownLemmas

@@ -1,16 +1,11 @@
 -- The map of a machine, computed afresh (`tailcfg.MapResponse`).
-use Rattle.std.specs.Prelude.{List, ◌∷◌, map}
+use Rattle.std.specs.Prelude.{List, [], ◌∷◌, Option, Some, None, map, if◌then◌else◌}
 use Rattle.tailcfg.specs.declared.node_row.NodeRow.{NodeRow}
-use Rattle.policy_eval.specs.declared.site.Site.{Site}
 use Rattle.filter_compile.specs.Filters.{filter_of}
-use Rattle.peer_view.specs.Seen.{Node, Seen, visible}
+use Rattle.peer_view.specs.Seen.{Node, Seen, sees, sites_seen, visible}
 use Rattle.peer_view.specs.Shown.{own_row, shown}
 use Rattle.fresh_maps.specs.Profiles.{owners_of}
 use Rattle.fresh_maps.specs.declared.view.View.{View}
-
--- the live machines as policies see them
-abbrev pub sites_seen : Seen → List Site
-sites_seen w = map (λ n. n.site) w.nodes
 
 -- the rows of the machines that it sees, by id, as it is shown them
 abbrev pub peers_of : Seen → Node → List NodeRow
@@ -27,3 +22,8 @@ fresh w m = record {
   domain = w.settings.base_domain;
   profiles = owners_of w.users (own_row w m ∷ peers_of w m);
 }
+
+-- the row of one of the live machines, if there is one and the viewer sees it
+abbrev pub row_shown : Seen → Node → Option Node → List NodeRow
+row_shown w viewer None = []
+row_shown w viewer (Some peer) = if sees w viewer peer then shown w viewer (visible w viewer) peer ∷ [] else []

@@ -1,4 +1,6 @@
-pub mod Profiles
 pub mod Fresh
-pub mod Responses
 pub mod Frames
+pub mod Granted
+pub mod InOrder
+pub mod Profiles
+pub mod Responses

@@ -22,7 +22,7 @@ pub(crate) fn own_addresses(alloc: Global, machine: &Machine) -> Result<Items<Pr
 }
 
 /// Whether the machine has a tag; its tags own it then, and not its user.
-pub(crate) fn is_tagged(machine: &Machine) -> bool
+fn is_tagged(machine: &Machine) -> bool
     ensures value { result ≡ is_tagged machine.now }
 {
     machine.tags.len() > 0

@@ -1,9 +1,12 @@
-use Rattle.std.proofs.Common.{◌≡◌, drop}
-use Rattle.std.specs.Prelude.{map, filter}
-use Rattle.fresh_maps.specs.Fresh.{is_peer_of, shown}
-use Rattle.fresh_maps.proofs.ShownLemmas.{gathered}
+use Rattle.std.proofs.Common.{◌≡◌, ◌++◌, drop}
+use Rattle.std.specs.Prelude.{flat_map}
+use Rattle.policy_eval.specs.declared.site.Site.{Site}
+use Rattle.peer_view.specs.Seen.{node_with}
+use Rattle.fresh_maps.specs.Fresh.{row_shown}
 use Rattle.fresh_maps.proofs.fresh.peers_of.Given as goal
 
--- what is gathered from here on makes the whole list
-abbrev pub invariant-loop-machine : goal.invariant-loop-machine
-invariant-loop-machine l = gathered (is_peer_of l.live l.viewer) (shown l.domain) l.peers (drop l.machine-index l.machines) ≡ map (shown l.domain) (filter (is_peer_of l.live l.viewer) l.machines)
+-- with the peers among the machines to come these are all
+abbrev pub invariant-loop-site : goal.invariant-loop-site
+invariant-loop-site l =
+    l.peers ++ flat_map (λ (s : Site). row_shown l.world l.viewer (node_with l.world s.id)) (drop l.site-index l.expanded.sites)
+    ≡ flat_map (λ (s : Site). row_shown l.world l.viewer (node_with l.world s.id)) l.expanded.sites

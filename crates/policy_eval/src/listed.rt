@@ -1,12 +1,12 @@
 //! Ids that others are looked up among.
 ghost use Rattle.std.specs.Prelude.{◌≡◌};
-ghost use Rattle.fresh_maps.specs.Fresh.{is_listed};
+ghost use Rattle.policy_eval.specs.Sites.{is_listed};
 
 use std::marker::Model;
 
 /// Ids, and whether they rise: then one is found by halving.
 #[derive(Drop)]
-pub(crate) struct Listed<'a> {
+pub struct Listed<'a> {
     ids: &'a [u32],
     rise: bool,
 }
@@ -23,7 +23,8 @@ impl<'a> Model for Listed<'a> {
 }
 
 impl<'a> Listed<'a> {
-    pub(crate) fn of(ids: &'a [u32]) -> Listed<'a>
+    /// These ids, in whatever order they stand.
+    pub fn of(ids: &'a [u32]) -> Listed<'a>
         ensures value { result ≡ ids.now }
     {
         Listed {
@@ -33,7 +34,7 @@ impl<'a> Listed<'a> {
     }
 
     /// Whether the id is one of them.
-    pub(crate) fn has(&self, id: u32) -> bool
+    pub fn has(&self, id: u32) -> bool
         ensures value { result ≡ is_listed self.now id }
     {
         if self.rise {
