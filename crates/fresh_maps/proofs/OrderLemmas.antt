@@ -19,7 +19,7 @@ use Rattle.peer_view.specs.Nodes.{is_tagged}
 use Rattle.peer_view.specs.Seen.{IsSoundSeen, Node, Seen, is_node, node_reaches, seen_of, sees, visible}
 use Rattle.peer_view.specs.Shown.{own_row, shown}
 use Rattle.peer_view.specs.declared.node.TheConstants.{TAGGED_OWNER}
-use Rattle.peer_view.proofs.ListLemmas.{ascending_filter, ascending_map, filter_member, map_member, mapped_member}
+use Rattle.peer_view.proofs.ListLemmas.{ascending_filter, ascending_map, filter_member, filtered_member, filtered_passes, map_member, mapped_member}
 use Rattle.peer_view.proofs.WorldLaws.{seen_sound}
 use Rattle.fresh_maps.specs.Fresh.{fresh, peers_of}
 use Rattle.fresh_maps.specs.InOrder.{IsInOrder}
@@ -31,32 +31,6 @@ peers_ascend : (w : Seen) (v : Node) → IsSoundSeen w → IsAscending (λ (p : 
 peers_ascend w v sound =
     ascending_map (λ (n : Node). n.row.id) (shown w v (visible w v)) (λ (p : NodeRow). p.id) (λ n. refl) (visible w v)
     (ascending_filter (λ (n : Node). n.row.id) (sees w v) w.nodes sound.nodes)
-
--- a machine whose row is shown passes the test
-filtered_passes : {A : Type 0} (test : A → Bool) (xs : List A) (a : A) → Contains (filter test xs) a → test a ≡ true
-filtered_passes test [] a m = absurd (no_member a m)
-filtered_passes {A} test (x ∷ xs) a m =
-    elim (cases_Bool (test x)) [
-      | inl passes ↦ elim (cut_member x (filter test xs) a (rw passes at m)) [
-        | inl e ↦ ap test e ∙ passes
-        | inr r ↦ filtered_passes test xs a r
-      ]
-      | inr fails ↦ filtered_passes test xs a (rw fails at m)
-    ]
-
-filtered_member : {A : Type 0} (test : A → Bool) (xs : List A) (a : A) → Contains xs a → test a ≡ true → Contains (filter test xs) a
-filtered_member test [] a m h = absurd (no_member a m)
-filtered_member {A} test (x ∷ xs) a m h =
-    elim (cases_Bool (test x)) [
-      | inl passes ↦ elim (cut_member x xs a m) [
-        | inl e ↦ rw (passes, e) (first_member x (filter test xs))
-        | inr r ↦ rw passes (rest_member x (filter test xs) a (filtered_member test xs a r h))
-      ]
-      | inr fails ↦ elim (cut_member x xs a m) [
-        | inl e ↦ let clash : false ≡ true = sym fails ∙ ap test (sym e) ∙ h in absurd (cc)
-        | inr r ↦ rw fails (filtered_member test xs a r h)
-      ]
-    ]
 
 -- nobody sees itself
 apart : (w : Seen) (v n : Node) → sees w v n ≡ true → (v.row.id == n.row.id) ≡ false

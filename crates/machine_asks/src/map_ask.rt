@@ -82,6 +82,7 @@ fn map_among(
     requires online_ids { online.now ≡ spec.online_ids at.now.presence }
     ensures value { IfOk result (λ view. view ≡ spec.fresh_for at.now row.now) }
 {
+    keep_rules(at);
     let expanded = Expanded::of(alloc, None, at.tables, live)?;
     let world = World::new(at.settings, at.tables, None, &expanded, live, online);
     fresh_map(alloc, &world, row.id)

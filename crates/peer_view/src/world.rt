@@ -17,12 +17,12 @@ use tailcfg::DnsExtra;
 /// and the ids of those that are online. Contracts see all that maps depend on.
 #[derive(Drop)]
 pub struct World<'a> {
-    settings: &'a Settings,
-    tables: &'a Tables,
-    policy: Option<&'a Policy>,
-    expanded: &'a Expanded,
-    live: &'a [u32],
-    online: Listed<'a>,
+    pub(crate) settings: &'a Settings,
+    pub(crate) tables: &'a Tables,
+    pub(crate) policy: Option<&'a Policy>,
+    pub(crate) expanded: &'a Expanded,
+    pub(crate) live: &'a [u32],
+    pub(crate) online: Listed<'a>,
 }
 
 impl<'a> Model for World<'a> {

@@ -100,6 +100,7 @@ pub fn sites_of(alloc: Global, tables: &Tables, live: &[u32]) -> Result<Items<Si
     ensures distinct { IfOk result AreDistinct }
 {
     let machines = tables.machines();
-    let sites = sites_among(alloc, tables, machines, &Listed::of(live))?;
+    let listed = Listed::of(live);
+    let sites = sites_among(alloc, tables, machines, &listed)?;
     Ok(sites)
 }
