@@ -3,6 +3,7 @@ use Rattle.std.proofs.Common.{◌≡◌, ◌<◌, ◌≤◌, ◌==◌, ◌&&◌,
 use Rattle.std.specs.Prelude.{Contains, Option, Some, None, filter, map}
 use Rattle.std.specs.List.{find}
 use Rattle.std.specs.Option.{option_map}
+use Rattle.std.proofs.lemmas.Bool.{eqb-true}
 use Rattle.net_rows.specs.Damage.{damage}
 use Rattle.net_rows.specs.Rows.{machine_with}
 use Rattle.net_rows.specs.declared.machine.Machine.{Machine}
@@ -73,11 +74,10 @@ row_of_node settings policy rows live online n inside =
 
 -- What is seen of tables that keep their rules.
 pub seen_sound : (settings : SettingsFields) (policy : Option Policy) (rows : Rows) (live online : List ℕ) → damage rows ≡ None → IsSoundSeen (seen_of settings policy rows live online)
-seen_sound settings policy rows live online no =
-    let sound = sound_of rows no in
-    let g : Machine → Node = live_node rows.users online in
+seen_sound settings policy rows live online kept =
+    let sound = sound_of rows kept in
     record {
-      nodes = nodes_ascend settings policy rows live online no;
+      nodes = nodes_ascend settings policy rows live online kept;
       sites = λ n inside. let at = row_of_node settings policy rows live online n inside in ap (λ (z : Node). z.site.id) (sym at.1);
       users = sound.users.ascend;
       ids = λ u inside.
@@ -116,9 +116,46 @@ site_absent settings policy rows live online k none =
     go None e = refl
     go (Some m) e = absurd (cc)
 
--- a site that is found is one of a live machine, and has the id
-pub site_found : (sites : List Site) (k : ℕ) (s : Site) → site_with sites k ≡ Some s → Contains sites s × ((s.id == k) ≡ true)
-site_found sites k s e = find_member (λ (z : Site). z.id == k) sites s e
+-- what a lookup of the row gives
+pub row_looked_up : (settings : SettingsFields) (policy : Option Policy) (rows : Rows) (live online : List ℕ) (w : Seen) → seen_of settings policy rows live online ≡ w → damage rows ≡ None
+    → (s : Site) → Contains (sites_seen w) s → (o : Option Machine) → o ≡ machine_with rows.machines s.id → (m : Machine) → o ≡ Some m → (b : Bool) → b ≡ is_listed online s.id
+    → Some (record { row = m; site = s; online = b }) ≡ node_with w s.id
+row_looked_up settings policy rows live online w seen sound s inside o is m found b listed =
+    let here = subst (λ (x : Seen). Contains (sites_seen x) s) (sym seen) inside in
+    let at = node_is settings policy rows live online s sound here in
+    let both : Some m ≡ Some at.0 = sym found ∙ (is ∙ at.1) in
+    let same : m ≡ at.0 = cc in
+    let whole : record { row = m; site = s; online = b } ≡ record { row = at.0; site = s; online = is_listed online s.id } = λ i. record { row = same i; site = s; online = listed i } in
+    ap (λ (n : Node). Some n) whole ∙ (sym at.2 ∙ ap (λ (x : Seen). node_with x s.id) seen)
+
+pub row_missing : (settings : SettingsFields) (policy : Option Policy) (rows : Rows) (live online : List ℕ) (w : Seen) → seen_of settings policy rows live online ≡ w → damage rows ≡ None
+    → (s : Site) → Contains (sites_seen w) s → (o : Option Machine) → o ≡ machine_with rows.machines s.id → o ≡ None → None ≡ node_with w s.id
+row_missing settings policy rows live online w seen sound s inside o is found =
+    let here = subst (λ (x : Seen). Contains (sites_seen x) s) (sym seen) inside in
+    let at = node_is settings policy rows live online s sound here in
+    let clash : None ≡ Some at.0 = sym found ∙ (is ∙ at.1) in
+    absurd (cc)
+
+world_sites : (settings : SettingsFields) (policy : Option Policy) (rows : Rows) (live online : List ℕ) (made : Expansion) (w : Seen) → IsWorld made policy rows live
+    → seen_of settings policy rows live online ≡ w → (sites : List Site) → sites ≡ made.sites → sites ≡ sites_seen w
+world_sites settings policy rows live online made w world seen sites is =
+    is ∙ ap (λ (x : Expansion). x.sites) (expansion_is settings policy rows live online made w world seen)
+
+-- what a lookup of the site gives
+pub site_missing : (settings : SettingsFields) (policy : Option Policy) (rows : Rows) (live online : List ℕ) (made : Expansion) (w : Seen) → IsWorld made policy rows live
+    → seen_of settings policy rows live online ≡ w → (sites : List Site) → sites ≡ made.sites → (k : ℕ) (o : Option Site) → o ≡ site_with sites k → o ≡ None → None ≡ node_with w k
+site_missing settings policy rows live online made w world seen sites is k o looked found =
+    let whole : sites ≡ sites_of rows live = is ∙ ap (λ (x : Expansion). x.sites) world.fits in
+    let none : site_with (sites_of rows live) k ≡ None = ap (λ (ss : List Site). site_with ss k) (sym whole) ∙ (sym looked ∙ found) in
+    sym (site_absent settings policy rows live online k none) ∙ ap (λ (x : Seen). node_with x k) seen
+
+pub site_looked_up : (settings : SettingsFields) (policy : Option Policy) (rows : Rows) (live online : List ℕ) (made : Expansion) (w : Seen) → IsWorld made policy rows live
+    → seen_of settings policy rows live online ≡ w → (sites : List Site) → sites ≡ made.sites → (k : ℕ) (o : Option Site) → o ≡ site_with sites k → (s : Site) → o ≡ Some s
+    → Contains (sites_seen w) s × (s.id ≡ k)
+site_looked_up settings policy rows live online made w world seen sites is k o looked s found =
+    let at = find_member (λ (z : Site). z.id == k) sites s (sym looked ∙ found) in
+    let whole = world_sites settings policy rows live online made w world seen sites is in
+    (subst (λ (ss : List Site). Contains ss s) whole at.0, eqb-true s.id k at.1)
 
 -- ---- sight
 

@@ -100,16 +100,23 @@ impl<'a> World<'a> {
         requires among { Contains (sites_seen self.now) site.now }
         ensures value { result ≡ node_with self.now site.now.id }
     {
-        let row = self.tables.machine(site.id)?;
-        let online = self.online.has(site.id);
-        Some(LiveMachine { row, site, online })
+        match self.tables.machine(site.id) {
+            None => None,
+            Some(row) => Some(LiveMachine {
+                row,
+                site,
+                online: self.online.has(site.id),
+            }),
+        }
     }
 
     /// The live machine of an id.
     pub fn machine(&self, id: u32) -> Option<LiveMachine<'_>>
         ensures value { result ≡ node_with self.now id }
     {
-        let site = site_with(self.expanded.sites(), id)?;
-        self.machine_at(site)
+        match site_with(self.expanded.sites(), id) {
+            None => None,
+            Some(site) => self.machine_at(site),
+        }
     }
 }
