@@ -25,7 +25,7 @@ admits_granted w m distinct sound inside =
 -- of tables that keep their rules
 pub map_admits : (settings : SettingsFields) (policy : Option Policy) (rows : Rows) (live online : List ℕ) (m : Node) → damage rows ≡ None → AreSoundRules (rules_of policy)
     → Contains (seen_of settings policy rows live online).nodes m → AdmitsGranted (seen_of settings policy rows live online) m (fresh (seen_of settings policy rows live online) m).filter
-map_admits settings policy rows live online m no sound inside =
+map_admits settings policy rows live online m kept sound inside =
     let w = seen_of settings policy rows live online in
-    let distinct : AreDistinct (sites_seen w) = rw (sites_are settings policy rows live online) (one_site rows live no) in
+    let distinct : AreDistinct (sites_seen w) = rw (sites_are settings policy rows live online) (one_site rows live kept) in
     admits_granted w m distinct sound inside

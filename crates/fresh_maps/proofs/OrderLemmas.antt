@@ -87,12 +87,12 @@ profiles_ascend w nodes sound = go (owns_any nodes TAGGED_OWNER)
     front : List Profile
     front = map user_profile (filter (λ u. owns_any nodes u.id) w.users)
 
+    ascending_end : (ps : List Profile) → IsAscending (λ (p : Profile). p.id) ps → IsAscending (λ (p : Profile). p.id) (ps ++ [])
+    ascending_end ps h = rw (append-nil ps) h
+
     go : (tagged : Bool) → IsAscending (λ (p : Profile). p.id) (front ++ (if tagged then tagged_profile ∷ [] else []))
     go true = ascending_last (λ (p : Profile). p.id) front tagged_profile (users_ascend w.users nodes sound.users) (users_below w.users nodes sound.ids)
     go false = ascending_end front (users_ascend w.users nodes sound.users)
-
-    ascending_end : (ps : List Profile) → IsAscending (λ (p : Profile). p.id) ps → IsAscending (λ (p : Profile). p.id) (ps ++ [])
-    ascending_end ps h = rw (append-nil ps) h
 
 -- an id among the profiles is a user's that owns a node, or that of tagged machines
 has_id : {A : Type 0} (id : A → ℕ) (xs : List A) (k : ℕ) → HasRow id xs k → is_some (row_at id xs k) ≡ true
@@ -199,5 +199,5 @@ in_order w v sound inside = record {
 -- of tables that keep their rules
 pub map_in_order : (settings : SettingsFields) (policy : Option Policy) (rows : Rows) (live online : List ℕ) (m : Node) → damage rows ≡ None
     → Contains (seen_of settings policy rows live online).nodes m → IsInOrder (fresh (seen_of settings policy rows live online) m)
-map_in_order settings policy rows live online m no inside =
-    in_order (seen_of settings policy rows live online) m (seen_sound settings policy rows live online no) inside
+map_in_order settings policy rows live online m kept inside =
+    in_order (seen_of settings policy rows live online) m (seen_sound settings policy rows live online kept) inside

@@ -30,10 +30,12 @@ fn add_peer(
     let Some(peer) = world.machine_at(site) else {
         return Ok(());
     };
-    if !sees_machine(world, viewer, &peer) {
-        return Ok(());
+    if sees_machine(world, viewer, &peer) {
+        let row = shown(alloc, world, &peer)?;
+        peers.push(row)
+    } else {
+        Ok(())
     }
-    peers.push(shown(alloc, world, &peer)?)
 }
 
 /// The rows of the machines that the viewer sees.
@@ -98,10 +100,14 @@ pub fn fresh_map(alloc: Global, world: &World<'_>, machine: u32) -> Result<View,
     ensures admits { IfOk result (λ view. (m : Node) → node_with world.now machine ≡ Some m
         → AdmitsGranted world.now m view.filter) }
 {
-    // For what it promises, that what is seen keeps the rules.
+    // For what they promise: what is seen keeps the rules, and so do those in force.
     let _users = world.users();
+    let expanded = world.expanded();
+    let _rules = expanded.rules();
+    let _sites = expanded.sites();
     let Some(machine) = world.machine(machine) else {
         unreachable!()
     };
-    map_of(alloc, world, &machine)
+    let view = map_of(alloc, world, &machine)?;
+    Ok(view)
 }

@@ -3,8 +3,8 @@ ghost use Rattle.std.specs.Prelude.{◌≡◌, ◌∷◌, ◌++◌, [], IfOk, On
 ghost use Rattle.std.specs.Option.{option_copied};
 ghost use Rattle.fresh_maps.specs.Profiles.{display_of, owners_of, owns_any, profile_in, profile_of, tagged_profile, user_profile};
 
-use peer_view::TAGGED_OWNER;
 use net_rows::{Tables, User};
+use peer_view::TAGGED_OWNER;
 use std::alloc::Global;
 use tail_base::{Items, NoMemory, Text};
 use tailcfg::{NodeRow, Profile};

@@ -85,7 +85,8 @@ fn map_among(
     keep_rules(at);
     let expanded = Expanded::of(alloc, None, at.tables, live)?;
     let world = World::new(at.settings, at.tables, None, &expanded, live, online);
-    fresh_map(alloc, &world, row.id)
+    let view = fresh_map(alloc, &world, row.id)?;
+    Ok(view)
 }
 
 /// The whole map of a live machine, computed afresh.

@@ -8,5 +8,5 @@ use Rattle.fresh_maps.proofs.fresh.peers_of.Given as goal
 -- with the peers among the machines to come these are all
 abbrev pub invariant-loop-site : goal.invariant-loop-site
 invariant-loop-site l =
-    l.peers ++ flat_map (λ (s : Site). row_shown l.world l.viewer (node_with l.world s.id)) (drop l.site-index l.expanded.sites)
-    ≡ flat_map (λ (s : Site). row_shown l.world l.viewer (node_with l.world s.id)) l.expanded.sites
+    l.peers ++ flat_map (λ (s : Site). row_shown l.world l.viewer (node_with l.world s.id)) (drop l.site-index l.site-items)
+    ≡ flat_map (λ (s : Site). row_shown l.world l.viewer (node_with l.world s.id)) l.site-items
