@@ -37,9 +37,6 @@ gathered w v (n ∷ ns) found =
 pub gathered_peers : (w : Seen) (v : Node) → IsSoundSeen w → flat_map (λ (s : Site). row_shown w v (node_with w s.id)) (sites_seen w) ≡ peers_of w v
 gathered_peers w v sound = gathered w v w.nodes (own_node w sound)
 
--- nobody who isn't seen has a row there
-pub unseen_row : (w : Seen) (v p : Node) → sees w v p ≡ false → [] ≡ row_shown w v (Some p)
-unseen_row w v p not = rw not refl
-
+-- who is seen has a row there
 pub seen_row : (w : Seen) (v p : Node) → sees w v p ≡ true → shown w v (visible w v) p ∷ [] ≡ row_shown w v (Some p)
 seen_row w v p is = rw is refl
