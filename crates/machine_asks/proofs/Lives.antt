@@ -20,7 +20,7 @@ use Rattle.machine_asks.specs.OneMap.{IsLiveRow, fresh_for, live_ids, node_in, o
 
 -- a live machine is seen
 live_found : (s : State) (m : Machine) → damage s.rows ≡ None → IsLiveRow s m → node_with (world_of s) m.id ≡ Some (node_in s m)
-live_found s m no h =
+live_found s m kept h =
     let ids = live_ids s in
     let machines = s.rows.machines in
     let alive : Contains (filter (is_live s) machines) m = filtered_member (is_live s) machines m h.inside h.live in
@@ -28,7 +28,7 @@ live_found s m no h =
     let listed : is_among ids m ≡ true = list_any_is (λ (other : ℕ). other == m.id) ids m.id inside (eq-eqb m.id m.id refl) in
     let here : Contains (filter (is_among ids) machines) m = filtered_member (is_among ids) machines m h.inside listed in
     let there : Contains (world_of s).nodes (node_in s m) = map_member (live_node s.rows.users (online_ids s.presence)) (filter (is_among ids) machines) m here in
-    row_at_is (λ (n : Node). n.row.id) (world_of s).nodes (node_in s m) (seen_sound s.settings None s.rows ids (online_ids s.presence) no).nodes there
+    row_at_is (λ (n : Node). n.row.id) (world_of s).nodes (node_in s m) (seen_sound s.settings None s.rows ids (online_ids s.presence) kept).nodes there
 
 -- the world of the state's parts is the state's
 world_is : (s : State) (settings : SettingsFields) (rows : Rows) (presence : List MachinePresence) (now : ℤ) (live online : List ℕ) (w : Seen)
@@ -40,13 +40,13 @@ world_is s settings rows presence now live online w whole lives onlines is =
 pub live_in : (s : State) (settings : SettingsFields) (rows : Rows) (presence : List MachinePresence) (now : ℤ) (live online : List ℕ) (w : Seen) (m : Machine)
     → record { settings = settings; rows = rows; presence = presence; now = now } ≡ s → live ≡ live_ids s → online ≡ online_ids s.presence
     → w ≡ seen_of settings None rows live online → damage s.rows ≡ None → IsLiveRow s m → node_with w m.id ≡ Some (node_in s m)
-live_in s settings rows presence now live online w m whole lives onlines is no h =
-    ap (λ (z : Seen). node_with z m.id) (world_is s settings rows presence now live online w whole lives onlines is) ∙ live_found s m no h
+live_in s settings rows presence now live online w m whole lives onlines is kept h =
+    ap (λ (z : Seen). node_with z m.id) (world_is s settings rows presence now live online w whole lives onlines is) ∙ live_found s m kept h
 
 pub map_in_world : (s : State) (settings : SettingsFields) (rows : Rows) (presence : List MachinePresence) (now : ℤ) (live online : List ℕ) (w : Seen) (m : Machine) (view : View)
     → record { settings = settings; rows = rows; presence = presence; now = now } ≡ s → live ≡ live_ids s → online ≡ online_ids s.presence
     → w ≡ seen_of settings None rows live online → damage s.rows ≡ None → IsLiveRow s m
     → ((n : Node) → node_with w m.id ≡ Some n → view ≡ fresh w n) → view ≡ fresh_for s m
-map_in_world s settings rows presence now live online w m view whole lives onlines is no h value =
-    value (node_in s m) (live_in s settings rows presence now live online w m whole lives onlines is no h)
+map_in_world s settings rows presence now live online w m view whole lives onlines is kept h value =
+    value (node_in s m) (live_in s settings rows presence now live online w m whole lives onlines is kept h)
     ∙ ap (λ (z : Seen). fresh z (node_in s m)) (world_is s settings rows presence now live online w whole lives onlines is)
