@@ -69,7 +69,6 @@ ascending_last {A} id (x ∷ xs) y h above =
     ] in
     (first, ascending_last id xs y h.1 (λ z m. above z (rest_member x xs z m)))
 
-
 users_ascend : (users : List User) (nodes : List NodeRow) → IsAscending (λ (u : User). u.id) users → IsAscending (λ (p : Profile). p.id) (map user_profile (filter (λ u. owns_any nodes u.id) users))
 users_ascend users nodes h =
     ascending_map (λ (u : User). u.id) user_profile (λ (p : Profile). p.id) (λ u. refl) (filter (λ u. owns_any nodes u.id) users)

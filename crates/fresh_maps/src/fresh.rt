@@ -69,11 +69,7 @@ fn dns_of(alloc: Global, world: &World<'_>) -> Result<Dns, NoMemory>
 }
 
 /// The map of one of the world's live machines.
-fn map_of(
-    alloc: Global,
-    world: &World<'_>,
-    machine: &LiveMachine<'_>,
-) -> Result<View, NoMemory>
+fn map_of(alloc: Global, world: &World<'_>, machine: &LiveMachine<'_>) -> Result<View, NoMemory>
     requires here { Contains world.now.nodes machine.now }
     ensures value { IfOk result (λ view. view ≡ fresh world.now machine.now) }
 {

@@ -100,7 +100,7 @@ node_is settings policy rows live online s sound inside =
     let row : machine_with rows.machines n.row.id ≡ Some n.row = row_at_is (λ (m : Machine). m.id) rows.machines n.row (sound_of rows sound).machines.ascend own.0 in
     let node : node_with w n.row.id ≡ Some n = row_at_is (λ (z : Node). z.row.id) w.nodes n (nodes_ascend settings policy rows live online sound) at.1 in
     let whole : live_node rows.users online n.row ≡ record { row = n.row; site = s; online = is_listed online s.id } =
-        λ i. record { row = n.row; site = site i; online = is_listed online (id i) } in
+    λ i. record { row = n.row; site = site i; online = is_listed online (id i) } in
     (n.row, ap (λ (k : ℕ). machine_with rows.machines k) (sym id) ∙ row, ap (λ (k : ℕ). node_with w k) (sym id) ∙ (node ∙ ap (λ (z : Node). Some z) (sym own.1 ∙ whole)))
 
 -- an id without a site is no live machine's
@@ -180,7 +180,7 @@ world_sight settings policy rows live online made w world seen sound groups rule
     let there = subst (λ (x : Seen). Contains x.nodes p) (sym seen) other in
     let law = sight_rules settings policy rows live online m p sound' world.sound here there in
     let moved : (site_reaches groups rules m.site p.site || site_reaches groups rules p.site m.site) ≡ (site_reaches (groups_of policy) (rules_of policy) m.site p.site || site_reaches (groups_of policy) (rules_of policy) p.site m.site)
-        = λ i. site_reaches (g i) (r i) m.site p.site || site_reaches (g i) (r i) p.site m.site in
+    = λ i. site_reaches (g i) (r i) m.site p.site || site_reaches (g i) (r i) p.site m.site in
     let front : (not (m.row.id == p.row.id) && (site_reaches (groups_of policy) (rules_of policy) m.site p.site || site_reaches (groups_of policy) (rules_of policy) p.site m.site)) ≡ (site_reaches (groups_of policy) (rules_of policy) m.site p.site || site_reaches (groups_of policy) (rules_of policy) p.site m.site)
-        = rw apart refl in
+    = rw apart refl in
     is ∙ (moved ∙ (sym front ∙ (sym law ∙ ap (λ (x : Seen). sees x m p) seen)))

@@ -39,11 +39,7 @@ pub fn sees<L: Ledger>(world: &World<'_>, viewer: u32, peer: u32, steps: &mut St
 }
 
 /// Whether one live machine sees the other. It takes no memory, and looks up no ids.
-pub fn sees_machine(
-    world: &World<'_>,
-    viewer: &LiveMachine<'_>,
-    peer: &LiveMachine<'_>,
-) -> bool
+pub fn sees_machine(world: &World<'_>, viewer: &LiveMachine<'_>, peer: &LiveMachine<'_>) -> bool
     requires viewer { Contains world.now.nodes viewer.now }
     requires peer { Contains world.now.nodes peer.now }
     ensures value { result ≡ sees world.now viewer.now peer.now }

@@ -40,11 +40,7 @@ pub fn own_row(
 
 /// The row of a live machine as another one that sees it is shown it. As long as no routes are served
 /// it is the same for all, whomever else they see.
-pub fn shown(
-    alloc: Global,
-    world: &World<'_>,
-    peer: &LiveMachine<'_>,
-) -> Result<NodeRow, NoMemory>
+pub fn shown(alloc: Global, world: &World<'_>, peer: &LiveMachine<'_>) -> Result<NodeRow, NoMemory>
     ensures value { IfOk result (λ row. (viewer : Node) (visible : List Node)
         → row ≡ shown world.now viewer visible peer.now) }
 {

@@ -8,7 +8,7 @@ pub fresh_map-requires : goal.fresh_map-requires
 fresh_map-requires c =
     let a = c.at.inside in
     let found = live_in c.args.at.now a.settings.now a.tables.now.rows a.presence.now.0 a.time c.args.live.now c.args.online.now c.new-world.result c.args.row.now
-        c.at.view_is c.requires.live_ids c.requires.online_ids c.new-world.ensures.value c.keep_rules.ensures.tables c.requires.live in
+    c.at.view_is c.requires.live_ids c.requires.online_ids c.new-world.ensures.value c.keep_rules.ensures.tables c.requires.live in
     record { live = subst (λ (o : Option Node). IsSome o) (sym found) refl }
 
 pub returns : goal.returns

@@ -14,5 +14,5 @@ returns c =
     let here : Contains c.args.world.now.nodes v = subst (λ (n : Node). Contains c.args.world.now.nodes n) (sym c.viewer.view_is) c.requires.viewer in
     let there : Contains c.args.world.now.nodes p = subst (λ (n : Node). Contains c.args.world.now.nodes n) (sym c.peer.view_is) c.requires.peer in
     let law = world_sight w.settings.now (option_copied w.policy) w.tables.now.rows w.live.now w.online w.expanded.now c.args.world.now c.world.invariant c.world.view_is c.rules.ensures.sound
-        c.groups.result.now c.rules.result.now c.groups.ensures.value c.rules.ensures.value v p here there (ne_eqb v.row.id p.row.id c.if-viewer-peer.false) c.either_reaches.result c.either_reaches.ensures.value in
+    c.groups.result.now c.rules.result.now c.groups.ensures.value c.rules.ensures.value v p here there (ne_eqb v.row.id p.row.id c.if-viewer-peer.false) c.either_reaches.result c.either_reaches.ensures.value in
     record { value = law ∙ (λ i. sees c.args.world.now (c.viewer.view_is i) (c.peer.view_is i)) }

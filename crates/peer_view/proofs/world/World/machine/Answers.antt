@@ -13,7 +13,7 @@ pub machine_at-requires : goal.machine_at-requires
 machine_at-requires c =
     let w = c.self.inside in
     let at = site_looked_up w.settings.now (option_copied w.policy) w.tables.now.rows w.live.now w.online w.expanded.now c.args.self.now c.self.invariant c.self.view_is
-        c.sites.result.now c.sites.ensures.value c.args.id (option_copied c.site_with.result) c.site_with.ensures.value c.in-Some.site.now (ap option_copied c.in-Some.is) in
+    c.sites.result.now c.sites.ensures.value c.args.id (option_copied c.site_with.result) c.site_with.ensures.value c.in-Some.site.now (ap option_copied c.in-Some.is) in
     record { among = at.0 }
 
 pub returns-in-None : goal.returns-in-None
@@ -28,5 +28,5 @@ pub returns-in-Some : goal.returns-in-Some
 returns-in-Some c =
     let w = c.self.inside in
     let at = site_looked_up w.settings.now (option_copied w.policy) w.tables.now.rows w.live.now w.online w.expanded.now c.args.self.now c.self.invariant c.self.view_is
-        c.sites.result.now c.sites.ensures.value c.args.id (option_copied c.site_with.result) c.site_with.ensures.value c.in-Some.site.now (ap option_copied c.in-Some.is) in
+    c.sites.result.now c.sites.ensures.value c.args.id (option_copied c.site_with.result) c.site_with.ensures.value c.in-Some.site.now (ap option_copied c.in-Some.is) in
     record { value = c.machine_at.ensures.value ∙ ap (λ (k : ℕ). node_with c.args.self.now k) at.1 }
