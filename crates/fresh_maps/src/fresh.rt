@@ -3,7 +3,7 @@ ghost use Rattle.std.specs.Prelude.{◌≡◌, ◌++◌, Contains, IfOk, IsSome,
 ghost use Rattle.peer_view.specs.Seen.{Node, node_with, sites_seen};
 ghost use Rattle.fresh_maps.specs.Fresh.{fresh, peers_of, row_shown};
 ghost use Rattle.fresh_maps.specs.InOrder.{IsInOrder};
-ghost use Rattle.fresh_maps.specs.Granted.{AdmitsGranted};
+ghost use Rattle.fresh_maps.specs.Granted.{MeetsPolicy};
 
 use crate::profile::owners_of;
 use crate::view::View;
@@ -94,7 +94,7 @@ pub fn fresh_map(alloc: Global, world: &World<'_>, machine: u32) -> Result<View,
         → view ≡ fresh world.now m) }
     ensures order { IfOk result IsInOrder }
     ensures admits { IfOk result (λ view. (m : Node) → node_with world.now machine ≡ Some m
-        → AdmitsGranted world.now m view.filter) }
+        → MeetsPolicy world.now m view.filter) }
 {
     // For what they promise: what is seen keeps the rules, and so do those in force.
     let _users = world.users();

@@ -8,7 +8,7 @@ ghost use Rattle.policy_eval.specs.Reach.{AreSoundRules};
 ghost use Rattle.settings.specs.declared.fields.SettingsFields.{SettingsFields};
 ghost use Rattle.peer_view.specs.Seen.{Node, seen_of};
 ghost use Rattle.fresh_maps.specs.Fresh.{fresh};
-ghost use Rattle.fresh_maps.specs.Granted.{AdmitsGranted};
+ghost use Rattle.fresh_maps.specs.Granted.{MeetsPolicy};
 ghost use Rattle.fresh_maps.specs.InOrder.{IsInOrder};
 
 /// In tables that keep their rules each live machine's map is in order, and its filter admits exactly
@@ -21,6 +21,6 @@ pub fn maps_of_sound_tables()
     ensures admits { (settings : SettingsFields) (policy : Option Policy) (rows : Rows)
         (live online : List ℕ) (m : Node) → damage rows ≡ None → AreSoundRules (rules_of policy)
         → Contains (seen_of settings policy rows live online).nodes m
-        → AdmitsGranted (seen_of settings policy rows live online) m
+        → MeetsPolicy (seen_of settings policy rows live online) m
         (fresh (seen_of settings policy rows live online) m).filter }
 {}

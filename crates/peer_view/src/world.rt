@@ -7,7 +7,7 @@ ghost use Rattle.peer_view.specs.Seen.{IsSoundSeen, expansion_seen, node_with, s
 use crate::by_id::site_with;
 use crate::machine::LiveMachine;
 use net_rows::{Tables, User};
-use policy_eval::{Expanded, Listed, Site};
+use policy_eval::{Expanded, IdList, Site};
 use policy_rows::Policy;
 use settings::{Settings, SettingsFields};
 use std::marker::Model;
@@ -22,7 +22,7 @@ pub struct World<'a> {
     pub(crate) policy: Option<&'a Policy>,
     pub(crate) expanded: &'a Expanded,
     pub(crate) live: &'a [u32],
-    pub(crate) online: Listed<'a>,
+    pub(crate) online: IdList<'a>,
 }
 
 impl<'a> Model for World<'a> {
@@ -62,7 +62,7 @@ impl<'a> World<'a> {
             policy,
             expanded,
             live,
-            online: Listed::of(online),
+            online: IdList::of(online),
         }
     }
 

@@ -1,6 +1,6 @@
 pub mod EndLemmas
 pub mod FitLemmas
-pub mod ListedLemmas
+pub mod IdLemmas
 pub mod MatchLemmas
 pub mod ReachLemmas
 pub mod SetLemmas

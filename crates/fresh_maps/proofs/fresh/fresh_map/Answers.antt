@@ -4,7 +4,7 @@ use Rattle.policy_eval.specs.Expansion.{Expansion}
 use Rattle.policy_eval.specs.Reach.{AreSoundRules}
 use Rattle.policy_eval.specs.Sites.{AreDistinct}
 use Rattle.peer_view.specs.Seen.{Node, node_with}
-use Rattle.fresh_maps.specs.Granted.{AdmitsGranted}
+use Rattle.fresh_maps.specs.Granted.{MeetsPolicy}
 use Rattle.fresh_maps.specs.InOrder.{IsInOrder}
 use Rattle.fresh_maps.specs.declared.view.View.{View}
 use Rattle.fresh_maps.proofs.FilterLemmas.{admits_granted}
@@ -30,5 +30,5 @@ returns-clause-admits c = λ m e.
     let here = node_inside w c.args.machine c.in-Some.machine found in
     let distinct = subst (λ (x : Expansion). AreDistinct x.sites) c.expanded-expanded.ensures.value c.sites-sites.ensures.distinct in
     let sound = subst (λ (x : Expansion). AreSoundRules x.rules) c.expanded-expanded.ensures.value c.rules-rules.ensures.sound in
-    let at = subst (λ (view : View). AdmitsGranted w c.in-Some.machine view.filter) (sym c.in_ok-view.ensures.value) (admits_granted w c.in-Some.machine distinct sound here) in
-    subst (λ (n : Node). AdmitsGranted w n c.in_ok-view.view.filter) same at
+    let at = subst (λ (view : View). MeetsPolicy w c.in-Some.machine view.filter) (sym c.in_ok-view.ensures.value) (admits_granted w c.in-Some.machine distinct sound here) in
+    subst (λ (n : Node). MeetsPolicy w n c.in_ok-view.view.filter) same at

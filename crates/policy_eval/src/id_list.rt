@@ -6,12 +6,12 @@ use std::marker::Model;
 
 /// Ids, and whether they rise: then one is found by halving.
 #[derive(Drop)]
-pub struct Listed<'a> {
+pub struct IdList<'a> {
     ids: &'a [u32],
     rise: bool,
 }
 
-impl<'a> Model for Listed<'a> {
+impl<'a> Model for IdList<'a> {
     ghost use Rattle.std.specs.Prelude.{◌≡◌, ℕ, List, true};
     ghost use Rattle.std.specs.List.Sorted.{IsNonDecreasingBy};
 
@@ -22,12 +22,12 @@ impl<'a> Model for Listed<'a> {
     ghost invariant = { λ a. a.rise ≡ true → IsNonDecreasingBy (λ id. id) a.ids.now };
 }
 
-impl<'a> Listed<'a> {
+impl<'a> IdList<'a> {
     /// These ids, in whatever order they stand.
-    pub fn of(ids: &'a [u32]) -> Listed<'a>
+    pub fn of(ids: &'a [u32]) -> IdList<'a>
         ensures value { result ≡ ids.now }
     {
-        Listed {
+        IdList {
             ids,
             rise: ids.is_sorted(),
         }

@@ -1,7 +1,7 @@
 use Rattle.std.proofs.Common.{ap, ◌∙◌}
 use Rattle.policy_eval.specs.Sites.{is_listed}
-use Rattle.policy_eval.proofs.ListedLemmas.{found_by_halves}
-use Rattle.policy_eval.proofs.listed.Listed.has.Goals as goal
+use Rattle.policy_eval.proofs.IdLemmas.{found_by_halves}
+use Rattle.policy_eval.proofs.id_list.IdList.has.Goals as goal
 
 pub returns-then-self : goal.returns-then-self
 returns-then-self c = record {
