@@ -1,17 +1,16 @@
 -- What an expansion that fits lends.
 use Rattle.std.proofs.Common.{◌≡◌, ◌<◌, ◌≤◌, ◌==◌, ◌&&◌, ◌||◌, ℕ, Bool, true, false, not, List, arith, refl, ap, sym, ◌∙◌, subst}
-use Rattle.std.specs.Prelude.{Contains, Option, Some, None, filter, map}
+use Rattle.std.specs.Prelude.{Contains, Option, Some, None, filter}
 use Rattle.std.specs.List.{find}
 use Rattle.std.specs.Option.{option_map}
 use Rattle.std.proofs.lemmas.Bool.{eqb-true}
 use Rattle.net_rows.specs.Damage.{damage}
 use Rattle.net_rows.specs.Rows.{machine_with}
 use Rattle.net_rows.specs.declared.machine.Machine.{Machine}
-use Rattle.net_rows.specs.declared.user.User.{User}
 use Rattle.net_rows.proofs.Members.{find_member}
 use Rattle.net_rows.proofs.RowAt.{row_at_is}
 use Rattle.net_rows.proofs.Sounds.{sound_of}
-use Rattle.net_rows.specs.Shelf.{HasRow, IsAscending, row_at}
+use Rattle.net_rows.specs.Shelf.{IsAscending}
 use Rattle.net_rows.specs.declared.rows.Rows.{Rows}
 use Rattle.settings.specs.declared.fields.SettingsFields.{SettingsFields}
 use Rattle.policy_rows.specs.declared.policy.Policy.{Policy}
@@ -25,7 +24,7 @@ use Rattle.policy_eval.specs.declared.site.Site.{Site}
 use Rattle.peer_view.specs.Reaches.{id_reaches, site_reaches, site_with}
 use Rattle.peer_view.specs.Seen.{IsSoundSeen, Node, Seen, expansion_seen, is_node, live_node, node_reaches, node_with, of_ids, seen_of, sees, sites_seen}
 use Rattle.peer_view.specs.Worlds.{IsWorld}
-use Rattle.peer_view.proofs.ListLemmas.{ascending_filter, ascending_map, filter_member, find_map, map_member, map_twice, mapped_member}
+use Rattle.peer_view.proofs.ListLemmas.{ascending_filter, ascending_map, filter_member, find_map, map_twice, mapped_member}
 use Rattle.peer_view.proofs.LiveLaws.{pair_is, sites_ascend}
 use Rattle.peer_view.proofs.SightLaws.{sight_rules}
 
