@@ -1,5 +1,5 @@
 -- What the filter of a map admits.
-use Rattle.std.proofs.Common.{◌≡◌, ℕ, Bool, List}
+use Rattle.std.proofs.Common.{◌≡◌, ℕ, List}
 use Rattle.std.specs.Prelude.{Contains, Option, None}
 use Rattle.net_rows.specs.Damage.{damage}
 use Rattle.net_rows.specs.declared.rows.Rows.{Rows}
@@ -8,9 +8,7 @@ use Rattle.policy_rows.specs.declared.policy.Policy.{Policy}
 use Rattle.policy_eval.specs.Grants.{groups_of, rules_of}
 use Rattle.policy_eval.specs.Reach.{AreSoundRules}
 use Rattle.policy_eval.specs.Sites.{AreDistinct}
-use Rattle.policy_eval.specs.declared.site.Site.{Site}
 use Rattle.policy_eval.proofs.SiteLemmas.{one_site}
-use Rattle.filter_compile.specs.Filters.{filter_of}
 use Rattle.filter_compile.proofs.RuleLemmas.{filter_admits}
 use Rattle.peer_view.specs.Seen.{Node, Seen, seen_of, sites_seen}
 use Rattle.peer_view.proofs.ListLemmas.{map_member}

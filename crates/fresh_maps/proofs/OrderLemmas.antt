@@ -1,8 +1,7 @@
 -- A fresh map is in order.
-use Rattle.std.proofs.Common.{◌≡◌, ◌≢◌, ◌<◌, ◌++◌, ◌==◌, ◌||◌, ◌&&◌, ◌⊎◌, ℕ, Bool, true, false, not, List, [], ◌∷◌, arith, inl, inr, refl, ap, sym, ◌∙◌, subst, if◌then◌else◌}
+use Rattle.std.proofs.Common.{◌≡◌, ◌≢◌, ◌<◌, ◌++◌, ◌==◌, ◌||◌, ◌&&◌, ◌⊎◌, ℕ, Bool, true, false, not, List, [], ◌∷◌, inl, inr, refl, ap, sym, ◌∙◌, subst, if◌then◌else◌}
 use Rattle.std.specs.Prelude.{Contains, Option, Some, None, filter, is_some, map}
-use Rattle.std.specs.List.{list_any}
-use Rattle.std.proofs.lemmas.Bool.{cases_Bool, eq-eqb, eqb-true, or_cases, or_left, or_right}
+use Rattle.std.proofs.lemmas.Bool.{eq-eqb, eqb-true}
 use Rattle.std.proofs.lemmas.List.{append-nil}
 use Rattle.std.proofs.lemmas.List.Elements.{Contains-append_cases, Contains-append_left, Contains-append_right}
 use Rattle.tail_base.proofs.Bools.{same_tests}
@@ -10,7 +9,7 @@ use Rattle.net_rows.specs.Damage.{damage}
 use Rattle.net_rows.specs.Shelf.{HasRow, IsAscending, row_at}
 use Rattle.net_rows.specs.declared.rows.Rows.{Rows}
 use Rattle.net_rows.specs.declared.user.User.{User}
-use Rattle.net_rows.proofs.Members.{cut_last, cut_member, find_member, find_none, first_member, list_any_found, list_any_is, no_member, rest_member}
+use Rattle.net_rows.proofs.Members.{cut_last, cut_member, find_member, find_none, first_member, list_any_found, no_member, rest_member}
 use Rattle.settings.specs.declared.fields.SettingsFields.{SettingsFields}
 use Rattle.tailcfg.specs.declared.node_row.NodeRow.{NodeRow}
 use Rattle.tailcfg.specs.declared.profile.Profile.{Profile}

@@ -1,6 +1,6 @@
 -- The peers of a map, gathered from the live machines.
-use Rattle.std.proofs.Common.{◌≡◌, ◌++◌, ◌==◌, ℕ, Bool, true, false, List, [], ◌∷◌, inl, inr, refl, ap, sym, ◌∙◌}
-use Rattle.std.specs.Prelude.{Contains, Option, Some, None, filter, flat_map, map}
+use Rattle.std.proofs.Common.{◌≡◌, ◌++◌, ◌==◌, ℕ, true, List, [], ◌∷◌, inl, inr, refl, ap, ◌∙◌}
+use Rattle.std.specs.Prelude.{Contains, Some, filter, flat_map, map}
 use Rattle.std.proofs.lemmas.Bool.{cases_Bool}
 use Rattle.tailcfg.specs.declared.node_row.NodeRow.{NodeRow}
 use Rattle.net_rows.proofs.Members.{find_member, first_member, rest_member}

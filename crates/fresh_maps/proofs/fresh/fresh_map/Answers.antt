@@ -1,5 +1,5 @@
 use Rattle.std.proofs.Common.{◌≡◌, ◌∙◌, sym, subst}
-use Rattle.std.specs.Prelude.{Contains, Some}
+use Rattle.std.specs.Prelude.{Some}
 use Rattle.policy_eval.specs.Expansion.{Expansion}
 use Rattle.policy_eval.specs.Reach.{AreSoundRules}
 use Rattle.policy_eval.specs.Sites.{AreDistinct}
