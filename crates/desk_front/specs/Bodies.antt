@@ -9,8 +9,8 @@ use Rattle.admin_wire.specs.Users.{user_text, users_text}
 use Rattle.admin_wire.specs.Waiting.{waiting_text}
 use Rattle.machine_asks.specs.declared.answer.MachineAnswer.{MachineAnswer}
 use Rattle.machine_asks.specs.declared.answer.MachineAnswer.TheVariants as machine
-use Rattle.map_delta.specs.Frames.{frame_of}
-use Rattle.map_delta.specs.Responses.{first_response}
+use Rattle.fresh_maps.specs.Frames.{frame_of}
+use Rattle.fresh_maps.specs.Responses.{first_response}
 use Rattle.tailnet_desk.specs.declared.reply.Answer.{Answer}
 use Rattle.tailnet_desk.specs.declared.reply.Answer.TheVariants.{Machine, Operator, Seeded}
 use Rattle.wire_text.specs.Registered.{registered_text, login_at_text}

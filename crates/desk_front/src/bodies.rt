@@ -6,8 +6,8 @@ use admin_asks::OperatorAnswer;
 use admin_wire::{
     key_text, keys_text, node_text, nodes_text, swept_text, user_text, users_text, waiting_text,
 };
+use fresh_maps::first_frame;
 use machine_asks::MachineAnswer;
-use map_delta::first_frame;
 use std::alloc::Global;
 use tail_base::{NoMemory, Text};
 use tailnet_desk::Answer;

@@ -12,7 +12,7 @@ use Rattle.net_rows.specs.declared.key.AuthKey.{AuthKey}
 use Rattle.net_rows.specs.declared.machine.Machine.{Machine}
 use Rattle.net_rows.specs.declared.pending.Pending.{Pending}
 use Rattle.tailcfg.specs.declared.register.Register.{Register}
-use Rattle.map_delta.specs.Profiles.{profile_of}
+use Rattle.fresh_maps.specs.Profiles.{profile_of}
 use Rattle.desk_state.specs.State.{State, is_ahead}
 use Rattle.desk_state.specs.Users.{tags_granted}
 use Rattle.desk_state.specs.declared.decision.Decision.{Decision}

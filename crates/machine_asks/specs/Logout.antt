@@ -4,7 +4,7 @@ use Rattle.std.specs.Str.{bytes_eq}
 use Rattle.tail_base.specs.declared.key.NodeKey.{NodeKey}
 use Rattle.net_rows.specs.declared.change.Change.{Change}
 use Rattle.net_rows.specs.declared.machine.Machine.{Machine}
-use Rattle.map_delta.specs.Profiles.{profile_of}
+use Rattle.fresh_maps.specs.Profiles.{profile_of}
 use Rattle.desk_state.specs.Changes.{machine_gone}
 use Rattle.desk_state.specs.Decisions.{changing}
 use Rattle.desk_state.specs.State.{State, is_ahead, is_live}

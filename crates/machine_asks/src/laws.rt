@@ -6,7 +6,7 @@ ghost use Rattle.net_rows.specs.Damage.{damage};
 ghost use Rattle.net_rows.specs.declared.machine.Machine.{Machine};
 ghost use Rattle.tailcfg.specs.declared.register.Register as form;
 ghost use Rattle.tailcfg.specs.declared.update.Update as update;
-ghost use Rattle.map_delta.specs.Profiles.{profile_of};
+ghost use Rattle.fresh_maps.specs.Profiles.{profile_of};
 ghost use Rattle.desk_state.specs.Decisions.{IsSound, only, rows_after};
 ghost use Rattle.desk_state.specs.State.{State};
 ghost use Rattle.desk_state.specs.declared.decision.Decision.{Decision};

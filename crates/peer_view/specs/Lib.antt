@@ -1,3 +1,5 @@
+pub mod Nodes
 pub mod Reaches
 pub mod Seen
+pub mod Shown
 pub mod Worlds

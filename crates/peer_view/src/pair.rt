@@ -1,8 +1,10 @@
 //! Who reaches and who sees whom.
-ghost use Rattle.std.specs.Prelude.{◌≡◌, ◌≤◌, ◌+◌};
+ghost use Rattle.std.specs.Prelude.{◌≡◌, ◌≤◌, ◌+◌, Contains};
 ghost use Rattle.peer_view.specs.Seen.{node_reaches, of_ids, sees};
 
 use crate::by_id::id_reaches;
+use crate::machine::LiveMachine;
+use crate::site_rules::either_reaches;
 use crate::steps::Steps;
 use crate::world::World;
 use std::sync::ledger::Ledger;
@@ -34,4 +36,17 @@ pub fn sees<L: Ledger>(world: &World<'_>, viewer: u32, peer: u32, steps: &mut St
         return true;
     }
     pair_test(world, peer, viewer, steps)
+}
+
+/// Whether one live machine sees the other. It takes no memory, and looks up no ids.
+pub fn sees_machine(world: &World<'_>, viewer: &LiveMachine<'_>, peer: &LiveMachine<'_>) -> bool
+    requires viewer { Contains world.now.nodes viewer.now }
+    requires peer { Contains world.now.nodes peer.now }
+    ensures value { result ≡ sees world.now viewer.now peer.now }
+{
+    if viewer.row.id == peer.row.id {
+        return false;
+    }
+    let expanded = world.expanded;
+    either_reaches(expanded.groups(), expanded.rules(), viewer.site, peer.site)
 }

@@ -1,5 +1,5 @@
 //! Which machines the rules let through, seen from the two machines alone.
-ghost use Rattle.std.specs.Prelude.{◌≡◌};
+ghost use Rattle.std.specs.Prelude.{◌≡◌, ◌||◌};
 ghost use Rattle.std.specs.List.{list_any};
 ghost use Rattle.policy_eval.specs.Covers.{is_own_devices};
 ghost use Rattle.peer_view.specs.Reaches.{covers_site, joins_own_by, lets_through, sends, site_reaches, takes};
@@ -77,4 +77,12 @@ pub(crate) fn site_reaches(groups: &[Group], rules: &[Rule], a: &Site, b: &Site)
     ensures value { result ≡ site_reaches groups.now rules.now a.now b.now }
 {
     rules.iter().any(|rule| lets_through(groups, rule, a, b))
+}
+
+/// Whether one machine reaches the other, or the other the one.
+pub(crate) fn either_reaches(groups: &[Group], rules: &[Rule], a: &Site, b: &Site) -> bool
+    ensures value { result ≡ (site_reaches groups.now rules.now a.now b.now
+        || site_reaches groups.now rules.now b.now a.now) }
+{
+    site_reaches(groups, rules, a, b) || site_reaches(groups, rules, b, a)
 }

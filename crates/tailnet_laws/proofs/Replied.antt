@@ -3,7 +3,7 @@ use Rattle.std.proofs.Common.{◌≡◌, Result, Ok, Err, refl}
 use Rattle.tail_base.specs.Steps.{◌>>=◌}
 use Rattle.net_rows.specs.Sound.{AreSound}
 use Rattle.net_rows.specs.declared.machine.Machine.{Machine}
-use Rattle.map_delta.specs.declared.view.View.{View}
+use Rattle.fresh_maps.specs.declared.view.View.{View}
 use Rattle.desk_state.specs.Decisions.{answered}
 use Rattle.desk_state.specs.State.{State, at_moment}
 use Rattle.desk_state.specs.declared.decision.Decision.{Decision}

@@ -1,6 +1,6 @@
 //! The texts of `tailcfg`'s own names, as a client reads them, and the frames that carry them.
 use crate::parts::{dns, empty, node, one, patch, profile, rule};
-use map_delta::frame_bytes;
+use fresh_maps::frame_bytes;
 use std::alloc::Global;
 use std::test::Fail;
 use tail_base::{Duplicate, Items, NoMemory, Text};

@@ -1,6 +1,6 @@
 use Rattle.net_rows.specs.declared.machine.Machine.{Machine}
 use Rattle.desk_state.specs.State.{is_live}
-use Rattle.map_delta.proofs.ShownLemmas.{gathered_all}
+use Rattle.fresh_maps.proofs.ShownLemmas.{gathered_all}
 use Rattle.machine_asks.proofs.map_ask.live_ids.Goals as goal
 
 pub loop-machine-init : goal.loop-machine-init

@@ -2,7 +2,7 @@ use Rattle.std.proofs.Common.{◌≡◌, drop}
 use Rattle.net_rows.specs.declared.machine.Machine.{Machine}
 use Rattle.desk_state.specs.State.{is_live}
 use Rattle.machine_asks.specs.OneMap.{live_ids}
-use Rattle.map_delta.proofs.ShownLemmas.{gathered}
+use Rattle.fresh_maps.proofs.ShownLemmas.{gathered}
 use Rattle.machine_asks.proofs.map_ask.live_ids.Given as goal
 
 -- what is gathered from here on makes the whole list
