@@ -10,8 +10,8 @@ ghost use Rattle.admin_asks.specs.Short.{IsShortOperatorAsk};
 ghost use Rattle.admin_asks.specs.declared.operator_ask.OperatorAsk.{OperatorAsk};
 
 /// From settings and tables that keep their rules, and an ask whose lists are short, each change
-/// that is decided keeps the rules of the tables, changes rows, and lets no counter fall. The policy in
-/// force stays, and its text.
+/// that is decided keeps the rules of the tables, changes rows, and lets no counter fall. The policy
+/// in force stays, and its text.
 pub fn operator_decisions_are_sound()
     ensures sound { (s : State) (x : OperatorAsk) (words : Option (List ℕ))
         → AreSettings s.settings → damage s.rows ≡ None → IsShortOperatorAsk x

@@ -65,7 +65,8 @@ fn operator_text(alloc: Global, answer: &OperatorAnswer) -> Result<Text, NoMemor
     }
 }
 
-/// What an operator is answered on the policy: its text, as it was saved, or the object without members.
+/// What an operator is answered on the policy: its text, as it was saved, or the object without
+/// members.
 fn policy_body(alloc: Global, answer: &PolicyAnswer) -> Result<Vec<u8>, NoMemory>
     ensures value { IfOk result (λ made. made.items ≡ policy_body answer.now) }
 {

@@ -14,12 +14,12 @@ use Rattle.desk_state.specs.declared.refusal.Refusal.{Refusal}
 use Rattle.desk_state.specs.declared.refusal.Refusal.TheVariants.{TagNotOwned, TagUndefined}
 
 -- the login is one of these
-abbrev pub is_among : List (List ℕ) → List ℕ → Bool
-is_among logins login = list_any (λ other. bytes_eq other login) logins
+abbrev pub has_login : List (List ℕ) → List ℕ → Bool
+has_login logins login = list_any (λ other. bytes_eq other login) logins
 
 -- the owners of a tag name the login, directly or by a group
 abbrev pub names_owner : List Group → TagOwner → List ℕ → Bool
-names_owner groups entry login = is_among entry.users login || list_any (λ name. is_among (members_of groups name) login) entry.groups
+names_owner groups entry login = has_login entry.users login || list_any (λ name. has_login (members_of groups name) login) entry.groups
 
 -- the owners of a tag name the user of this id
 abbrev pub is_owner : State → Policy → TagOwner → ℕ → Bool

@@ -1,5 +1,5 @@
-//! What all asks speak of: the state of a tailnet with its policy in force, decisions, and why an ask
-//! is refused.
+//! What all asks speak of: the state of a tailnet with its policy in force, decisions, and why an
+//! ask is refused.
 #![tactic(auto)]
 
 mod changes;

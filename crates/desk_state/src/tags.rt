@@ -6,7 +6,7 @@ ghost use Rattle.tail_base.specs.Steps.{Gives};
 ghost use Rattle.policy_rows.specs.Named.{members_of};
 ghost use Rattle.policy_rows.specs.Names.{owner_of_tag};
 ghost use Rattle.desk_state.specs.Lines.{login_of};
-ghost use Rattle.desk_state.specs.Tags.{is_among, is_owner, names_owner, tag_defined, tag_granted, tags_defined, tags_granted};
+ghost use Rattle.desk_state.specs.Tags.{has_login, is_owner, names_owner, tag_defined, tag_granted, tags_defined, tags_granted};
 
 use crate::life::Snapshot;
 use crate::refusal::Refusal;
@@ -32,24 +32,24 @@ fn login_of(tables: &Tables, id: u32) -> &[u8]
     }
 }
 
-fn is_among(logins: &[Login], login: &[u8]) -> bool
-    ensures value { result ≡ is_among logins.now login.now }
+fn has_login(logins: &[Login], login: &[u8]) -> bool
+    ensures value { result ≡ has_login logins.now login.now }
 {
     logins.iter().any(|other| other.as_slice() == login)
 }
 
 fn is_member_of_some(groups: &[Group], names: &[Text], login: &[u8]) -> bool
     ensures value { result
-        ≡ list_any (λ name. is_among (members_of groups.now name) login.now) names.now }
+        ≡ list_any (λ name. has_login (members_of groups.now name) login.now) names.now }
 {
-    names.iter().any(|name| is_among(members_of(groups, name.as_slice()), login))
+    names.iter().any(|name| has_login(members_of(groups, name.as_slice()), login))
 }
 
 /// Whether the owners of a tag name the login, directly or by a group.
 fn names_owner(groups: &[Group], entry: &TagOwner, login: &[u8]) -> bool
     ensures value { result ≡ names_owner groups.now entry.now login.now }
 {
-    is_among(entry.users.as_slice(), login)
+    has_login(entry.users.as_slice(), login)
         || is_member_of_some(groups, entry.groups.as_slice(), login)
 }
 

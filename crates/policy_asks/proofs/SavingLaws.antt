@@ -18,7 +18,7 @@ use Rattle.desk_state.specs.Decisions.{IsSound, IsSoundChange, IsSoundDecision, 
 use Rattle.desk_state.specs.State.{State}
 use Rattle.desk_state.specs.declared.decision.Decision.{Decision}
 use Rattle.desk_state.proofs.Proper.{same_counters, sound_change}
-use Rattle.policy_asks.specs.Decision.{decision}
+use Rattle.policy_asks.specs.Decision.{policy_decision}
 use Rattle.policy_asks.specs.Saving.{is_kept, kept_anew, or_refused, save, saved, text_change}
 use Rattle.policy_asks.specs.Served.{policy_in, served_policy}
 use Rattle.policy_asks.specs.declared.answer.PolicyAnswer.{PolicyAnswer}
@@ -83,7 +83,7 @@ save_sound s text sound d is =
     let parts = saved_is s text d is in
     subst (IsSoundDecision s.rows) parts.2 (saved_sound s.rows text parts.0 sound (served_short text parts.0 parts.1))
 
-pub policy_decision_sound : (s : State) (x : PolicyAsk) → damage s.rows ≡ None → IsSound s.rows (decision s x)
+pub policy_decision_sound : (s : State) (x : PolicyAsk) → damage s.rows ≡ None → IsSound s.rows (policy_decision s x)
 policy_decision_sound s ask.Policy none d is =
     let same : only (answer.PolicyText s.rows.policy) ≡ d = cc in
     subst (IsSoundDecision s.rows) same (still_sound s.rows (only (answer.PolicyText s.rows.policy)) refl)
@@ -98,7 +98,7 @@ saved_kept t text p q read named = elim (cases_Bool (is_kept t.policy text)) [
   | inl kept ↦ let clash : None ≡ Some q = rw kept at named in absurd (cc)
 ]
 
-pub decision_kept : (s : State) (x : PolicyAsk) (d : Decision PolicyAnswer) (q : Policy) → decision s x ≡ Ok d → d.policy ≡ Some q → policy_in (rows_after s.rows d.change) ≡ Some q
+pub decision_kept : (s : State) (x : PolicyAsk) (d : Decision PolicyAnswer) (q : Policy) → policy_decision s x ≡ Ok d → d.policy ≡ Some q → policy_in (rows_after s.rows d.change) ≡ Some q
 decision_kept s ask.Policy d q is named =
     let same : only (answer.PolicyText s.rows.policy) ≡ d = cc in
     let clash : None ≡ Some q = rw (← same) at named in absurd (cc)

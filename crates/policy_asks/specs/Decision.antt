@@ -11,6 +11,6 @@ use Rattle.policy_asks.specs.declared.ask.PolicyAsk.{PolicyAsk}
 use Rattle.policy_asks.specs.declared.ask.PolicyAsk.TheVariants as ask
 
 -- in a state that is at its moment
-abbrev pub decision : State → PolicyAsk → Result (Decision PolicyAnswer) Refusal
-decision s ask.Policy = Ok (only (answer.PolicyText s.rows.policy))
-decision s (ask.SavePolicy text) = save s text
+abbrev pub policy_decision : State → PolicyAsk → Result (Decision PolicyAnswer) Refusal
+policy_decision s ask.Policy = Ok (only (answer.PolicyText s.rows.policy))
+policy_decision s (ask.SavePolicy text) = save s text

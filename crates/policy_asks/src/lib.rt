@@ -1,5 +1,5 @@
-//! What operators ask of the policy: its text, and that another is kept and put in force. Which policy
-//! tables have: that of the text that they keep.
+//! What operators ask of the policy: its text, and that another is kept and put in force. Which
+//! policy tables have: that of the text that they keep.
 #![tactic(auto)]
 
 mod answer;

@@ -79,8 +79,8 @@ fn saved(
     }
 }
 
-/// The text is kept and its policy put in force, unless the text has a fault or a form that isn't served
-/// yet, which refuses it. Where it is the text that is kept already, nothing changes.
+/// The text is kept and its policy put in force, unless the text has a fault or a form that isn't
+/// served yet, which refuses it. Where it is the text that is kept already, nothing changes.
 pub(crate) fn save(
     alloc: Global,
     at: &Snapshot<'_>,

@@ -18,8 +18,8 @@ fn has_approvers(policy: &Policy) -> bool
     policy.route_approvers.len() > 0 || policy.exit_approvers.len() > 0
 }
 
-/// Refuses the first form that isn't served yet: automatic approval of routes and exit nodes, and then
-/// tests.
+/// Refuses the first form that isn't served yet: automatic approval of routes and exit nodes, and
+/// then tests.
 fn check_forms(alloc: Global, policy: &Policy) -> Result<(), Failure<PolicyFault>>
     ensures value { Gives (λ t. t) result (served_forms policy.now) }
 {
@@ -32,9 +32,9 @@ fn check_forms(alloc: Global, policy: &Policy) -> Result<(), Failure<PolicyFault
     Ok(())
 }
 
-/// The policy that a text states, as saves and opened tables have it. The fault is the text's first, or,
-/// in a text without one, the first of its forms that isn't served yet: automatic approval of routes
-/// and exit nodes, and then tests.
+/// The policy that a text states, as saves and opened tables have it. The fault is the text's
+/// first, or, in a text without one, the first of its forms that isn't served yet: automatic approval of
+/// routes and exit nodes, and then tests.
 #[tactic(auto, unfolding(crate::specs::Served::served_policy))]
 pub fn served_policy(alloc: Global, text: &[u8]) -> Result<Policy, Failure<PolicyFault>>
     ensures value { Gives (λ p. p) result (served_policy text.now) }
@@ -59,8 +59,8 @@ fn policy_of_kept(
     }
 }
 
-/// The policy of tables: that of the text that they keep, if they keep one. It is refused exactly where
-/// that text has a fault or a form that isn't served yet.
+/// The policy of tables: that of the text that they keep, if they keep one. It is refused exactly
+/// where that text has a fault or a form that isn't served yet.
 pub fn policy_in(alloc: Global, tables: &Tables) -> Result<Option<Policy>, Failure<PolicyFault>>
     ensures value { IfOk result (λ policy. policy ≡ policy_in tables.now.rows) }
     ensures read { OnOk result (is_unread tables.now.rows.policy ≡ false) }

@@ -16,7 +16,7 @@ use Rattle.admin_asks.proofs.DecisionLaws.{operator_decision_sound}
 use Rattle.machine_asks.specs.Decision as machine
 use Rattle.machine_asks.specs.Seed.{seed}
 use Rattle.machine_asks.proofs.DecisionLaws.{machine_decision_sound, seed_sound}
-use Rattle.policy_asks.specs.Decision as policy
+use Rattle.policy_asks.specs.Decision.{policy_decision}
 use Rattle.policy_asks.specs.Served.{policy_in, policy_of_kept}
 use Rattle.policy_asks.proofs.SavingLaws.{decision_kept, policy_decision_sound}
 use Rattle.tailnet_desk.specs.Asks.{IsShort}
@@ -43,7 +43,7 @@ pub decision_sound : (s : State) (x : Ask) (words : Option (List ℕ)) → AreSe
 decision_sound s (ask.Seed text) words hold none short = answered_sound (λ nothing. answer.Seeded) s.rows (seed s text) (seed_sound s text none).sound
 decision_sound s (ask.Machine x) words hold none short = answered_sound answer.Machine s.rows (machine.decision s x words) (machine_decision_sound s x words hold none short).sound
 decision_sound s (ask.Operator x) words hold none short = answered_sound answer.Operator s.rows (operator.decision s x words) (operator_decision_sound s x words hold none short).sound
-decision_sound s (ask.Policy x) words hold none short = answered_sound answer.Policy s.rows (policy.decision s x) (policy_decision_sound s x none)
+decision_sound s (ask.Policy x) words hold none short = answered_sound answer.Policy s.rows (policy_decision s x) (policy_decision_sound s x none)
 
 -- after a decision the policy in force is that of the tables
 abbrev pub KeepsPolicy : {A : Type 0} → State → Decision A → Type 0
@@ -84,7 +84,7 @@ decision_in_force s (ask.Operator x) words d hold none short is =
     answered_in_force answer.Operator s (operator.decision s x words) d
     (λ y yes. plain_in_force s (operator.decision s x words) y (operator_decision_sound s x words hold none short) yes) is
 decision_in_force s (ask.Policy x) words d hold none short is =
-    answered_in_force answer.Policy s (policy.decision s x) d
+    answered_in_force answer.Policy s (policy_decision s x) d
     (λ y yes. policy_in_force s y y.policy refl (policy_decision_sound s x none y yes) (λ p named. decision_kept s x y p yes named)) is
 
 -- the same where the policy in force is lent

@@ -32,10 +32,10 @@ abbrev pub unserved : Rows → Option Damage
 unserved rows = option_or (unserved_rows rows) (damage_if (is_unread rows.policy) (record { kind = kind.Policy; id = 0 }))
 
 -- Why tables aren't opened: a row isn't served, or memory ran out.
-abbrev pub IsUnserved : Rows → OpenFault → Type 0
-IsUnserved rows fault.KeeperFault = ⊥
-IsUnserved rows (fault.Damaged kind id) = unserved rows ≡ Some (record { kind = kind; id = id })
-IsUnserved rows fault.NoMemory = Unit {0}
+abbrev pub IsOpenFault : Rows → OpenFault → Type 0
+IsOpenFault rows fault.KeeperFault = ⊥
+IsOpenFault rows (fault.Damaged kind id) = unserved rows ≡ Some (record { kind = kind; id = id })
+IsOpenFault rows fault.NoMemory = Unit {0}
 
 -- the state of tables when they are opened: the policy that they keep is in force, and no machine is online
 abbrev pub opening : SettingsFields → Rows → ℤ → State

@@ -12,7 +12,7 @@ use Rattle.desk_state.specs.declared.refusal.Refusal.{Refusal}
 use Rattle.admin_asks.specs.Decision as operator
 use Rattle.machine_asks.specs.Decision as machine
 use Rattle.machine_asks.specs.Seed.{seed}
-use Rattle.policy_asks.specs.Decision as policy
+use Rattle.policy_asks.specs.Decision.{policy_decision}
 use Rattle.tailnet_desk.specs.declared.ask.Ask.{Ask}
 use Rattle.tailnet_desk.specs.declared.ask.Ask.TheVariants as ask
 use Rattle.tailnet_desk.specs.declared.entry.Event.{Event}
@@ -27,7 +27,7 @@ abbrev pub decision : State → Ask → Option (List ℕ) → Result (Decision A
 decision s (ask.Seed text) words = seed s text >>= λ d. Ok (answered (λ nothing. answer.Seeded) d)
 decision s (ask.Machine x) words = machine.decision s x words >>= λ d. Ok (answered answer.Machine d)
 decision s (ask.Operator x) words = operator.decision s x words >>= λ d. Ok (answered answer.Operator d)
-decision s (ask.Policy x) words = policy.decision s x >>= λ d. Ok (answered answer.Policy d)
+decision s (ask.Policy x) words = policy_decision s x >>= λ d. Ok (answered answer.Policy d)
 
 -- machines whose rows go have no presence
 abbrev pub presence_after : List MachinePresence → Option Change → List MachinePresence

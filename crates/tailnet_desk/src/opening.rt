@@ -4,7 +4,7 @@ ghost use Rattle.std.specs.List.{find};
 ghost use Rattle.std.specs.Option.{option_copied, option_map};
 ghost use Rattle.desk_state.specs.State.{offline_at};
 ghost use Rattle.policy_asks.specs.Served.{policy_in};
-ghost use Rattle.tailnet_desk.specs.Opening.{IsUnserved, approved_machine, damage_if, unserved, unserved_rows};
+ghost use Rattle.tailnet_desk.specs.Opening.{IsOpenFault, approved_machine, damage_if, unserved, unserved_rows};
 
 use crate::desk::OpenFault;
 use desk_state::{MachinePresence, Presence};
@@ -77,7 +77,7 @@ fn unserved_rows(tables: &Tables) -> Option<Damage>
 fn served_policy_in(alloc: Global, tables: &Tables) -> Result<Option<Policy>, OpenFault>
     ensures value { IfOk result (λ policy. policy ≡ policy_in tables.now.rows) }
     ensures served { OnOk result (unserved tables.now.rows ≡ None) }
-    ensures fault { IfErr result (IsUnserved tables.now.rows) }
+    ensures fault { IfErr result (IsOpenFault tables.now.rows) }
 {
     if let Some(Damage { kind, id }) = unserved_rows(tables) {
         return Err(OpenFault::Damaged { kind, id });
@@ -105,7 +105,7 @@ pub(crate) fn opened(alloc: Global, tables: &Tables, now: Moment) -> Result<Open
     ensures presence { IfOk result (λ made. made.presence.0
         ≡ map (λ m. offline_at now m.id) tables.now.rows.machines) }
     ensures served { OnOk result (unserved tables.now.rows ≡ None) }
-    ensures fault { IfErr result (IsUnserved tables.now.rows) }
+    ensures fault { IfErr result (IsOpenFault tables.now.rows) }
 {
     let policy = served_policy_in(alloc, tables)?;
     match all_offline_of(alloc, tables, now) {

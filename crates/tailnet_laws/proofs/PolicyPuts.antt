@@ -5,7 +5,7 @@ use Rattle.policy_rows.specs.declared.policy.Policy.{Policy}
 use Rattle.desk_state.specs.Decisions.{only}
 use Rattle.desk_state.specs.State.{State}
 use Rattle.desk_state.specs.declared.decision.Decision.{Decision}
-use Rattle.policy_asks.specs.Decision.{decision}
+use Rattle.policy_asks.specs.Decision.{policy_decision}
 use Rattle.policy_asks.specs.Saving.{is_kept, kept_anew, or_refused, saved, text_change}
 use Rattle.policy_asks.specs.Served.{served_policy}
 use Rattle.policy_asks.specs.declared.answer.PolicyAnswer.{PolicyAnswer}
@@ -31,7 +31,7 @@ module _ (s : State) where
       either_of Saves (is_kept s.rows.policy text) (only answer.Saved) (kept_anew s.rows text p) (λ _. quiet answer.Saved)
       (λ _. puts_some s.rows (IsKeyPut s.rows) NoneEnters (kept_anew s.rows text p) (text_change s.rows text) refl (tt, tt))
 
-  pub policy_puts : (x : PolicyAsk) → Every Saves (decision s x)
+  pub policy_puts : (x : PolicyAsk) → Every Saves (policy_decision s x)
   policy_puts ask.Policy = every_ok Saves (only (answer.PolicyText s.rows.policy)) (quiet (answer.PolicyText s.rows.policy))
   policy_puts (ask.SavePolicy text) =
       every_bind Saves (or_refused (served_policy text)) _ (λ (p : Policy) _. every_ok Saves (saved s.rows text p) (saved_puts text p))
