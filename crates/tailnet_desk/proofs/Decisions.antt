@@ -1,6 +1,6 @@
 -- From settings and tables that keep their rules, and an ask that is short, what is decided is sound, and the policy in
 -- force is that of the tables afterwards, where it was before.
-use Rattle.std.proofs.Common.{◌≡◌, ◌≢◌, ℕ, List, Option, Some, None, Result, Ok, Err, refl, sym, ap, ◌∙◌, subst}
+use Rattle.std.proofs.Common.{◌≡◌, ℕ, List, Option, Some, None, Result, Ok, Err, refl, sym, ap, ◌∙◌}
 use Rattle.std.specs.Option.{option_or}
 use Rattle.net_rows.specs.Damage.{damage}
 use Rattle.net_rows.specs.declared.rows.Rows.{Rows}
@@ -86,10 +86,3 @@ decision_in_force s (ask.Operator x) words d hold none short is =
 decision_in_force s (ask.Policy x) words d hold none short is =
     answered_in_force answer.Policy s (policy_decision s x) d
     (λ y yes. policy_in_force s y y.policy refl (policy_decision_sound s x none y yes) (λ p named. decision_kept s x y p yes named)) is
-
--- the same where the policy in force is lent
-pub lent_in_force : (s : State) (held : Option Policy) (x : Ask) (words : Option (List ℕ)) (d : Decision Answer) → AreSettings s.settings → damage s.rows ≡ None → IsShort x
-    → decision s x words ≡ Ok d → s.policy ≡ held → IsInForce s.rows held → IsInForce (rows_after s.rows d.change) (option_or d.policy held)
-lent_in_force s held x words d hold none short is lent inside =
-    let kept = decision_in_force s x words d hold none short is (lent ∙ inside) in
-    subst (λ (p : Option Policy). IsInForce (rows_after s.rows d.change) (option_or d.policy p)) lent kept

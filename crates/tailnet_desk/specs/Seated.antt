@@ -17,8 +17,8 @@ IsInForce rows policy = policy ≡ policy_in rows
 
 -- What a desk holds: its keeper has its rows, where it tells them, and their policy is in force.
 pub record IsHeld (rows : Rows) (policy : Option Policy) (told : Option Rows) : Type 0 where
-  pub told : IsWhereTold rows told
-  pub policy : IsInForce rows policy
+  pub kept : IsWhereTold rows told
+  pub in_force : IsInForce rows policy
 
 -- what is told of a keeper: its rows, if it tells them, how often a call has failed, and how often it was called
 pub record Keeping : Type 0 where

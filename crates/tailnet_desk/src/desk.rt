@@ -15,7 +15,7 @@ ghost use Rattle.tailnet_desk.specs.declared.entry.Event.TheVariants as event;
 
 use crate::ask::Ask;
 use crate::deciding::decide;
-use crate::opening::{Opened, opened};
+use crate::opening::{Beginning, beginning_of};
 use crate::reply::{Answer, Loss, Reply};
 use crate::settling::{end_presence, forget, go_offline, put_in_force};
 use desk_state::{Decision, MachinePresence, Snapshot, keep_rules};
@@ -131,8 +131,8 @@ impl<K: Keeper> Desk<K> {
             }
             Err(LoadFault::NoMemory) => return Err((OpenFault::NoMemory, keeper)),
         };
-        match opened(alloc, &tables, moment) {
-            Ok(Opened { policy, presence }) => Ok(Desk {
+        match beginning_of(alloc, &tables, moment) {
+            Ok(Beginning { policy, presence }) => Ok(Desk {
                 settings,
                 tables,
                 policy,

@@ -94,13 +94,17 @@ fn served_policy_in(alloc: Global, tables: &Tables) -> Result<Option<Policy>, Op
 
 /// What a desk holds beside its tables when it opens.
 #[derive(Drop)]
-pub(crate) struct Opened {
+pub(crate) struct Beginning {
     pub(crate) policy: Option<Policy>,
     pub(crate) presence: Shelf<MachinePresence>,
 }
 
 /// What a desk over these tables holds beside them, or why they aren't opened.
-pub(crate) fn opened(alloc: Global, tables: &Tables, now: Moment) -> Result<Opened, OpenFault>
+pub(crate) fn beginning_of(
+    alloc: Global,
+    tables: &Tables,
+    now: Moment,
+) -> Result<Beginning, OpenFault>
     ensures policy { IfOk result (λ made. made.policy ≡ policy_in tables.now.rows) }
     ensures presence { IfOk result (λ made. made.presence.0
         ≡ map (λ m. offline_at now m.id) tables.now.rows.machines) }
@@ -109,7 +113,7 @@ pub(crate) fn opened(alloc: Global, tables: &Tables, now: Moment) -> Result<Open
 {
     let policy = served_policy_in(alloc, tables)?;
     match all_offline_of(alloc, tables, now) {
-        Ok(presence) => Ok(Opened { policy, presence }),
+        Ok(presence) => Ok(Beginning { policy, presence }),
         Err(NoMemory) => Err(OpenFault::NoMemory),
     }
 }
