@@ -1,5 +1,5 @@
 -- Asks on the policy put no row of a user, a key, a machine or one that waits.
-use Rattle.std.proofs.Common.{ℕ, List, Ok, refl}
+use Rattle.std.proofs.Common.{ℕ, List, refl}
 use Rattle.tail_base.specs.declared.key.MachineKey.{MachineKey}
 use Rattle.policy_rows.specs.declared.policy.Policy.{Policy}
 use Rattle.desk_state.specs.Decisions.{only}
