@@ -149,7 +149,10 @@ const SHOW: &[u8] =
 fn assert_damaged(rt: &impl Abort, alloc: Global, policy: &str) -> Result<(), NoMemory> {
     let ran = piped_over(alloc, tables_with(alloc, policy)?, SHOW)?;
     assert!(rt; ran.status == Status::Damaged, "{policy}");
-    assert!(rt; ran.errors.bytes() == b"tailnetd: damaged policy 0\n".as_slice(), "{policy}");
+    assert!(rt;
+        ran.errors.bytes() == b"tailnetd: damaged policy 0\n".as_slice(),
+        "{policy}"
+    );
     assert!(rt; ran.output.bytes() == b"".as_slice(), "{policy}");
     Ok(())
 }
@@ -187,7 +190,11 @@ fn a_policy_is_text_within_its_limit(rt: HostRuntime) -> Result<(), Fail> {
         long.push(b' ')?;
     }
     let ran = piped(alloc, SETTINGS, &save_of(alloc, &long)?, &CALM)?;
-    assert!(rt; ran.output.bytes().ends_with(b"{\"code\":\"P19\",\"place\":\"text\"}"));
+    assert!(rt;
+        ran.output
+            .bytes()
+            .ends_with(b"{\"code\":\"P19\",\"place\":\"text\"}")
+    );
     Ok(())
 }
 
@@ -202,6 +209,10 @@ fn kept_policies_are_opened(rt: HostRuntime) -> Result<(), Fail> {
     assert_damaged(&rt, alloc, "")?;
     assert_damaged(&rt, alloc, "{\"acls\":[{}]}")?;
     assert_damaged(&rt, alloc, "{\"autoApprovers\":{\"exitNode\":[\"ann@\"]}}")?;
-    assert_damaged(&rt, alloc, "{\"tests\":[{\"src\":\"ann@\",\"accept\":[\"bob@:22\"]}]}")?;
+    assert_damaged(
+        &rt,
+        alloc,
+        "{\"tests\":[{\"src\":\"ann@\",\"accept\":[\"bob@:22\"]}]}",
+    )?;
     Ok(())
 }
