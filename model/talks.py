@@ -37,9 +37,18 @@ IDS = ["0", "01", "2147483647", "2147483648", "x", "-1", "1x", "99999999999", "+
 BODIES = [
     b"", b"[]", b"{", b"null", b'"x"', b'{"a":1}x', b"\xff", b'{"NodeKey":"\xff"}', b'{"name":"a","name":"dup"}', b'{"user":-0}',
 ]
+POLICIES = [
+    '{"tagOwners": {"tag:web": ["ann@", "seed@"], "tag:Db-1": ["group:dev"], "tag:a": []}, "groups": {"group:dev": ["ANN@", "bob@example.org"]}}',
+    '{"tagOwners": {"tag:web": ["group:all",]}, /* all */ "groups": {"group:all": ["ann@", "seed@", "bob@example.org"]}} // so far',
+    '{"tagOwners": {"tag:a": ["seed@"], "tag:web": ["seed@"], "tag:Db-1": ["seed@"]}}', "{}", '{"hosts": {"lab": "192.168.5.0/24"}}',
+]
+NO_POLICIES = [
+    "", "[,]", "/* open", '{"tagOwners": {"tag:1": []}}', '{"tagOwners": {"tag:a": ["group:x"]}}', '{"tests": [{"src": "ann@"}]}',
+    '{"autoApprovers": {"exitNode": ["ann@"]}}', '{"a\\"b": 1}', '{"groups": {"group:a": ["ann"]}}', "null", "\ufeff{}",
+]
 STRAY = [
     ("GET", "/"), ("GET", "/machine/map"), ("PUT", "/machine/map"), ("POST", "/machine/map/"), ("GET", "/api/v1/node/1"),
-    ("GET", "/api/v1/policy"), ("POST", "/api/v1/node/1/routes"), ("GET", "/api/v1/dns"), ("DELETE", "/api/v1/user/"),
+    ("POST", "/api/v1/policy"), ("POST", "/api/v1/node/1/routes"), ("GET", "/api/v1/dns"), ("DELETE", "/api/v1/user/"),
     ("PATCH", "/api/v1/user"), ("GET", "/api/v1/user?x=1"), ("post", "/api/v1/sweep"), ("GET", "//api/v1/user"),
     ("GET", "/api/v1/user/"), ("DELETE", "/api/v1/node/0"), ("GET", "/api/v1/node/01"), ("GET", "/api/v1/node/1/"),
 ]
@@ -194,6 +203,12 @@ class Talk:
             ("POST", "/api/v1/sweep", None, {}),
         ])
 
+    def policy(self):
+        return self.one_of([
+            ("GET", "/api/v1/policy", None, None),
+            ("PUT", "/api/v1/policy", None, self.one_of(4 * POLICIES, NO_POLICIES).encode()),
+        ])
+
     def stray(self):
         method, path = self.one_of(STRAY)
         return method, path, self.key("mkey:", "12345"), {} if method in ("POST", "PUT") else None
@@ -241,10 +256,10 @@ class Talk:
         return fields
 
     def request(self):
-        draws = 10 * [self.register] + 5 * [self.map] + 3 * [self.node] + [self.user, self.pre_auth_key, self.waiting]
+        draws = 10 * [self.register] + 5 * [self.map] + 3 * [self.node] + [self.user, self.pre_auth_key, self.waiting, self.policy]
         draw = self.stray if self.once_in(40) else self.random.choice(draws)
         method, path, machine, body = draw()
-        body = b"" if body is None else json.dumps(body, ensure_ascii=self.once_in(2)).encode()
+        body = b"" if body is None else body if isinstance(body, bytes) else json.dumps(body, ensure_ascii=self.once_in(2)).encode()
         if self.once_in(80) and method == "POST":
             body = self.one_of(BODIES, [body + b" "])
         return {

@@ -1,2 +1,3 @@
-pub mod TextLemmas
+pub mod Kept
 pub mod Proper
+pub mod TextLemmas

@@ -1,4 +1,5 @@
-//! What all asks speak of: the state of a tailnet, decisions, and why an ask is refused.
+//! What all asks speak of: the state of a tailnet with its policy in force, decisions, and why an
+//! ask is refused.
 #![tactic(auto)]
 
 mod changes;
@@ -9,6 +10,7 @@ mod lines;
 mod presence;
 mod refusal;
 mod rules;
+mod tags;
 mod texts;
 mod users;
 
@@ -20,5 +22,6 @@ pub use lines::{KeyLine, NodeLine, key_line, login_of, node_line, offline_line};
 pub use presence::{MachinePresence, Presence};
 pub use refusal::{Refusal, Scarce};
 pub use rules::keep_rules;
+pub use tags::{tags_defined, tags_granted};
 pub use texts::row_text;
-pub use users::{tags_defined, tags_granted, user_named};
+pub use users::user_named;

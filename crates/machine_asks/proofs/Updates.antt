@@ -16,7 +16,7 @@ use Rattle.tailcfg.specs.declared.host_update.HostUpdate.{HostUpdate}
 use Rattle.tailcfg.specs.declared.limits.TheConstants.{HOST_LIMIT, ROUTE_LIMIT}
 use Rattle.tailcfg.specs.declared.update.Update.{Update}
 use Rattle.desk_state.specs.State.{State, is_live}
-use Rattle.desk_state.specs.Decisions.{IsSound, IsSoundChange, changing, only}
+use Rattle.desk_state.specs.Decisions.{IsPlain, IsSoundChange, changing, only}
 use Rattle.desk_state.specs.declared.refusal.Refusal.TheVariants.{NotLive, UnknownMachine}
 use Rattle.desk_state.proofs.Proper.{proper_bind, proper_choice, proper_none, proper_some, same_counters, sound_change}
 use Rattle.machine_rows.specs.Rows.{row_replaced}
@@ -87,26 +87,26 @@ told_change s m u sound inside short other =
     let apart : told_row m u ≢ m = λ e. let clash : true ≡ false = sym (told_kept m (told_row m u) e) ∙ other in absurd (cc) in
     sound_change s.rows (row_replaced s.rows (told_row m u)) (told_sound s m u sound inside short) (replaced_differs s.rows m (told_row m u) sound inside refl apart) (same_counters s.rows.next)
 
-updated_proper : (s : State) (m : Machine) (u : Update) → AreSound s.rows → Contains s.rows.machines m → IsShortUpdate u → IsSound s.rows (Ok (updated s m (told_row m u)))
+updated_proper : (s : State) (m : Machine) (u : Update) → AreSound s.rows → Contains s.rows.machines m → IsShortUpdate u → IsPlain s.rows (Ok (updated s m (told_row m u)))
 updated_proper s m u sound inside short =
     let change = row_replaced s.rows (told_row m u) in
-    proper_choice s.rows (same_told m (told_row m u)) (only Updated) (changing change Updated) (λ _. proper_none s.rows (only Updated) refl)
-    (λ other. proper_some s.rows (changing change Updated) change refl (told_change s m u sound inside short other))
+    proper_choice s.rows (same_told m (told_row m u)) (only Updated) (changing change Updated) (λ _. proper_none s.rows (only Updated) refl refl)
+    (λ other. proper_some s.rows (changing change Updated) change refl refl refl (told_change s m u sound inside short other))
 
-pub update_proper : (s : State) (mk : MachineKey) (node : NodeKey) (u : Update) → AreSound s.rows → IsShortUpdate u → IsSound s.rows (update s mk node u)
+pub update_proper : (s : State) (mk : MachineKey) (node : NodeKey) (u : Update) → AreSound s.rows → IsShortUpdate u → IsPlain s.rows (update s mk node u)
 update_proper s mk node u sound short =
     proper_bind s.rows (asking s mk node) (λ m. Ok (updated s m (told_row m u)))
     (λ m is. updated_proper s m u sound (asking_is s mk node m is) short)
 
-map_proper : (s : State) (m : Machine) (told : Option Update) → AreSound s.rows → Contains s.rows.machines m → IfSome told IsShortUpdate → IsSound s.rows (Ok (map_decision s m told))
-map_proper s m None sound inside short = proper_none s.rows (only (map_for s m)) refl
+map_proper : (s : State) (m : Machine) (told : Option Update) → AreSound s.rows → Contains s.rows.machines m → IfSome told IsShortUpdate → IsPlain s.rows (Ok (map_decision s m told))
+map_proper s m None sound inside short = proper_none s.rows (only (map_for s m)) refl refl
 map_proper s m (Some u) sound inside short =
     let change = row_replaced s.rows (told_row m u) in
     let later = map_for (after_change s change) (told_row m u) in
-    proper_choice s.rows (same_told m (told_row m u)) (only (map_for s m)) (changing change later) (λ _. proper_none s.rows (only (map_for s m)) refl)
-    (λ other. proper_some s.rows (changing change later) change refl (told_change s m u sound inside short other))
+    proper_choice s.rows (same_told m (told_row m u)) (only (map_for s m)) (changing change later) (λ _. proper_none s.rows (only (map_for s m)) refl refl)
+    (λ other. proper_some s.rows (changing change later) change refl refl refl (told_change s m u sound inside short other))
 
-pub one_map_proper : (s : State) (mk : MachineKey) (node : NodeKey) (told : Option Update) → AreSound s.rows → IfSome told IsShortUpdate → IsSound s.rows (one_map s mk node told)
+pub one_map_proper : (s : State) (mk : MachineKey) (node : NodeKey) (told : Option Update) → AreSound s.rows → IfSome told IsShortUpdate → IsPlain s.rows (one_map s mk node told)
 one_map_proper s mk node told sound short =
     proper_bind s.rows (asking s mk node) (λ m. Ok (map_decision s m told))
     (λ m is. map_proper s m told sound (asking_is s mk node m is) short)

@@ -21,7 +21,7 @@ is_logout s expiry = not (is_ahead s.now expiry)
 
 -- the machine is offline from now on if it was online, and this changes of its row
 abbrev pub session_ended : Machine → Option Change → MachineAnswer → Decision MachineAnswer
-session_ended m change answer = record { change = change; offline = []; ended = m.id ∷ []; answer = answer }
+session_ended m change answer = record { change = change; policy = None; offline = []; ended = m.id ∷ []; answer = answer }
 
 -- the row expires now
 abbrev pub expired_row : State → Machine → Machine

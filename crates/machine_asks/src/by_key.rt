@@ -123,6 +123,7 @@ fn admitted_by_key(
     let answer = registered(alloc, at, row.user, row.expiry)?;
     Ok(Decision {
         change: change_by_key(alloc, at, was, row, next, key)?,
+        policy: None,
         offline,
         ended: Items::new(alloc),
         answer,

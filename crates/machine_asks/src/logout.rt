@@ -33,6 +33,7 @@ fn session_ended(
     ended.push(row.id)?;
     Ok(Decision {
         change,
+        policy: None,
         offline: Items::new(alloc),
         ended,
         answer,

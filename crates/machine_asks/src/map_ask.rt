@@ -114,6 +114,7 @@ fn map_in(
     let changed = Snapshot {
         settings: at.settings,
         tables,
+        policy: at.policy,
         presence: at.presence,
         time: at.time,
     };

@@ -4,6 +4,7 @@ mod edges;
 mod faults;
 mod limits;
 mod lives;
+mod policies;
 mod refusals;
 mod reopened;
 mod rows;
@@ -99,10 +100,9 @@ fn entropy_of(alloc: Global, call: u32) -> Result<MemoryEntropy, NoMemory> {
     Ok(MemoryEntropy::new(answers, fails))
 }
 
-fn opener_of(alloc: Global, plan: &Plan) -> Result<MemoryOpener, NoMemory> {
+fn opener_of(alloc: Global, tables: Tables, plan: &Plan) -> Result<MemoryOpener, NoMemory> {
     let opens = failing(alloc, plan.open)?;
     let keeps = failing(alloc, plan.keep)?;
-    let tables = Tables::empty(alloc);
     Ok(MemoryOpener::new(alloc, tables, opens, keeps))
 }
 
@@ -150,12 +150,13 @@ struct Stores {
 fn stores_of(
     alloc: Global,
     clock: MemoryClock,
+    tables: Tables,
     settings: &[u8],
     plan: &Plan,
 ) -> Result<Stores, NoMemory> {
     let entropy = entropy_of(alloc, plan.word)?;
     let files = files_of(alloc, settings, plan.file)?;
-    let opener = opener_of(alloc, plan)?;
+    let opener = opener_of(alloc, tables, plan)?;
     Ok(Stores {
         files,
         opener,
@@ -195,8 +196,17 @@ pub(crate) fn piped_at(
     input: &[u8],
     plan: &Plan,
 ) -> Result<Ran, NoMemory> {
-    let stores = stores_of(alloc, clock, settings, plan)?;
+    let stores = stores_of(alloc, clock, Tables::empty(alloc), settings, plan)?;
     let streams = streams_of(alloc, input, plan)?;
+    Ok(run(alloc, streams, stores))
+}
+
+/// The same over kept tables, at 2001-09-09T01:46:40Z.
+pub(crate) fn piped_over(alloc: Global, tables: Tables, input: &[u8]) -> Result<Ran, NoMemory> {
+    let mut moments = Items::new(alloc);
+    moments.push(1_000_000_000)?;
+    let stores = stores_of(alloc, MemoryClock::new(moments), tables, SETTINGS, &CALM)?;
+    let streams = streams_of(alloc, input, &CALM)?;
     Ok(run(alloc, streams, stores))
 }
 

@@ -4,9 +4,9 @@
 //! `@ 1 2 3`, the clock's answers, and `! keep 4` or `! word 1`, the call of the keeper or of the random source that
 //! fails. Then `> METHOD PATH CALLER BODY` is a request and `< STATUS BODY` an answer.
 //!
-//! A caller is `Bearer/TOKEN`, a machine key, or `-` for none. `%x` stands for 64 times `x`, a request's body `*7` for
-//! a length without a body, an answer's body `#…` for a framed one, and `< registered` for the answer to a registration
-//! of the seed's user.
+//! A caller is `Bearer/TOKEN`, a machine key, or `-` for none. `%x` stands for 64 times `x` and `^` for a line feed, a
+//! request's body `*7` for a length without a body, an answer's body `#…` for a framed one, and `< registered` for the
+//! answer to a registration of the seed's user.
 use crate::tests::{CALM, Plan, SETTINGS, piped_at};
 use io_edge::MemoryClock;
 use run_ends::Status;
@@ -49,7 +49,7 @@ fn cut(line: &str) -> (&str, &str) {
     }
 }
 
-/// A text in which `%x` stands for 64 times `x`.
+/// A text in which `%x` stands for 64 times `x`, and `^` for a line feed.
 fn wide(alloc: Global, text: &str) -> Result<Vec<u8>, NoMemory> {
     let mut bytes = Vec::new(alloc);
     let mut is_wide = false;
@@ -61,6 +61,8 @@ fn wide(alloc: Global, text: &str) -> Result<Vec<u8>, NoMemory> {
             is_wide = false;
         } else if byte == b'%' {
             is_wide = true;
+        } else if byte == b'^' {
+            bytes.push(b'\n')?;
         } else {
             bytes.push(byte)?;
         }
@@ -124,6 +126,7 @@ fn phrase(status: &str) -> &'static str {
         "405" => "Method Not Allowed",
         "409" => "Conflict",
         "413" => "Payload Too Large",
+        "422" => "Unprocessable Entity",
         "500" => "Internal Server Error",
         "507" => "Insufficient Storage",
         _ => "",

@@ -1,0 +1,51 @@
+-- A policy is saved.
+use Rattle.std.specs.Prelude.{ℕ, Bool, false, List, [], ◌∷◌, Option, Some, None, Result, Ok, Err, if◌then◌else◌}
+use Rattle.std.specs.Str.{bytes_eq}
+use Rattle.tail_base.specs.Steps.{◌>>=◌}
+use Rattle.net_rows.specs.declared.change.Change.{Change}
+use Rattle.net_rows.specs.declared.change.Row.TheVariants as row
+use Rattle.net_rows.specs.declared.rows.Rows.{Rows}
+use Rattle.policy_rows.specs.declared.fault.PolicyFault.{PolicyFault}
+use Rattle.policy_rows.specs.declared.policy.Policy.{Policy}
+use Rattle.desk_state.specs.Decisions.{only}
+use Rattle.desk_state.specs.State.{State}
+use Rattle.desk_state.specs.declared.decision.Decision.{Decision}
+use Rattle.desk_state.specs.declared.refusal.Refusal.{Refusal}
+use Rattle.desk_state.specs.declared.refusal.Refusal.TheVariants.{PolicyRefused}
+use Rattle.policy_asks.specs.Served.{served_policy}
+use Rattle.policy_asks.specs.declared.answer.PolicyAnswer.{PolicyAnswer}
+use Rattle.policy_asks.specs.declared.answer.PolicyAnswer.TheVariants as answer
+
+-- a fault of the text refuses the ask
+abbrev pub or_refused : Result Policy PolicyFault → Result Policy Refusal
+or_refused (Ok policy) = Ok policy
+or_refused (Err fault) = Err (PolicyRefused fault.code fault.place)
+
+-- this is the text that is kept
+abbrev pub is_kept : Option (List ℕ) → List ℕ → Bool
+is_kept None text = false
+is_kept (Some kept) text = bytes_eq kept text
+
+-- the text takes the place of the one that is kept
+abbrev pub text_change : Rows → List ℕ → Change
+text_change rows text = record { puts = row.Policy text ∷ []; gone = []; next = rows.next }
+
+-- the text is kept, and its policy is in force from now on
+abbrev pub kept_anew : Rows → List ℕ → Policy → Decision PolicyAnswer
+kept_anew rows text policy = record {
+  change = Some (text_change rows text);
+  policy = Some policy;
+  offline = [];
+  ended = [];
+  answer = answer.Saved;
+}
+
+-- where the text is kept already, nothing changes
+abbrev pub saved : Rows → List ℕ → Policy → Decision PolicyAnswer
+saved rows text policy = if is_kept rows.policy text then only answer.Saved else kept_anew rows text policy
+
+-- the text is read, also where it is kept already
+abbrev pub save : State → List ℕ → Result (Decision PolicyAnswer) Refusal
+save s text = do
+  policy ← or_refused (served_policy text)
+  Ok (saved s.rows text policy)

@@ -1,0 +1,218 @@
+//! Policies saved, refused and opened, and the tags that they let machines have.
+use crate::tests::talks::assert_all_held;
+use crate::tests::{CALM, SETTINGS, piped, piped_over};
+use net_rows::{Counters, Rows, Tables};
+use run_ends::Status;
+use std::alloc::Global;
+use std::process::Abort;
+use std::test::Fail;
+use tail_base::{Items, NoMemory, Text};
+
+/// What is kept of each save.
+const SAVES: &str = r#"= policy-none
+> GET /api/v1/policy Bearer/secret
+< 200 {}
+= policy-kept
+> PUT /api/v1/policy Bearer/secret {/* all of it */"ACLs":[{"action":"accept","Users":["*"],"Ports":["*:*",],}],// open^}
+< 200 {}
+> GET /api/v1/policy Bearer/secret
+< 200 {/* all of it */"ACLs":[{"action":"accept","Users":["*"],"Ports":["*:*",],}],// open^}
+> PUT /api/v1/policy Bearer/secret {}
+< 200 {}
+> GET /api/v1/policy Bearer/secret
+< 200 {}
+= policy-syntax
+> PUT /api/v1/policy Bearer/secret [,]
+< 422 {"code":"P1","place":"offset 1"}
+> PUT /api/v1/policy Bearer/secret /* open
+< 422 {"code":"P1","place":"offset 0"}
+> PUT /api/v1/policy Bearer/secret
+< 422 {"code":"P1","place":"json"}
+> GET /api/v1/policy Bearer/secret
+< 200 {}
+= policy-ports-for-proto
+> PUT /api/v1/policy Bearer/secret {"acls":[]}
+< 200 {}
+> PUT /api/v1/policy Bearer/secret {"tagOwners":{"tag:web":[]},"acls":[{"action":"accept","proto":"icmp","src":["*"],"dst":["tag:web:22","x"]}]}
+< 422 {"code":"P17","place":"acls[0].dst[0]"}
+> GET /api/v1/policy Bearer/secret
+< 200 {"acls":[]}
+= policy-quoted-place
+> PUT /api/v1/policy Bearer/secret {"a\"b":1}
+< 422 {"code":"P3","place":"a\"b"}
+= policy-forms-to-come
+> PUT /api/v1/policy Bearer/secret {"autoApprovers":{"routes":{"10.0.0.0/8":["ann@"]}},"tests":[{"src":"ann@","accept":["bob@:22"]}]}
+< 422 {"code":"P4","place":"autoApprovers"}
+> PUT /api/v1/policy Bearer/secret {"autoApprovers":{"exitNode":["ann@"]}}
+< 422 {"code":"P4","place":"autoApprovers"}
+> PUT /api/v1/policy Bearer/secret {"tests":[{"src":"ann@","accept":["bob@:22"]}]}
+< 422 {"code":"P4","place":"tests"}
+> PUT /api/v1/policy Bearer/secret {"autoApprovers":{"routes":{},"exitNode":[]},"tests":[]}
+< 200 {}
+= policy-caller
+> PUT /api/v1/policy Bearer/other {}
+< 401 {"error":"BadToken"}
+> POST /api/v1/policy Bearer/secret {}
+< 405 {"error":"BadMethod"}
+> GET /api/v1/policy mkey:%1
+< 401 {"error":"BadToken"}
+= policy-keeper-fault
+! keep 4
+> PUT /api/v1/policy Bearer/secret {"tagOwners":{"tag:a":[]}}
+< 200 {}
+> PUT /api/v1/policy Bearer/secret {"tagOwners":{"tag:b":[]}}
+< 500 {"error":"KeeperFault"}
+> GET /api/v1/policy Bearer/secret
+< 200 {"tagOwners":{"tag:a":[]}}
+> POST /api/v1/preauthkey Bearer/secret {"user":"seed@","tags":["tag:b"]}
+< 403 {"error":"TagUndefined"}
+> PUT /api/v1/policy Bearer/secret {"tagOwners":{"tag:b":[]}}
+< 200 {}
+> POST /api/v1/preauthkey Bearer/secret {"user":"seed@","tags":["tag:a"]}
+< 403 {"error":"TagUndefined"}
+= policy-kept-text-again
+! keep 4
+> PUT /api/v1/policy Bearer/secret {"acls":[]}
+< 200 {}
+> PUT /api/v1/policy Bearer/secret {"acls":[]}
+< 200 {}
+> PUT /api/v1/policy Bearer/secret {"acls": []}
+< 500 {"error":"KeeperFault"}"#;
+
+/// The tags that a policy defines, and whose machines may have them.
+const TAGS: &str = r#"= tags-of-a-policy
+> POST /api/v1/user Bearer/secret {"name":"bob"}
+< 200 {"id":2,"login":"bob@"}
+> PUT /api/v1/policy Bearer/secret {"groups":{"group:g":["seed@"]},"tagOwners":{"tag:a":["seed@"],"tag:b":["group:g"],"tag:c":["bob@"]}}
+< 200 {}
+> POST /machine/register mkey:%1 {"Auth":{"AuthKey":"k1"},"NodeKey":"nodekey:%a","Hostinfo":{"RequestTags":["tag:a","tag:c","tag:x"]}}
+< 403 {"error":"TagNotOwned"}
+> POST /machine/register mkey:%1 {"Auth":{"AuthKey":"k1"},"NodeKey":"nodekey:%a","Hostinfo":{"RequestTags":["tag:a","tag:x","tag:c"]}}
+< 403 {"error":"TagUndefined"}
+> POST /machine/register mkey:%1 {"Auth":{"AuthKey":"k1"},"NodeKey":"nodekey:%a","Hostinfo":{"RequestTags":["tag:b","tag:a"]}}
+< registered
+> GET /api/v1/node Bearer/secret
+< 200 {"nodes":[{"addresses":["100.64.0.1","fd7a:115c:a1e0::1"],"advertised":[],"approved":[],"expiry":"0001-01-01T00:00:00Z","id":1,"live":true,"name":"node","online":false,"served":[],"tags":["tag:a","tag:b"],"user":"seed@"}]}
+= tags-of-an-admission
+> POST /api/v1/user Bearer/secret {"name":"bob"}
+< 200 {"id":2,"login":"bob@"}
+> PUT /api/v1/policy Bearer/secret {"tagOwners":{"tag:c":["bob@"]}}
+< 200 {}
+> POST /machine/register mkey:%1 {"NodeKey":"nodekey:%a","Hostinfo":{"RequestTags":["tag:c"]}}
+< 200 {"AuthURL":"http://tail.example/register/reg-1-00000000000000010000000000000002","Error":"","Login":{"ID":0,"LoginName":""},"MachineAuthorized":false,"NodeKeyExpired":false,"User":{"DisplayName":"","ID":0}}
+> POST /api/v1/register Bearer/secret {"id":"reg-1-00000000000000010000000000000002","user":"seed@"}
+< 403 {"error":"TagNotOwned"}
+> POST /api/v1/register Bearer/secret {"id":"reg-1-00000000000000010000000000000002","user":"bob@"}
+< 200 {"addresses":["100.64.0.1","fd7a:115c:a1e0::1"],"advertised":[],"approved":[],"expiry":"0001-01-01T00:00:00Z","id":1,"live":true,"name":"node","online":false,"served":[],"tags":["tag:c"],"user":"bob@"}
+= tags-by-operators
+> PUT /api/v1/policy Bearer/secret {"tagOwners":{"tag:c":["bob@"]}}
+< 200 {}
+> POST /machine/register mkey:%1 {"Auth":{"AuthKey":"k1"},"NodeKey":"nodekey:%a"}
+< registered
+> POST /api/v1/node/1/tags Bearer/secret {"tags":["tag:x"]}
+< 403 {"error":"TagUndefined"}
+> POST /api/v1/node/1/tags Bearer/secret {"tags":["tag:c"]}
+< 200 {"addresses":["100.64.0.1","fd7a:115c:a1e0::1"],"advertised":[],"approved":[],"expiry":"0001-01-01T00:00:00Z","id":1,"live":true,"name":"node","online":false,"served":[],"tags":["tag:c"],"user":"seed@"}
+> POST /api/v1/preauthkey Bearer/secret {"user":"seed@","tags":["tag:c"]}
+< 200 {"ephemeral":false,"expiry":"0001-01-01T00:00:00Z","id":2,"key":"tnkey-2-0000000000000001000000000000000200000000000000030000000000000004","reusable":false,"tags":["tag:c"],"used":false,"user":"seed@"}
+> PUT /api/v1/policy Bearer/secret {}
+< 200 {}
+> POST /machine/register mkey:%2 {"Auth":{"AuthKey":"tnkey-2-0000000000000001000000000000000200000000000000030000000000000004"},"NodeKey":"nodekey:%b"}
+< registered"#;
+
+/// Tables that keep nothing but this policy.
+fn tables_with(alloc: Global, policy: &str) -> Result<Tables, NoMemory> {
+    let next = Counters {
+        user: 1,
+        key: 1,
+        pending: 1,
+        machine: 1,
+    };
+    let policy = Some(Text::from_str(alloc, policy)?);
+    let rows = Rows {
+        users: Items::new(alloc),
+        keys: Items::new(alloc),
+        pending: Items::new(alloc),
+        machines: Items::new(alloc),
+        extras: Items::new(alloc),
+        policy,
+        next,
+    };
+    Tables::checked(rows).map_err(|_| NoMemory)
+}
+
+/// The request of an operator for the policy.
+const SHOW: &[u8] =
+    b"GET /api/v1/policy HTTP/1.1\r\nHost: tail\r\nAuthorization: Bearer secret\r\n\r\n";
+
+/// Asserts that tables which keep this policy are damaged.
+fn assert_damaged(rt: &impl Abort, alloc: Global, policy: &str) -> Result<(), NoMemory> {
+    let ran = piped_over(alloc, tables_with(alloc, policy)?, SHOW)?;
+    assert!(rt; ran.status == Status::Damaged, "{policy}");
+    assert!(rt;
+        ran.errors.bytes() == b"tailnetd: damaged policy 0\n".as_slice(),
+        "{policy}"
+    );
+    assert!(rt; ran.output.bytes() == b"".as_slice(), "{policy}");
+    Ok(())
+}
+
+/// A save of this body.
+fn save_of(alloc: Global, body: &[u8]) -> Result<Vec<u8>, NoMemory> {
+    let head = format!(in alloc;
+        "PUT /api/v1/policy HTTP/1.1\r\nHost: tail\r\nAuthorization: Bearer secret\r\nContent-Length: {}\r\n\r\n",
+        body.len()
+    )?;
+    let mut bytes = Vec::from_slice(alloc, head.as_bytes())?;
+    bytes.extend_from_slice(body)?;
+    Ok(bytes)
+}
+
+#[test]
+fn policies_are_saved(rt: HostRuntime) -> Result<(), Fail> {
+    assert_all_held(&rt, rt.alloc(), SAVES)?;
+    Ok(())
+}
+
+#[test]
+fn policies_grant_tags(rt: HostRuntime) -> Result<(), Fail> {
+    assert_all_held(&rt, rt.alloc(), TAGS)?;
+    Ok(())
+}
+
+#[test]
+fn a_policy_is_text_within_its_limit(rt: HostRuntime) -> Result<(), Fail> {
+    let alloc = rt.alloc();
+    let ran = piped(alloc, SETTINGS, &save_of(alloc, b"{}\xff")?, &CALM)?;
+    assert!(rt; ran.output.bytes().ends_with(b"{\"error\":\"NotJson\"}"));
+    let mut long = Vec::new(alloc);
+    for _byte in 0..262_145 {
+        long.push(b' ')?;
+    }
+    let ran = piped(alloc, SETTINGS, &save_of(alloc, &long)?, &CALM)?;
+    assert!(rt;
+        ran.output
+            .bytes()
+            .ends_with(b"{\"code\":\"P19\",\"place\":\"text\"}")
+    );
+    Ok(())
+}
+
+#[test]
+fn kept_policies_are_opened(rt: HostRuntime) -> Result<(), Fail> {
+    let alloc = rt.alloc();
+    let kept = "{\"tagOwners\":{\"tag:a\":[]}}";
+    let ran = piped_over(alloc, tables_with(alloc, kept)?, SHOW)?;
+    assert!(rt; ran.status == Status::Ok);
+    assert!(rt; ran.output.bytes().ends_with(kept.as_bytes()));
+    assert_damaged(&rt, alloc, "[,]")?;
+    assert_damaged(&rt, alloc, "")?;
+    assert_damaged(&rt, alloc, "{\"acls\":[{}]}")?;
+    assert_damaged(&rt, alloc, "{\"autoApprovers\":{\"exitNode\":[\"ann@\"]}}")?;
+    assert_damaged(
+        &rt,
+        alloc,
+        "{\"tests\":[{\"src\":\"ann@\",\"accept\":[\"bob@:22\"]}]}",
+    )?;
+    Ok(())
+}
