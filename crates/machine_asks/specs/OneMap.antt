@@ -30,9 +30,9 @@ live_ids s = map (λ (m : Machine). m.id) (filter (is_live s) s.rows.machines)
 abbrev pub online_ids : List MachinePresence → List ℕ
 online_ids presence = map (λ (p : MachinePresence). p.id) (filter (λ (p : MachinePresence). is_online (Some p.presence)) presence)
 
--- what is seen of the state; no policy is in force
+-- what is seen of the state
 abbrev pub world_of : State → Seen
-world_of s = seen_of s.settings None s.rows (live_ids s) (online_ids s.presence)
+world_of s = seen_of s.settings s.policy s.rows (live_ids s) (online_ids s.presence)
 
 -- a machine of the state, as it is seen
 abbrev pub node_in : State → Machine → Node

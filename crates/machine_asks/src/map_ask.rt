@@ -69,7 +69,7 @@ fn online_ids(alloc: Global, presence: &[MachinePresence]) -> Result<Items<u32>,
     Ok(ids)
 }
 
-/// The whole map of a live machine of these ids, computed afresh. No policy is in force.
+/// The whole map of a live machine of these ids, computed afresh.
 fn map_among(
     alloc: Global,
     at: &Snapshot<'_>,
@@ -83,8 +83,8 @@ fn map_among(
     ensures value { IfOk result (λ view. view ≡ spec.fresh_for at.now row.now) }
 {
     keep_rules(at);
-    let expanded = Expanded::of(alloc, None, at.tables, live)?;
-    let world = World::new(at.settings, at.tables, None, &expanded, live, online);
+    let expanded = Expanded::of(alloc, at.policy, at.tables, live)?;
+    let world = World::new(at.settings, at.tables, at.policy, &expanded, live, online);
     let view = fresh_map(alloc, &world, row.id)?;
     Ok(view)
 }
