@@ -44,17 +44,42 @@ fn a_waiting_machine(rt: HostRuntime) -> Result<(), Fail> {
     Ok(())
 }
 
-fn add_texts(alloc: Global, response: &mut Response) -> Result<(), Fail> {
-    response.handle = Some(Text::from_str(alloc, "s1")?);
+fn add_texts(alloc: Global, response: &mut Response) -> Result<(), NoMemory> {
+    let handle = Text::from_str(alloc, "s1")?;
+    let domain = Text::from_str(alloc, "tail.example")?;
+    response.handle = Some(handle);
     response.seq = Some(7);
-    response.domain = Some(Text::from_str(alloc, "tail.example")?);
+    response.domain = Some(domain);
     Ok(())
 }
 
-fn add_rows(alloc: Global, response: &mut Response) -> Result<(), Fail> {
-    response.changed = one(alloc, node(alloc)?)?;
+fn add_changed(alloc: Global, response: &mut Response) -> Result<(), Fail> {
+    let node = node(alloc)?;
+    response.changed = one(alloc, node)?;
     response.removed = Items::from_slice(alloc, &[4, 6])?;
-    response.patches = one(alloc, patch(alloc)?)?;
+    Ok(())
+}
+
+fn add_patch(alloc: Global, response: &mut Response) -> Result<(), Fail> {
+    let patch = patch(alloc)?;
+    response.patches = one(alloc, patch)?;
+    Ok(())
+}
+
+fn add_rule(alloc: Global, response: &mut Response) -> Result<(), Fail> {
+    let rule = rule(alloc)?;
+    response.filter = Some(one(alloc, rule)?);
+    Ok(())
+}
+
+fn add_dns(alloc: Global, response: &mut Response) -> Result<(), Fail> {
+    response.dns = Some(dns(alloc)?);
+    Ok(())
+}
+
+fn add_profile(alloc: Global, response: &mut Response) -> Result<(), NoMemory> {
+    let tagged = profile(alloc, 2_147_483_647, "tagged-devices", "Tagged Devices")?;
+    response.profiles = one(alloc, tagged)?;
     Ok(())
 }
 
@@ -62,11 +87,11 @@ fn add_rows(alloc: Global, response: &mut Response) -> Result<(), Fail> {
 fn full(alloc: Global) -> Result<Response, Fail> {
     let mut response = empty(alloc);
     add_texts(alloc, &mut response)?;
-    add_rows(alloc, &mut response)?;
-    response.filter = Some(one(alloc, rule(alloc)?)?);
-    response.dns = Some(dns(alloc)?);
-    let tagged = profile(alloc, 2_147_483_647, "tagged-devices", "Tagged Devices")?;
-    response.profiles = one(alloc, tagged)?;
+    add_changed(alloc, &mut response)?;
+    add_patch(alloc, &mut response)?;
+    add_rule(alloc, &mut response)?;
+    add_dns(alloc, &mut response)?;
+    add_profile(alloc, &mut response)?;
     Ok(response)
 }
 
