@@ -8,14 +8,14 @@ ghost use Rattle.std.specs.Prelude.{◌≡◌, ℕ, List, [], ◌∷◌, ◌++�
 /// Where a connection broke off, each answer but the last was written whole: after a failed write no
 /// request is taken, and behind the last answer no refusal is begun.
 pub fn answers_are_heard()
-    ensures whole { (xs : List Exchange) (y : Exchange) (ys : List Exchange) (extra written : List ℕ)
-        → IsBrokenOff (xs ++ y ∷ ys) extra written → IsPrefix (answers_of xs) written }
-    ensures unbroken { (xs : List Exchange) (y : Exchange) (ys : List Exchange) (extra written : List ℕ)
-        → IsBrokenOff (xs ++ y ∷ ys) extra written → AreUnbroken xs }
+    ensures whole { (xs : List Exchange) (y : Exchange) (ys : List Exchange)
+        (extra written : List ℕ) → IsBrokenOff (xs ++ y ∷ ys) extra written → IsPrefix (answers_of xs) written }
+    ensures unbroken { (xs : List Exchange) (y : Exchange) (ys : List Exchange)
+        (extra written : List ℕ) → IsBrokenOff (xs ++ y ∷ ys) extra written → AreUnbroken xs }
     ensures before_refusal { (xs : List Exchange) (b : ℕ) (bs written : List ℕ)
         → IsBrokenOff xs (b ∷ bs) written → IsPrefix (answers_of xs) written }
-    ensures nothing { (xs : List Exchange) (y : Exchange) (ys : List Exchange) (extra : List ℕ)
-        → IsBrokenOff (xs ++ y ∷ ys) extra [] → answers_of xs ≡ [] }
+    ensures nothing { (xs : List Exchange) (y : Exchange) (ys : List Exchange)
+        (extra : List ℕ) → IsBrokenOff (xs ++ y ∷ ys) extra [] → answers_of xs ≡ [] }
 {}
 
 /// Behind a request that ended the connection nothing is answered.
