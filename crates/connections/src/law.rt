@@ -9,7 +9,8 @@ ghost use Rattle.std.specs.Prelude.{◌≡◌, ℕ, List, [], ◌∷◌, ◌++�
 /// request is taken, and behind the last answer no refusal is begun.
 pub fn answers_are_heard()
     ensures whole { (xs : List Exchange) (y : Exchange) (ys : List Exchange)
-        (extra written : List ℕ) → IsBrokenOff (xs ++ y ∷ ys) extra written → IsPrefix (answers_of xs) written }
+        (extra written : List ℕ) → IsBrokenOff (xs ++ y ∷ ys) extra written
+        → IsPrefix (answers_of xs) written }
     ensures unbroken { (xs : List Exchange) (y : Exchange) (ys : List Exchange)
         (extra written : List ℕ) → IsBrokenOff (xs ++ y ∷ ys) extra written → AreUnbroken xs }
     ensures before_refusal { (xs : List Exchange) (b : ℕ) (bs written : List ℕ)
