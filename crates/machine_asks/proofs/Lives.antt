@@ -1,6 +1,6 @@
 -- The state as maps see it.
-use Rattle.std.proofs.Common.{◌≡◌, ◌==◌, ℕ, ℤ, true, List, refl, sym, ap, ◌∙◌, subst}
-use Rattle.std.specs.Prelude.{Contains, IsSome, None, Some, filter}
+use Rattle.std.proofs.Common.{◌≡◌, ◌==◌, ℕ, ℤ, true, List, refl, ap, ◌∙◌}
+use Rattle.std.specs.Prelude.{Contains, None, Some, filter}
 use Rattle.std.proofs.lemmas.Bool.{eq-eqb}
 use Rattle.net_rows.specs.Damage.{damage}
 use Rattle.net_rows.specs.declared.machine.Machine.{Machine}
