@@ -1,5 +1,5 @@
 -- The state as maps see it.
-use Rattle.std.proofs.Common.{◌≡◌, ◌==◌, ℕ, ℤ, true, List, refl, sym, ap, ◌∙◌, subst}
+use Rattle.std.proofs.Common.{◌≡◌, ◌==◌, ℕ, ℤ, true, List, refl, ap, ◌∙◌}
 use Rattle.std.specs.Prelude.{Contains, None, Option, Some, filter}
 use Rattle.std.proofs.lemmas.Bool.{eq-eqb}
 use Rattle.net_rows.specs.Damage.{damage}
