@@ -68,11 +68,7 @@ fn put_cells<S: Alter>(
 
 /// Puts the row of an id.
 #[tactic(auto, using(crate::proofs::Pending::nothing, crate::proofs::Pending::then))]
-fn put<T: Kept, S: Alter>(
-    tx: &mut Transaction<'_, S>,
-    alloc: Global,
-    row: &T,
-) -> Result<(), Fault>
+fn put<T: Kept, S: Alter>(tx: &mut Transaction<'_, S>, alloc: Global, row: &T) -> Result<(), Fault>
     ensures same_reference { tx.new.conn.ghost_name ≡ tx.old.conn.ghost_name }
     ensures pending { IsPending S.Store tx.old.conn.now tx.new.conn.now (is_ok result) }
 {
@@ -151,11 +147,7 @@ fn put_row<S: Alter>(tx: &mut Transaction<'_, S>, alloc: Global, row: &Row) -> R
 }
 
 #[tactic(auto, using(crate::proofs::Pending::nothing, crate::proofs::Pending::then))]
-fn put_all<S: Alter>(
-    tx: &mut Transaction<'_, S>,
-    alloc: Global,
-    puts: &[Row],
-) -> Result<(), Fault>
+fn put_all<S: Alter>(tx: &mut Transaction<'_, S>, alloc: Global, puts: &[Row]) -> Result<(), Fault>
     ensures same_reference { tx.new.conn.ghost_name ≡ tx.old.conn.ghost_name }
     ensures pending { IsPending S.Store tx.old.conn.now tx.new.conn.now (is_ok result) }
 {
@@ -181,11 +173,7 @@ pub(crate) fn put_next<S: Alter>(
 
 /// Writes the change: gone rows go first, then the rows are put in order, and then the counters.
 #[tactic(auto, using(crate::proofs::Pending::nothing, crate::proofs::Pending::then))]
-fn write<S: Alter>(
-    tx: &mut Transaction<'_, S>,
-    alloc: Global,
-    change: &Change,
-) -> Result<(), Fault>
+fn write<S: Alter>(tx: &mut Transaction<'_, S>, alloc: Global, change: &Change) -> Result<(), Fault>
     ensures same_reference { tx.new.conn.ghost_name ≡ tx.old.conn.ghost_name }
     ensures pending { IsPending S.Store tx.old.conn.now tx.new.conn.now (is_ok result) }
 {

@@ -1,5 +1,4 @@
 //! Databases in files, opened as the program opens them.
-use io_edge::EdgeFault;
 use keeper_sqlite::{HostKeeper, HostOpener};
 use net_rows::{Change, Row, Tables};
 use row_keeper::{Keeper, Opener};
@@ -56,33 +55,48 @@ fn has_policy(tables: &Tables, text: &str) -> bool {
     }
 }
 
+/// Keeps this policy, and lets the keeper go without a close: the log alone holds the change then.
+fn keep_and_drop(rt: &HostRuntime, text: &str) -> Result<(), Fail> {
+    let mut keeper = opened(rt)?;
+    keep(rt.alloc(), &mut keeper, text)
+}
+
+/// Keeps this policy, and closes: the file holds the change then.
+fn keep_and_close(rt: &HostRuntime, text: &str) -> Result<(), Fail> {
+    let mut keeper = opened(rt)?;
+    let kept = keep(rt.alloc(), &mut keeper, text);
+    HostOpener::new(*rt).close(keeper);
+    kept
+}
+
+/// Whether this policy is loaded.
+fn reads(rt: &HostRuntime, text: &str) -> Result<bool, Fail> {
+    let mut keeper = opened(rt)?;
+    let tables = load(rt.alloc(), &mut keeper)?;
+    Ok(has_policy(&tables, text))
+}
+
+/// Whether the file can't be opened beside a keeper over it.
+fn has_one_opener(rt: &HostRuntime) -> Result<bool, Fail> {
+    let _keeper = opened(rt)?;
+    Ok(HostOpener::new(*rt).open(rt.alloc(), FILE).is_err())
+}
+
+fn mode(rt: &HostRuntime, name: &str) -> Result<u32, Fail> {
+    Ok(fs::metadata(rt, name)?.mode() & 0o777)
+}
+
 #[test]
 fn what_was_kept_is_there_again(rt: HostRuntime) -> Result<(), Fail> {
-    let alloc = rt.alloc();
     let _ = fs::remove_dir_all(&rt, FOLDER);
     fs::create_dir(&rt, FOLDER)?;
-    let mut keeper = opened(&rt)?;
-    keep(alloc, &mut keeper, "{}")?;
-    assert!(rt; fs::metadata(&rt, FILE)?.mode() & 0o777 == 0o600);
-    assert!(rt; fs::metadata(&rt, LOG)?.mode() & 0o777 == 0o600);
-    // One process has a file at a time.
-    assert!(rt;
-        matches!(
-            HostOpener::new(rt).open(alloc, FILE),
-            Err(EdgeFault::Failed)
-        )
-    );
-    // The log alone holds the change now, since nothing closes the database.
-    drop(keeper);
-    let mut keeper = opened(&rt)?;
-    assert!(rt; has_policy(&load(alloc, &mut keeper)?, "{}"));
-    keep(alloc, &mut keeper, "{\"acls\":[]}")?;
-    HostOpener::new(rt).close(keeper);
-    // After a close the file alone holds it.
+    keep_and_drop(&rt, "{}")?;
+    assert!(rt; mode(&rt, FILE)? == 0o600 && mode(&rt, LOG)? == 0o600);
+    assert!(rt; reads(&rt, "{}")?);
+    keep_and_close(&rt, "{\"acls\":[]}")?;
     fs::remove_file(&rt, LOG)?;
-    let mut keeper = opened(&rt)?;
-    assert!(rt; has_policy(&load(alloc, &mut keeper)?, "{\"acls\":[]}"));
-    drop(keeper);
+    assert!(rt; reads(&rt, "{\"acls\":[]}")?);
+    assert!(rt; has_one_opener(&rt)?);
     fs::remove_dir_all(&rt, FOLDER)?;
     Ok(())
 }

@@ -11,6 +11,11 @@ fn open(rt: &HostRuntime, name: &str) -> Result<HostKeeper, EdgeFault> {
     HostOpener::new(*rt).open(rt.alloc(), name)
 }
 
+/// Whether nothing is opened by this name, at a fault of the opener.
+fn fails(rt: &HostRuntime, name: &str) -> bool {
+    matches!(open(rt, name), Err(EdgeFault::Failed))
+}
+
 const FOLDER: &str = "store_cases_others";
 
 const TEXT: &str = "store_cases_others/text.db";
@@ -23,16 +28,11 @@ fn what_is_no_database_fails(rt: HostRuntime) -> Result<(), Fail> {
     fs::create_dir(&rt, FOLDER)?;
     let words = b"a text of some length".as_slice();
     fs::write(&rt, TEXT, words)?;
-    assert!(rt; matches!(open(&rt, TEXT), Err(EdgeFault::Failed)));
+    assert!(rt; fails(&rt, TEXT));
     assert!(rt; fs::read(&rt, TEXT)?.as_slice() == words);
-    assert!(rt; matches!(open(&rt, FOLDER), Err(EdgeFault::Failed)));
-    assert!(rt;
-        matches!(
-            open(&rt, "store_cases_others/no/a.db"),
-            Err(EdgeFault::Failed)
-        )
-    );
-    assert!(rt; matches!(open(&rt, ADDRESS), Err(EdgeFault::Failed)));
+    assert!(rt; fails(&rt, FOLDER));
+    assert!(rt; fails(&rt, "store_cases_others/no/a.db"));
+    assert!(rt; fails(&rt, ADDRESS));
     assert!(rt; fs::metadata(&rt, ADDRESS).is_err());
     fs::remove_dir_all(&rt, FOLDER)?;
     Ok(())
