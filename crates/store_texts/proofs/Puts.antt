@@ -19,10 +19,10 @@ use Rattle.sqlite_rules.specs.Cast.{cast, cast_all, cast_row}
 use Rattle.sqlite.specs.Effect.{Database, value_rows}
 use Rattle.store_texts.specs.Commands.{one_by_id, replaced_by_id, all_ids}
 use Rattle.store_texts.specs.Means.{Means}
-use Rattle.store_texts.specs.Ran.{Ran, IsPut}
+use Rattle.store_texts.specs.Ran.{HasRun, IsPutBy}
 use Rattle.store_texts.specs.Schema.{schema_1, column_of}
 use Rattle.store_texts.proofs.Lists.{row_of, left}
-use Rattle.store_texts.proofs.Writes.{plain_table, Leaves, inserts, deletes, replaces, empties}
+use Rattle.store_texts.proofs.Writes.{plain_table, SetsRows, inserts, deletes, replaces, empties}
 
 -- no table of ours refers to another one
 calm_1 : (keys : Keys) (tree : ℕ) (olds news : List Row) → works schema_1 keys 0 tree olds news ≡ []
@@ -63,21 +63,21 @@ others_then [] tree a b c p q = tt
 others_then (t ∷ ts) tree a b c p q = (λ other. q.0 other ∙ p.0 other, others_then ts tree a b c p.1 q.1)
 
 -- the place, the tree and the columns behind the key of a table of schema 1
-pub record IsPlace (at tree : ℕ) (columns : List Column) : Type 0 where
+pub record IsTableAt (at tree : ℕ) (columns : List Column) : Type 0 where
   pub name : List ℕ
   pub key_name : List ℕ
   pub uniques : List (List ℕ)
   pub orders : List Order
   pub is : slice_get schema_1.tables at ≡ Some (plain_table name tree (column_of key_name Integer false ∷ columns) uniques orders)
 
-module _ (at tree : ℕ) (columns : List Column) (place : IsPlace at tree columns) (id : ℕ) (more : Row) (taken : AreTaken columns more) where
+module _ (at tree : ℕ) (columns : List Column) (place : IsTableAt at tree columns) (id : ℕ) (more : Row) (taken : AreTaken columns more) where
   kept : cast_row (plain_table place.name tree (column_of place.key_name Integer false ∷ columns) place.uniques place.orders) (Int (pos id) ∷ Null ∷ more) ≡ Int (pos id) ∷ Null ∷ more
   kept = ap₂ ◌∷◌ (cast_number (pos id)) (ap₂ ◌∷◌ cast_nothing (takes_all columns more taken))
 
   -- an INSERT adds the row of its parameters
   pub adds_row : (text : List ℕ) (terms : List Term) (width count : ℕ) (old new : Database) → old.schema ≡ schema_1 → Means text (Insert at (Values terms width))
       → value_rows ((Int (pos id) ∷ more) ++ []) width (length terms / width) terms ≡ (Int (pos id) ∷ Null ∷ more) ∷ []
-      → Ran text (Int (pos id) ∷ more) count old new → Leaves schema_1 tree (put_row (Int (pos id) ∷ Null ∷ more) (old.trees tree)) old new
+      → HasRun text (Int (pos id) ∷ more) count old new → SetsRows schema_1 tree (put_row (Int (pos id) ∷ Null ∷ more) (old.trees tree)) old new
   adds_row text terms width count old new has means given ran =
       inserts schema_1 calm_1 place.name tree (column_of place.key_name Integer false ∷ columns) place.uniques place.orders at place.is text (Int (pos id) ∷ more) old new has means.plain
       terms width count (Int (pos id) ∷ Null ∷ more) means.command_is given kept refl ran
@@ -88,19 +88,19 @@ module _ (at tree : ℕ) (columns : List Column) (place : IsPlace at tree column
       → Means update (Update at (record { lets = []; body = replaced_by_id tree replaced })) → Means insert (Insert at (Values added width))
       → ((row : Row) → eval_all replaced ((Int (pos id) ∷ more) ∷ (Int (pos id) ∷ row) ∷ []) ≡ Int (pos id) ∷ Null ∷ more)
       → value_rows ((Int (pos id) ∷ more) ++ []) width (length added / width) added ≡ (Int (pos id) ∷ Null ∷ more) ∷ []
-      → IsPut update insert (Int (pos id) ∷ more) old new
-      → Leaves schema_1 tree (put_row (Int (pos id) ∷ Null ∷ more) (map (row_of key rest) (left key rest id all))) old new
+      → IsPutBy update insert (Int (pos id) ∷ more) old new
+      → SetsRows schema_1 tree (put_row (Int (pos id) ∷ Null ∷ more) (map (row_of key rest) (left key rest id all))) old new
   puts_row {A} key rest all update insert replaced added width old new has stood updates adds shows given put = go put
     where
-      one : (count : ℕ) (after : Database) → Ran update (Int (pos id) ∷ more) count old after
-          → ((count ≡ 0) × (left key rest id all ≡ all) × Leaves schema_1 tree (map (row_of key rest) all) old after)
-          ⊎ ((count ≡ 1) × Leaves schema_1 tree (put_row (Int (pos id) ∷ Null ∷ more) (map (row_of key rest) (left key rest id all))) old after)
+      one : (count : ℕ) (after : Database) → HasRun update (Int (pos id) ∷ more) count old after
+          → ((count ≡ 0) × (left key rest id all ≡ all) × SetsRows schema_1 tree (map (row_of key rest) all) old after)
+          ⊎ ((count ≡ 1) × SetsRows schema_1 tree (put_row (Int (pos id) ∷ Null ∷ more) (map (row_of key rest) (left key rest id all))) old after)
       one count after ran =
           replaces schema_1 calm_1 place.name tree (column_of place.key_name Integer false ∷ columns) place.uniques place.orders at place.is update (Int (pos id) ∷ more) old after has updates.plain
           key rest all stood id more refl replaced (Null ∷ more) count updates.command_is
           (λ x e. subst (λ n. eval_all replaced ((Int (pos id) ∷ more) ∷ (Int (pos n) ∷ rest x) ∷ []) ≡ Int (pos id) ∷ Null ∷ more) (sym e) (shows (rest x))) kept ran
 
-      go : IsPut update insert (Int (pos id) ∷ more) old new → Leaves schema_1 tree (put_row (Int (pos id) ∷ Null ∷ more) (map (row_of key rest) (left key rest id all))) old new
+      go : IsPutBy update insert (Int (pos id) ∷ more) old new → SetsRows schema_1 tree (put_row (Int (pos id) ∷ Null ∷ more) (map (row_of key rest) (left key rest id all))) old new
       go (inl (count, some, ran)) = elim (one count new ran) [ inl none ↦ absurd (omega (arith, some, none.0)) | inr found ↦ found.1 ]
       go (inr (mid, count, ran, then)) = elim (one 0 mid ran) [
         | inl none ↦
@@ -114,17 +114,17 @@ module _ (at tree : ℕ) (columns : List Column) (place : IsPlace at tree column
         | inr found ↦ absurd (omega (arith, found.0))
       ]
 
-module _ (at tree : ℕ) (columns : List Column) (place : IsPlace at tree columns) {A : Type 0} (key : A → ℕ) (rest : A → Row) (all : List A) (text : List ℕ) (count : ℕ) (old new : Database)
+module _ (at tree : ℕ) (columns : List Column) (place : IsTableAt at tree columns) {A : Type 0} (key : A → ℕ) (rest : A → Row) (all : List A) (text : List ℕ) (count : ℕ) (old new : Database)
     (has : old.schema ≡ schema_1) (stood : old.trees tree ≡ map (row_of key rest) all) where
   -- a DELETE by the id takes out its row
-  pub takes_out : (id : ℕ) → Means text (Delete at (record { lets = []; body = one_by_id tree })) → Ran text (Int (pos id) ∷ []) count old new
-      → Leaves schema_1 tree (map (row_of key rest) (left key rest id all)) old new
+  pub takes_out : (id : ℕ) → Means text (Delete at (record { lets = []; body = one_by_id tree })) → HasRun text (Int (pos id) ∷ []) count old new
+      → SetsRows schema_1 tree (map (row_of key rest) (left key rest id all)) old new
   takes_out id means ran =
       deletes schema_1 calm_1 place.name tree (column_of place.key_name Integer false ∷ columns) place.uniques place.orders at place.is text (Int (pos id) ∷ []) old new has means.plain
       key rest all stood id [] refl count means.command_is ran
 
   -- a DELETE of all rows leaves none
-  pub takes_all_out : (params : Row) → Means text (Delete at (record { lets = []; body = all_ids tree })) → Ran text params count old new → Leaves schema_1 tree [] old new
+  pub takes_all_out : (params : Row) → Means text (Delete at (record { lets = []; body = all_ids tree })) → HasRun text params count old new → SetsRows schema_1 tree [] old new
   takes_all_out params means ran =
       empties schema_1 calm_1 place.name tree (column_of place.key_name Integer false ∷ columns) place.uniques place.orders at place.is text params old new has means.plain
       key rest all stood count means.command_is ran

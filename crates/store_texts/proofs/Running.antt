@@ -9,7 +9,7 @@ use Rattle.sqlite.specs.Effect.{Database}
 use Rattle.sqlite.specs.Listing.{understood}
 use Rattle.sqlite.specs.State.{State, Runs, Writes, Executes, mode_of}
 use Rattle.sqlite.proofs.Callers.{IsPlain, command_of, statement_of, runs_as}
-use Rattle.store_texts.specs.Ran.{Ran, Wrote}
+use Rattle.store_texts.specs.Ran.{HasRun, HasWritten}
 
 writes_rows : (old new : State) (command : Command) (words : List ℕ) (params : Row) (count : ℕ) → IsWrite command → Runs old new None command words params count → Writes old new None command words params count
 writes_rows old new (Select q names) words params count is h = absurd is
@@ -33,8 +33,8 @@ writes_rows old new CreateView words params count is h = h
 writes_rows old new (DropView at) words params count is h = h
 
 -- a statement that the store has executed ran
-pub has_run : (text : List ℕ) (params : Row) (count : ℕ) (old new : State) → Executes text params old new (Ok count) → Ran text params count old.now new.now
-has_run text params count old new h plain is =
+pub ran_as_said : (text : List ℕ) (params : Row) (count : ℕ) (old new : State) → Executes text params old new (Ok count) → HasRun text params count old.now new.now
+ran_as_said text params count old new h plain is =
     let command = command_of (understood old.now.schema text) in
     let words = statement_of text (understood old.now.schema text) in
     let w = writes_rows old new command words params count is (runs_as text params old new old.now.schema refl command refl plain count h) in
@@ -42,8 +42,8 @@ has_run text params count old new h plain is =
 
 -- of a schema and a command that are known
 pub wrote_as : (text : List ℕ) (params : Row) (count : ℕ) (old new : Database) (schema : Schema) (command : Command) → old.schema ≡ schema → command_of (understood schema text) ≡ command
-    → IsPlain (understood schema text) → IsWrite command → Ran text params count old new → Wrote command (statement_of text (understood schema text)) params count (record old { schema = schema }) new
+    → IsPlain (understood schema text) → IsWrite command → HasRun text params count old new → HasWritten command (statement_of text (understood schema text)) params count (record old { schema = schema }) new
 wrote_as text params count old new schema command has is plain write ran =
-    let known : Ran text params count (record old { schema = schema }) new = subst (λ s. Ran text params count (record old { schema = s }) new) has ran in
+    let known : HasRun text params count (record old { schema = schema }) new = subst (λ s. HasRun text params count (record old { schema = s }) new) has ran in
     let there = known plain (subst IsWrite (sym is) write) in
-    subst (λ c. Wrote c (statement_of text (understood schema text)) params count (record old { schema = schema }) new) is there
+    subst (λ c. HasWritten c (statement_of text (understood schema text)) params count (record old { schema = schema }) new) is there

@@ -34,7 +34,7 @@ use Rattle.sqlite.specs.Does.{Tally}
 use Rattle.sqlite.specs.Rows.{Written}
 use Rattle.sqlite.specs.Effect.{Database, value_rows}
 use Rattle.sqlite.specs.Listing.{understood}
-use Rattle.store_texts.specs.Ran.{Ran}
+use Rattle.store_texts.specs.Ran.{HasRun}
 use Rattle.store_texts.proofs.Running.{wrote_as}
 use Rattle.sqlite.proofs.Callers.{IsPlain, command_of, one_step}
 use Rattle.store_texts.specs.Commands.{one_by_id, replaced_by_id, all_ids}
@@ -71,7 +71,7 @@ abbrev pub AreOthersKept : Schema → ℕ → Trees → Trees → Type 0
 AreOthersKept schema tree old new = AllByRecursion (λ t. t.tree ≢ tree → new t.tree ≡ old t.tree) schema.tables
 
 -- the rows of one tree are now these, and those of the other tables stay
-pub record Leaves (schema : Schema) (tree : ℕ) (rows : List Row) (old new : Database) : Type 0 where
+pub record SetsRows (schema : Schema) (tree : ℕ) (rows : List Row) (old new : Database) : Type 0 where
   pub schema_is : new.schema ≡ schema
   pub rows_are : new.trees tree ≡ rows
   pub others : AreOthersKept schema tree old.trees new.trees
@@ -112,7 +112,7 @@ module _ (schema : Schema) (calm : (keys : Keys) (tree : ℕ) (olds news : List 
 
   pub inserts : (terms : List Term) (width count : ℕ) (row : Row) → command_of (understood schema text) ≡ Insert at (Values terms width)
       → value_rows (params ++ []) width (length terms / width) terms ≡ row ∷ [] → cast_row table (drop 0 row) ≡ row → is_null (rowid row) ≡ false
-      → Ran text params count old new → Leaves schema tree (put_row row (old.trees tree)) old new
+      → HasRun text params count old new → SetsRows schema tree (put_row row (old.trees tree)) old new
   inserts terms width count row cmd given kept some h =
       let db = old.trees in
       let command = Insert at (Values terms width) in
@@ -138,7 +138,7 @@ module _ (schema : Schema) (calm : (keys : Keys) (tree : ℕ) (olds news : List 
   module _ {A : Type 0} (key : A → ℕ) (rest : A → Row) (all : List A) (stood : old.trees tree ≡ map (row_of key rest) all) where
     -- a DELETE of all rows leaves none
     pub empties : (count : ℕ) → command_of (understood schema text) ≡ Delete at (record { lets = []; body = all_ids tree })
-        → Ran text params count old new → Leaves schema tree [] old new
+        → HasRun text params count old new → SetsRows schema tree [] old new
     empties count cmd h =
         let db = old.trees in
         let command = Delete at (record { lets = []; body = all_ids tree }) in
@@ -179,7 +179,7 @@ module _ (schema : Schema) (calm : (keys : Keys) (tree : ℕ) (olds news : List 
         a.shown ∙ ap (λ xs. page q params (map (λ (p : Output). p.1) xs)) ordered ∙ map_one (λ (p : Output). p.1) (hit given) (found key rest id all)
 
     pub deletes : (count : ℕ) → command_of (understood schema text) ≡ Delete at (record { lets = []; body = one_by_id tree })
-        → Ran text params count old new → Leaves schema tree (map (row_of key rest) (left key rest id all)) old new
+        → HasRun text params count old new → SetsRows schema tree (map (row_of key rest) (left key rest id all)) old new
     deletes count cmd h =
         let db = old.trees in
         let command = Delete at (record { lets = []; body = one_by_id tree }) in
@@ -204,9 +204,9 @@ module _ (schema : Schema) (calm : (keys : Keys) (tree : ℕ) (olds news : List 
     -- An UPDATE by the id finds no row and does nothing, or it finds one, which goes, and the new row is put.
     pub replaces : (terms : List Term) (tail : Row) (count : ℕ) → command_of (understood schema text) ≡ Update at (record { lets = []; body = replaced_by_id tree terms })
         → ((x : A) → key x ≡ id → eval_all terms (params ∷ row_of key rest x ∷ []) ≡ Int (pos id) ∷ tail) → cast_row table (Int (pos id) ∷ tail) ≡ Int (pos id) ∷ tail
-        → Ran text params count old new
-        → ((count ≡ 0) × (left key rest id all ≡ all) × Leaves schema tree (map (row_of key rest) all) old new)
-        ⊎ ((count ≡ 1) × Leaves schema tree (put_row (Int (pos id) ∷ tail) (map (row_of key rest) (left key rest id all))) old new)
+        → HasRun text params count old new
+        → ((count ≡ 0) × (left key rest id all ≡ all) × SetsRows schema tree (map (row_of key rest) all) old new)
+        ⊎ ((count ≡ 1) × SetsRows schema tree (put_row (Int (pos id) ∷ tail) (map (row_of key rest) (left key rest id all))) old new)
     replaces terms tail count cmd shows kept h =
         let db = old.trees in
         let given = Int (pos id) ∷ tail in
@@ -234,7 +234,7 @@ module _ (schema : Schema) (calm : (keys : Keys) (tree : ℕ) (olds news : List 
         let fresh : are_fresh (map (row_of key rest) (left key rest id all)) (map (λ _. given) n) ≡ true = subst₂ (λ l m. are_fresh l m ≡ true) without news applied.fresh in
         let counted : count ≡ length (map (λ _. given) n) =
         w.counted ∙ ap (λ (p : Tally × Database). unwrap_or p.0.rows 0) both ∙ ap (λ (x : Written). length x.rows) it ∙ ap length news in
-        let leaves : (rows_after : List Row) → edited db edit ≡ rows_after → Leaves schema tree rows_after old new = λ rows_after e. record {
+        let leaves : (rows_after : List Row) → edited db edit ≡ rows_after → SetsRows schema tree rows_after old new = λ rows_after e. record {
           schema_is = ap (λ (d : Database). d.schema) now;
           rows_are = ap (λ (d : Database). d.trees tree) now ∙ ap (λ (t : Trees). t tree) trees ∙ applied.rows ∙ e;
           others = subst (λ t. AreOthersKept schema tree db t) (sym (ap (λ (d : Database). d.trees) now ∙ trees)) applied.tables;
@@ -243,9 +243,9 @@ module _ (schema : Schema) (calm : (keys : Keys) (tree : ℕ) (olds news : List 
       where
         by_found : (m : List A) → found key rest id all ≡ m → {e : List Row} → e ≡ put_all (map (row_of key rest) (left key rest id all)) (map (λ _. Int (pos id) ∷ tail) m)
             → are_fresh (map (row_of key rest) (left key rest id all)) (map (λ _. Int (pos id) ∷ tail) m) ≡ true → count ≡ length (map (λ _. Int (pos id) ∷ tail) m)
-            → ((rows_after : List Row) → e ≡ rows_after → Leaves schema tree rows_after old new)
-            → ((count ≡ 0) × (left key rest id all ≡ all) × Leaves schema tree (map (row_of key rest) all) old new)
-            ⊎ ((count ≡ 1) × Leaves schema tree (put_row (Int (pos id) ∷ tail) (map (row_of key rest) (left key rest id all))) old new)
+            → ((rows_after : List Row) → e ≡ rows_after → SetsRows schema tree rows_after old new)
+            → ((count ≡ 0) × (left key rest id all ≡ all) × SetsRows schema tree (map (row_of key rest) all) old new)
+            ⊎ ((count ≡ 1) × SetsRows schema tree (put_row (Int (pos id) ∷ tail) (map (row_of key rest) (left key rest id all))) old new)
         by_found [] is made fresh counted leaves =
             let same = none_found key rest id all is in
             inl (counted, same, leaves _ (made ∙ ap (map (row_of key rest)) same))

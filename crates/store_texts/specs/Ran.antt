@@ -11,7 +11,7 @@ use Rattle.sqlite.specs.Listing.{understood}
 use Rattle.sqlite.proofs.Callers.{command_of, statement_of}
 
 -- the command made the new database of the old one, and changed so many rows
-pub record Wrote (command : Command) (words : List ℕ) (params : Row) (count : ℕ) (old new : Database) : Type 0 where
+pub record HasWritten (command : Command) (words : List ℕ) (params : Row) (count : ℕ) (old new : Database) : Type 0 where
   pub limit : Option ℕ
   pub mode : Mode
   pub tally : Tally
@@ -19,13 +19,13 @@ pub record Wrote (command : Command) (words : List ℕ) (params : Row) (count : 
   pub counted : count ≡ unwrap_or tally.rows 0
 
 -- The statement ran to its end with these parameters, if it is one that writes rows or tables.
-abbrev pub Ran : List ℕ → Row → ℕ → Database → Database → Type 0
-Ran text params count old new =
+abbrev pub HasRun : List ℕ → Row → ℕ → Database → Database → Type 0
+HasRun text params count old new =
     IsPlain (understood old.schema text) → IsWrite (command_of (understood old.schema text))
-    → Wrote (command_of (understood old.schema text)) (statement_of text (understood old.schema text)) params count old new
+    → HasWritten (command_of (understood old.schema text)) (statement_of text (understood old.schema text)) params count old new
 
 -- One statement replaced rows, or it found none, and then the other one ran.
-abbrev pub IsPut : List ℕ → List ℕ → Row → Database → Database → Type 0
-IsPut update insert params old new =
-    ((count : ℕ) × (0 < count) × Ran update params count old new)
-    ⊎ ((mid : Database) × (count : ℕ) × Ran update params 0 old mid × Ran insert params count mid new)
+abbrev pub IsPutBy : List ℕ → List ℕ → Row → Database → Database → Type 0
+IsPutBy update insert params old new =
+    ((count : ℕ) × (0 < count) × HasRun update params count old new)
+    ⊎ ((mid : Database) × (count : ℕ) × HasRun update params 0 old mid × HasRun insert params count mid new)
