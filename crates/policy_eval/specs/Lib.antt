@@ -2,5 +2,6 @@ pub mod Covers
 pub mod Ends
 pub mod Expansion
 pub mod Grants
+pub mod Named
 pub mod Reach
 pub mod Sites

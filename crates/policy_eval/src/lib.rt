@@ -6,6 +6,7 @@ mod covering;
 mod end;
 mod expanded;
 mod granting;
+mod group_nets;
 mod id_list;
 mod laws;
 mod listing;
