@@ -1,8 +1,7 @@
 //! The ends that a test speaks of.
-ghost use Rattle.std.specs.Prelude.{◌≡◌, ◌∷◌, ◌++◌, [], IfOk, OnOk, filter, flat_map, map, if◌then◌else◌};
-ghost use Rattle.std.specs.Option.{option_copied, option_map};
+ghost use Rattle.std.specs.Prelude.{◌≡◌, ◌++◌, [], IfOk, OnOk, flat_map, if◌then◌else◌};
+ghost use Rattle.std.specs.Option.{option_copied};
 ghost use Rattle.std.specs.List.{find};
-ghost use Rattle.net_rows.specs.Damage.{address_eq};
 ghost use Rattle.policy_eval.specs.Ends.{end_at, holder_of};
 ghost use Rattle.policy_eval.specs.Sites.{site_has};
 ghost use Rattle.policy_tests.specs.Trials.{core_of};

@@ -1,5 +1,5 @@
 //! A policy's tests are run.
-ghost use Rattle.std.specs.Prelude.{◌≡◌, [], IfOk, None, not};
+ghost use Rattle.std.specs.Prelude.{◌≡◌, IfOk, None, not};
 ghost use Rattle.std.specs.List.{position_from};
 ghost use Rattle.tail_base.specs.Steps.{Gives};
 ghost use Rattle.policy_eval.specs.Sites.{sites_of};
