@@ -1,3 +1,4 @@
+pub mod GatheredLive
 pub mod Kept
 pub mod Proper
 pub mod TextLemmas

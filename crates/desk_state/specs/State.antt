@@ -1,5 +1,5 @@
 -- The state of a tailnet.
-use Rattle.std.specs.Prelude.{ℕ, ℤ, pos, ◌+ℤ◌, int_lt, Bool, true, false, List, [], ◌∷◌, Option, Some, None, if◌then◌else◌, not, ◌&&◌, ◌||◌}
+use Rattle.std.specs.Prelude.{ℕ, ℤ, pos, ◌+ℤ◌, int_lt, Bool, true, false, List, [], ◌∷◌, Option, Some, None, filter, map, if◌then◌else◌, not, ◌&&◌, ◌||◌}
 use Rattle.std.specs.Int.{int_min}
 use Rattle.std.specs.Option.{option_map}
 use Rattle.moments.specs.Moments.{later_of, last_moment}
@@ -64,6 +64,10 @@ is_live_with s presence m = is_ahead s.now m.expiry && (not m.ephemeral || stays
 
 abbrev pub is_live : State → Machine → Bool
 is_live s m = is_live_with s (presence_of s.presence m.id) m
+
+-- the ids of the machines that are live
+abbrev pub live_ids : State → List ℕ
+live_ids s = map (λ (m : Machine). m.id) (filter (is_live s) s.rows.machines)
 
 -- the machine is offline from this moment on
 abbrev pub offline_at : ℤ → ℕ → MachinePresence

@@ -17,7 +17,9 @@ mod users;
 pub use changes::machine_gone;
 pub use decision::Decision;
 pub use key_form::KeyForm;
-pub use life::{Snapshot, is_ahead, is_live, is_live_with, is_online, is_overdue, presence_of};
+pub use life::{
+    Snapshot, is_ahead, is_live, is_live_with, is_online, is_overdue, live_ids, presence_of,
+};
 pub use lines::{KeyLine, NodeLine, key_line, login_of, node_line, offline_line};
 pub use presence::{MachinePresence, Presence};
 pub use refusal::{Refusal, Scarce};

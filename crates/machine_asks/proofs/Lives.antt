@@ -10,14 +10,14 @@ use Rattle.net_rows.proofs.RowAt.{row_at_is}
 use Rattle.policy_rows.specs.declared.policy.Policy.{Policy}
 use Rattle.settings.specs.declared.fields.SettingsFields.{SettingsFields}
 use Rattle.policy_eval.specs.Sites.{is_among}
-use Rattle.desk_state.specs.State.{State, is_live}
+use Rattle.desk_state.specs.State.{State, is_live, live_ids}
 use Rattle.desk_state.specs.declared.presence.MachinePresence.{MachinePresence}
 use Rattle.peer_view.specs.Seen.{Node, Seen, live_node, node_with, seen_of}
 use Rattle.peer_view.proofs.ListLemmas.{filtered_member, map_member}
 use Rattle.peer_view.proofs.WorldLaws.{seen_sound}
 use Rattle.fresh_maps.specs.Fresh.{fresh}
 use Rattle.fresh_maps.specs.declared.view.View.{View}
-use Rattle.machine_asks.specs.OneMap.{IsLiveRow, fresh_for, live_ids, node_in, online_ids, world_of}
+use Rattle.machine_asks.specs.OneMap.{IsLiveRow, fresh_for, node_in, online_ids, world_of}
 
 -- a live machine is seen
 live_found : (s : State) (m : Machine) → damage s.rows ≡ None → IsLiveRow s m → node_with (world_of s) m.id ≡ Some (node_in s m)

@@ -9,7 +9,7 @@ use Rattle.net_rows.specs.declared.machine.Machine.{Machine}
 use Rattle.tailcfg.specs.declared.update.Update.{Update}
 use Rattle.fresh_maps.specs.Fresh.{fresh}
 use Rattle.desk_state.specs.Decisions.{changing, only}
-use Rattle.desk_state.specs.State.{State, is_live, is_online}
+use Rattle.desk_state.specs.State.{State, is_live, is_online, live_ids}
 use Rattle.desk_state.specs.declared.decision.Decision.{Decision}
 use Rattle.desk_state.specs.declared.presence.MachinePresence.{MachinePresence}
 use Rattle.desk_state.specs.declared.refusal.Refusal.{Refusal}
@@ -21,10 +21,6 @@ use Rattle.machine_asks.specs.Asking.{asking}
 use Rattle.machine_asks.specs.Update.{told_row}
 use Rattle.machine_asks.specs.declared.answer.MachineAnswer.{MachineAnswer}
 use Rattle.machine_asks.specs.declared.answer.MachineAnswer.TheVariants.{Map}
-
--- the ids of the machines that are live
-abbrev pub live_ids : State → List ℕ
-live_ids s = map (λ (m : Machine). m.id) (filter (is_live s) s.rows.machines)
 
 -- the ids of the machines that are online
 abbrev pub online_ids : List MachinePresence → List ℕ

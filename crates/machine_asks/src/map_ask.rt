@@ -1,7 +1,7 @@
 //! A machine asks for its map, and may tell of itself.
 ghost use Rattle.std.specs.Prelude.{◌≡◌, ◌∷◌, ◌++◌, [], IfOk, IfSome, None, OnOk, Some, if◌then◌else◌};
 ghost use Rattle.std.specs.Option.{option_copied};
-ghost use Rattle.desk_state.specs.State.{is_live, is_online};
+ghost use Rattle.desk_state.specs.State.{is_online, live_ids};
 ghost use Rattle.tail_base.specs.Steps.{Gives};
 ghost use Rattle.net_rows.specs.Damage.{damage};
 ghost use Rattle.net_rows.specs.Rows.{after};
@@ -13,7 +13,7 @@ ghost use Rattle.machine_rows.specs.Rows.{row_replaced};
 use crate::answer::MachineAnswer;
 use crate::told::told_row;
 use crate::who_asks::asking;
-use desk_state::{Decision, MachinePresence, Refusal, Snapshot, is_live, is_online, keep_rules};
+use desk_state::{Decision, MachinePresence, Refusal, Snapshot, is_online, keep_rules, live_ids};
 use fresh_maps::{View, fresh_map};
 use machine_rows::{row_replaced, same_told};
 use net_rows::{Change, Machine, Tables};
@@ -22,29 +22,6 @@ use policy_eval::Expanded;
 use std::alloc::Global;
 use tail_base::{Duplicate, Failure, Items, MachineKey, NoMemory, NodeKey};
 use tailcfg::Update;
-
-/// Adds the machine's id, if it is live.
-fn add_live(at: &Snapshot<'_>, ids: &mut Items<u32>, machine: &Machine) -> Result<(), NoMemory>
-    ensures ok { OnOk result (ids.new
-        ≡ ids.old ++ (if is_live at.now machine.now then machine.now.id ∷ [] else [])) }
-{
-    if is_live(at, machine) {
-        ids.push(machine.id)
-    } else {
-        Ok(())
-    }
-}
-
-/// The ids of the machines that are live.
-fn live_ids(alloc: Global, at: &Snapshot<'_>) -> Result<Items<u32>, NoMemory>
-    ensures value { IfOk result (λ ids. ids ≡ spec.live_ids at.now) }
-{
-    let mut ids = Items::new(alloc);
-    for machine in at.tables.machines() {
-        add_live(at, &mut ids, machine)?;
-    }
-    Ok(ids)
-}
 
 /// Adds the id, if that machine is online.
 fn add_online(ids: &mut Items<u32>, held: &MachinePresence) -> Result<(), NoMemory>
@@ -78,7 +55,7 @@ fn map_among(
     row: &Machine,
 ) -> Result<View, NoMemory>
     requires live { IsLiveRow at.now row.now }
-    requires live_ids { live.now ≡ spec.live_ids at.now }
+    requires live_ids { live.now ≡ live_ids at.now }
     requires online_ids { online.now ≡ spec.online_ids at.now.presence }
     ensures value { IfOk result (λ view. view ≡ spec.fresh_for at.now row.now) }
 {

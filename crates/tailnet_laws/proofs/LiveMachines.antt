@@ -21,13 +21,13 @@ use Rattle.peer_view.specs.Seen.{Node, sees, visible}
 use Rattle.peer_view.specs.Shown.{shown}
 use Rattle.peer_view.proofs.ListLemmas.{filter_member, filtered_passes, mapped_member}
 use Rattle.fresh_maps.specs.Fresh.{fresh}
-use Rattle.desk_state.specs.State.{State, is_ahead, is_live}
+use Rattle.desk_state.specs.State.{State, is_ahead, is_live, live_ids}
 use Rattle.desk_state.specs.declared.refusal.Refusal.TheVariants.{NotLive, UnknownMachine}
 use Rattle.desk_state.specs.declared.refusal.Refusal.{Refusal}
 use Rattle.machine_rows.proofs.RowLemmas.{machine_found}
 use Rattle.machine_asks.specs.Asking.{asking}
 use Rattle.machine_asks.specs.Decision.{decision}
-use Rattle.machine_asks.specs.OneMap.{live_ids, map_decision, node_in, world_of}
+use Rattle.machine_asks.specs.OneMap.{map_decision, node_in, world_of}
 use Rattle.machine_asks.specs.Update.{told_row, updated}
 use Rattle.machine_asks.specs.declared.ask.MachineAsk.TheVariants as ask
 use Rattle.tailnet_laws.specs.Shown.{IsExpired}
