@@ -1,0 +1,4 @@
+pub mod Puts
+pub mod Fold
+pub mod Delta
+pub mod Listed
