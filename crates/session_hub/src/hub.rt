@@ -20,7 +20,6 @@ use tailnet_desk::Desk;
 /// A desk that seats share. Each seat's call takes its turn: for every schedule of the threads there is
 /// one legal history of which each answer is a step's. Contracts see which hub it is, and where its
 /// desk stood when it was made.
-#[derive(Drop)]
 pub struct Hub<K: Keeper> {
     pub(crate) table: Table<Option<Desk<K>>, Known<Desk<K>>, Snapshot<Desk<K>>, HubRule, Global>,
 }
