@@ -37,6 +37,7 @@ class Policy:
     rules: list | None = None
     routes: list = field(default_factory=list)
     exits: list = field(default_factory=list)
+    # each test is its subject, its protocol or None, and two lists of destinations with their ports
     tests: list = field(default_factory=list)
 
     def owns(self, tag, login):
@@ -320,15 +321,15 @@ class Reader:
 
     def test(self, place, value):
         found = sections(place, shaped(place, value, dict), ["src", "proto", "accept", "deny"], ["srcPostureAttrs"])
-        if "proto" in found:
-            self.proto(under(place, "proto"), found["proto"])
+        proto = self.proto(under(place, "proto"), found["proto"]) if "proto" in found else None
         at = under(place, "src")
         if "src" not in found:
             raise PolicyFault(20, at)
-        self.test_end(at, shaped(at, found["src"], str))
-        for key in ("accept", "deny"):
-            listed(under(place, key), found.get(key, []), MOST["list"], self.test_dest)
-        return found
+        subject = self.test_end(at, shaped(at, found["src"], str))
+        accept, deny = (
+            listed(under(place, key), found.get(key, []), MOST["list"], self.test_dest) for key in ("accept", "deny")
+        )
+        return subject, proto, accept, deny
 
     def read(self, value):
         if not isinstance(value, dict):
@@ -353,6 +354,4 @@ def served_policy(text):
     policy = Reader().read(value_of(standard(text)))
     if policy.routes or policy.exits:
         raise PolicyFault(4, "autoApprovers")
-    if policy.tests:
-        raise PolicyFault(4, "tests")
     return policy

@@ -3,7 +3,8 @@
 import ipaddress
 from dataclasses import dataclass, field
 
-from policies import served_policy
+from granting import first_failure
+from policies import PolicyFault, served_policy
 from texts import LAST_MOMENT, ZERO_KEY, clamped, is_label, label_of_host, login_of, numbered
 
 COUNTER_LIMIT = 2147483647
@@ -317,7 +318,12 @@ class Tailnet:
         return row
 
     def save_policy(self, text):
-        self.policy, self.policy_text = served_policy(text), text
+        policy = served_policy(text)
+        live = [row for row in self.machines.values() if self.is_live(row)]
+        failure = first_failure(policy, [((row.v4, row.v6), self.users[row.user].login, tuple(row.tags)) for row in live])
+        if failure:
+            raise PolicyFault(21, failure)
+        self.policy, self.policy_text = policy, text
 
     def drop_node(self, id):
         del self.machines[self.machine_with(id).id]

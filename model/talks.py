@@ -41,9 +41,19 @@ POLICIES = [
     '{"tagOwners": {"tag:web": ["ann@", "seed@"], "tag:Db-1": ["group:dev"], "tag:a": []}, "groups": {"group:dev": ["ANN@", "bob@example.org"]}}',
     '{"tagOwners": {"tag:web": ["group:all",]}, /* all */ "groups": {"group:all": ["ann@", "seed@", "bob@example.org"]}} // so far',
     '{"tagOwners": {"tag:a": ["seed@"], "tag:web": ["seed@"], "tag:Db-1": ["seed@"]}}', "{}", '{"hosts": {"lab": "192.168.5.0/24"}}',
+    '{"tagOwners": {"tag:web": ["seed@"]}, "tests": [{"src": "ann@", "accept": ["tag:web:443", "seed@:22"], "deny": []}]}',
+]
+# whether these are kept depends on the machines that are live
+TESTED = [
+    '{"acls": [{"action": "accept", "src": ["seed@"], "dst": ["100.64.0.0/30:22"]}], "tests": [{"src": "seed@", "deny": ["seed@:22", "ann@:22"]}]}',
+    '{"acls": [{"action": "accept", "src": ["100.64.0.2"], "dst": ["*:*"]}], "tests": [{"src": "ann@", "proto": "icmp", "deny": ["100.64.0.1:1"]}]}',
+    '{"acls": [{"action": "accept", "src": ["*"], "dst": ["autogroup:self:*"]}], "tests": [{"src": "100.64.0.1", "accept": ["seed@:22"]}]}',
+    '{"tagOwners": {"tag:web": []}, "acls": [{"action": "accept", "src": ["seed@"], "dst": ["tag:web:80-90"]}], "tests": '
+    '[{"src": "seed@", "accept": ["tag:web:80"], "deny": ["tag:web:443"]}, {"src": "100.64.0.1", "deny": ["tag:web:85"]}]}',
+    '{"acls": [], "tests": [{"src": "ann@", "deny": ["seed@:22"], "accept": ["ann@:22"]}]}',
 ]
 NO_POLICIES = [
-    "", "[,]", "/* open", '{"tagOwners": {"tag:1": []}}', '{"tagOwners": {"tag:a": ["group:x"]}}', '{"tests": [{"src": "ann@"}]}',
+    "", "[,]", "/* open", '{"tagOwners": {"tag:1": []}}', '{"tagOwners": {"tag:a": ["group:x"]}}', '{"tests": [{"src": "*"}]}',
     '{"autoApprovers": {"exitNode": ["ann@"]}}', '{"a\\"b": 1}', '{"groups": {"group:a": ["ann"]}}', "null", "\ufeff{}",
 ]
 STRAY = [
@@ -206,7 +216,7 @@ class Talk:
     def policy(self):
         return self.one_of([
             ("GET", "/api/v1/policy", None, None),
-            ("PUT", "/api/v1/policy", None, self.one_of(4 * POLICIES, NO_POLICIES).encode()),
+            ("PUT", "/api/v1/policy", None, self.one_of(4 * POLICIES + TESTED, NO_POLICIES).encode()),
         ])
 
     def stray(self):

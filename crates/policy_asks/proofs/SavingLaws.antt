@@ -19,7 +19,7 @@ use Rattle.desk_state.specs.State.{State}
 use Rattle.desk_state.specs.declared.decision.Decision.{Decision}
 use Rattle.desk_state.proofs.Proper.{same_counters, sound_change}
 use Rattle.policy_asks.specs.Decision.{policy_decision}
-use Rattle.policy_asks.specs.Saving.{is_kept, kept_anew, or_refused, save, saved, text_change}
+use Rattle.policy_asks.specs.Saving.{is_kept, kept_anew, or_refused, save, saved, tested_in, text_change}
 use Rattle.policy_asks.specs.Served.{policy_in, served_policy}
 use Rattle.policy_asks.specs.declared.answer.PolicyAnswer.{PolicyAnswer}
 use Rattle.policy_asks.specs.declared.answer.PolicyAnswer.TheVariants as answer
@@ -44,7 +44,8 @@ pub saved_is : (s : State) (text : List ℕ) (d : Decision PolicyAnswer) → sav
     → (p : Policy) × (served_policy text ≡ Ok p) × (saved s.rows text p ≡ d)
 saved_is s text d h =
     let parts = bind_parts (or_refused (served_policy text)) _ d h in
-    let same : saved s.rows text parts.0 ≡ d = let e = parts.2 in cc in
+    let rest = bind_parts (or_refused (tested_in s parts.0)) _ d parts.2 in
+    let same : saved s.rows text parts.0 ≡ d = let e = rest.2 in cc in
     (parts.0, read_as (served_policy text) parts.0 parts.1, same)
 
 -- the text that is kept already passes the test

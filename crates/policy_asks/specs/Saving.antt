@@ -8,7 +8,9 @@ use Rattle.net_rows.specs.declared.rows.Rows.{Rows}
 use Rattle.policy_rows.specs.declared.fault.PolicyFault.{PolicyFault}
 use Rattle.policy_rows.specs.declared.policy.Policy.{Policy}
 use Rattle.desk_state.specs.Decisions.{only}
-use Rattle.desk_state.specs.State.{State}
+use Rattle.policy_eval.specs.Sites.{sites_of}
+use Rattle.policy_tests.specs.Tests.{tested}
+use Rattle.desk_state.specs.State.{State, live_ids}
 use Rattle.desk_state.specs.declared.decision.Decision.{Decision}
 use Rattle.desk_state.specs.declared.refusal.Refusal.{Refusal}
 use Rattle.desk_state.specs.declared.refusal.Refusal.TheVariants.{PolicyRefused}
@@ -16,10 +18,14 @@ use Rattle.policy_asks.specs.Served.{served_policy}
 use Rattle.policy_asks.specs.declared.answer.PolicyAnswer.{PolicyAnswer}
 use Rattle.policy_asks.specs.declared.answer.PolicyAnswer.TheVariants as answer
 
--- a fault of the text refuses the ask
-abbrev pub or_refused : Result Policy PolicyFault → Result Policy Refusal
-or_refused (Ok policy) = Ok policy
+-- a fault of the policy refuses the ask
+abbrev pub or_refused : {A : Type 0} → Result A PolicyFault → Result A Refusal
+or_refused (Ok x) = Ok x
 or_refused (Err fault) = Err (PolicyRefused fault.code fault.place)
+
+-- the policy's tests, over the tables and the machines that are live
+abbrev pub tested_in : State → Policy → Result (Unit {0}) PolicyFault
+tested_in s policy = tested policy (sites_of s.rows (live_ids s))
 
 -- this is the text that is kept
 abbrev pub is_kept : Option (List ℕ) → List ℕ → Bool
@@ -44,8 +50,9 @@ kept_anew rows text policy = record {
 abbrev pub saved : Rows → List ℕ → Policy → Decision PolicyAnswer
 saved rows text policy = if is_kept rows.policy text then only answer.Saved else kept_anew rows text policy
 
--- the text is read, also where it is kept already
+-- the text is read, and its policy tested, also where it is kept already
 abbrev pub save : State → List ℕ → Result (Decision PolicyAnswer) Refusal
 save s text = do
   policy ← or_refused (served_policy text)
+  _ ← or_refused (tested_in s policy)
   Ok (saved s.rows text policy)

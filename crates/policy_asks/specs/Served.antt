@@ -9,13 +9,12 @@ use Rattle.policy_rows.specs.declared.fault.PolicyFault.{PolicyFault}
 use Rattle.policy_rows.specs.declared.policy.Policy.{Policy}
 use Rattle.policy_doc.specs.Document.{policy_of_text}
 
--- neither routes nor exit nodes are approved by a policy yet, and then, none is tested yet
+-- neither routes nor exit nodes are approved by a policy yet
 abbrev pub served_forms : Policy → Result (Unit {0}) PolicyFault
-served_forms policy = do
-  approvers ← refuse_unless (length policy.route_approvers == 0 && length policy.exit_approvers == 0) (fault_at code.Unsupported (codes "autoApprovers"))
-  refuse_unless (length policy.tests == 0) (fault_at code.Unsupported (codes "tests"))
+served_forms policy =
+    refuse_unless (length policy.route_approvers == 0 && length policy.exit_approvers == 0) (fault_at code.Unsupported (codes "autoApprovers"))
 
--- the policy that a text states, or the text's first fault, or the first of its forms that isn't served yet
+-- the policy that a text states, or the text's first fault, or the form of it that isn't served yet
 unfoldable pub served_policy : List ℕ → Result Policy PolicyFault
 served_policy text = do
   policy ← policy_of_text text

@@ -6,9 +6,10 @@ ghost use Rattle.policy_asks.specs.Saving as spec;
 
 use crate::answer::PolicyAnswer;
 use crate::served::served_policy;
-use desk_state::{Decision, Refusal, Snapshot};
+use desk_state::{Decision, Refusal, Snapshot, live_ids};
 use net_rows::{Change, Row, Tables};
 use policy_rows::{Policy, PolicyFault};
+use policy_tests::tested;
 use std::alloc::Global;
 use tail_base::{Duplicate, Failure, Items, NoMemory, Text};
 
@@ -18,6 +19,24 @@ fn policy_or_refused(alloc: Global, text: &Text) -> Result<Policy, Failure<Refus
 {
     match served_policy(alloc, text.as_slice()) {
         Ok(policy) => Ok(policy),
+        Err(Failure::Fault(PolicyFault { code, place })) => {
+            Err(Failure::Fault(Refusal::PolicyRefused { code, place }))
+        }
+        Err(Failure::NoMemory) => Err(Failure::NoMemory),
+    }
+}
+
+/// The tests of the policy, over the machines that are live. The first that fails refuses the ask.
+fn tested_or_refused(
+    alloc: Global,
+    at: &Snapshot<'_>,
+    policy: &Policy,
+) -> Result<(), Failure<Refusal>>
+    ensures value { Gives (λ t. t) result (spec.or_refused (spec.tested_in at.now policy.now)) }
+{
+    let live = live_ids(alloc, at)?;
+    match tested(alloc, policy, at.tables, live.as_slice()) {
+        Ok(()) => Ok(()),
         Err(Failure::Fault(PolicyFault { code, place })) => {
             Err(Failure::Fault(Refusal::PolicyRefused { code, place }))
         }
@@ -80,7 +99,8 @@ fn saved(
 }
 
 /// The text is kept and its policy put in force, unless the text has a fault or a form that isn't
-/// served yet, which refuses it. Where it is the text that is kept already, nothing changes.
+/// served yet, or else a test of the policy fails, which refuses it. Where it is the text that is kept
+/// already, nothing changes.
 pub(crate) fn save(
     alloc: Global,
     at: &Snapshot<'_>,
@@ -89,5 +109,6 @@ pub(crate) fn save(
     ensures value { Gives (λ d. d) result (spec.save at.now text.now) }
 {
     let policy = policy_or_refused(alloc, text)?;
+    tested_or_refused(alloc, at, &policy)?;
     Ok(saved(alloc, at.tables, text, policy)?)
 }

@@ -18,23 +18,19 @@ fn has_approvers(policy: &Policy) -> bool
     policy.route_approvers.len() > 0 || policy.exit_approvers.len() > 0
 }
 
-/// Refuses the first form that isn't served yet: automatic approval of routes and exit nodes, and
-/// then tests.
+/// Refuses the form that isn't served yet: automatic approval of routes and exit nodes.
 fn check_forms(alloc: Global, policy: &Policy) -> Result<(), Failure<PolicyFault>>
     ensures value { Gives (λ t. t) result (served_forms policy.now) }
 {
     if has_approvers(policy) {
         return refused(alloc, PolicyCode::Unsupported, "autoApprovers");
     }
-    if policy.tests.len() > 0 {
-        return refused(alloc, PolicyCode::Unsupported, "tests");
-    }
     Ok(())
 }
 
 /// The policy that a text states, as saves and opened tables have it. The fault is the text's
-/// first, or, in a text without one, the first of its forms that isn't served yet: automatic approval of
-/// routes and exit nodes, and then tests.
+/// first, or, in a text without one, the form that isn't served yet: automatic approval of routes and
+/// exit nodes. Its tests aren't run.
 #[tactic(auto, unfolding(crate::specs::Served::served_policy))]
 pub fn served_policy(alloc: Global, text: &[u8]) -> Result<Policy, Failure<PolicyFault>>
     ensures value { Gives (λ p. p) result (served_policy text.now) }

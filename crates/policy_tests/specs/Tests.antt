@@ -72,10 +72,10 @@ abbrev pub place_of : TestFailure → List ℕ
 place_of f = indexed (under (indexed (codes "tests") f.test) (list_name f.accept)) f.index
 
 -- the failure as a fault of the policy
-abbrev pub fault_of : Option TestFailure → Result (Unit {0}) PolicyFault
-fault_of None = Ok tt
-fault_of (Some f) = Err (fault_at code.TestFailed (place_of f))
+abbrev pub failure_fault : Option TestFailure → Result (Unit {0}) PolicyFault
+failure_fault None = Ok tt
+failure_fault (Some f) = Err (fault_at code.TestFailed (place_of f))
 
 -- The policy passes its tests over these machines, or else its first failure is its fault.
 abbrev pub tested : Policy → List Site → Result (Unit {0}) PolicyFault
-tested policy sites = fault_of (first_failure policy sites)
+tested policy sites = failure_fault (first_failure policy sites)

@@ -6,7 +6,7 @@ use Rattle.desk_state.specs.Decisions.{only}
 use Rattle.desk_state.specs.State.{State}
 use Rattle.desk_state.specs.declared.decision.Decision.{Decision}
 use Rattle.policy_asks.specs.Decision.{policy_decision}
-use Rattle.policy_asks.specs.Saving.{is_kept, kept_anew, or_refused, saved, text_change}
+use Rattle.policy_asks.specs.Saving.{is_kept, kept_anew, or_refused, saved, tested_in, text_change}
 use Rattle.policy_asks.specs.Served.{served_policy}
 use Rattle.policy_asks.specs.declared.answer.PolicyAnswer.{PolicyAnswer}
 use Rattle.policy_asks.specs.declared.answer.PolicyAnswer.TheVariants as answer
@@ -34,4 +34,5 @@ module _ (s : State) where
   pub policy_puts : (x : PolicyAsk) → Every Saves (policy_decision s x)
   policy_puts ask.Policy = every_ok Saves (only (answer.PolicyText s.rows.policy)) (quiet (answer.PolicyText s.rows.policy))
   policy_puts (ask.SavePolicy text) =
-      every_bind Saves (or_refused (served_policy text)) _ (λ (p : Policy) _. every_ok Saves (saved s.rows text p) (saved_puts text p))
+      every_bind Saves (or_refused (served_policy text)) _ (λ (p : Policy) _.
+      every_bind Saves (or_refused (tested_in s p)) _ (λ passed _. every_ok Saves (saved s.rows text p) (saved_puts text p)))

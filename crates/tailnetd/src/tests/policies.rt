@@ -45,8 +45,8 @@ const SAVES: &str = r#"= policy-none
 < 422 {"code":"P4","place":"autoApprovers"}
 > PUT /api/v1/policy Bearer/secret {"autoApprovers":{"exitNode":["ann@"]}}
 < 422 {"code":"P4","place":"autoApprovers"}
-> PUT /api/v1/policy Bearer/secret {"tests":[{"src":"ann@","accept":["bob@:22"]}]}
-< 422 {"code":"P4","place":"tests"}
+> PUT /api/v1/policy Bearer/secret {"autoApprovers":{"exitNode":["ann@"]},"acls":[],"tests":[{"src":"ann@","accept":["bob@:22"]}]}
+< 422 {"code":"P4","place":"autoApprovers"}
 > PUT /api/v1/policy Bearer/secret {"autoApprovers":{"routes":{},"exitNode":[]},"tests":[]}
 < 200 {}
 = policy-caller
@@ -119,6 +119,66 @@ const TAGS: &str = r#"= tags-of-a-policy
 < 200 {}
 > POST /machine/register mkey:%2 {"Auth":{"AuthKey":"tnkey-2-0000000000000001000000000000000200000000000000030000000000000004"},"NodeKey":"nodekey:%b"}
 < registered"#;
+
+/// Tests of policies, over the machines that are live.
+const TESTS: &str = r#"= tests-with-phantoms
+> PUT /api/v1/policy Bearer/secret {"tagOwners":{"tag:web":[]},"acls":[{"action":"accept","src":["bob@"],"dst":["tag:web:443"]}],"tests":[{"src":"eve@","accept":["tag:web:443"]}]}
+< 422 {"code":"P21","place":"tests[0].accept[0]"}
+> PUT /api/v1/policy Bearer/secret {"tagOwners":{"tag:web":[]},"groups":{"group:e":["eve@"]},"acls":[{"action":"accept","src":["group:e"],"dst":["tag:web:443"]}],"tests":[{"src":"eve@","accept":["tag:web:443"]}]}
+< 200 {}
+= tests-of-the-policy-that-is-saved
+> PUT /api/v1/policy Bearer/secret {"acls":[]}
+< 200 {}
+> PUT /api/v1/policy Bearer/secret {"tests":[{"src":"ann@","accept":["bob@:22"]}]}
+< 200 {}
+> PUT /api/v1/policy Bearer/secret {"acls":[],"tests":[{"src":"ann@","accept":["bob@:22"]}]}
+< 422 {"code":"P21","place":"tests[0].accept[0]"}
+> PUT /api/v1/policy Bearer/secret {"acls":[],"tests":[{"src":"ann@","accept":["bob@:22"]},{"src":"*"}]}
+< 422 {"code":"P20","place":"tests[1].src"}
+> GET /api/v1/policy Bearer/secret
+< 200 {"tests":[{"src":"ann@","accept":["bob@:22"]}]}
+= tests-of-the-kept-text
+> PUT /api/v1/policy Bearer/secret {"acls":[{"action":"accept","src":["100.64.0.1"],"dst":["*:22"]}],"tests":[{"src":"seed@","deny":["eve@:22"]}]}
+< 200 {}
+> POST /machine/register mkey:%1 {"Auth":{"AuthKey":"k1"},"NodeKey":"nodekey:%a"}
+< registered
+> PUT /api/v1/policy Bearer/secret {"acls":[{"action":"accept","src":["100.64.0.1"],"dst":["*:22"]}],"tests":[{"src":"seed@","deny":["eve@:22"]}]}
+< 422 {"code":"P21","place":"tests[0].deny[0]"}
+> GET /api/v1/policy Bearer/secret
+< 200 {"acls":[{"action":"accept","src":["100.64.0.1"],"dst":["*:22"]}],"tests":[{"src":"seed@","deny":["eve@:22"]}]}
+> DELETE /api/v1/node/1 Bearer/secret
+< 200 {}
+> PUT /api/v1/policy Bearer/secret {"acls":[{"action":"accept","src":["100.64.0.1"],"dst":["*:22"]}],"tests":[{"src":"seed@","deny":["eve@:22"]}]}
+< 200 {}
+= tests-of-a-live-address
+> PUT /api/v1/policy Bearer/secret {"hosts":{"nas":"100.64.0.1"},"acls":[{"action":"accept","src":["seed@"],"dst":["*:*"]}],"tests":[{"src":"nas","accept":["eve@:22"]}]}
+< 422 {"code":"P21","place":"tests[0].accept[0]"}
+> POST /machine/register mkey:%1 {"Auth":{"AuthKey":"k1"},"NodeKey":"nodekey:%a"}
+< registered
+> PUT /api/v1/policy Bearer/secret {"hosts":{"nas":"100.64.0.1"},"acls":[{"action":"accept","src":["seed@"],"dst":["*:*"]}],"tests":[{"src":"nas","accept":["eve@:22"]}]}
+< 200 {}
+> POST /api/v1/node/1/expire Bearer/secret {}
+< 200 {"addresses":["100.64.0.1","fd7a:115c:a1e0::1"],"advertised":[],"approved":[],"expiry":"2001-09-09T01:46:40Z","id":1,"live":false,"name":"node","online":false,"served":[],"tags":[],"user":"seed@"}
+> PUT /api/v1/policy Bearer/secret {"hosts":{"nas":"100.64.0.1"},"acls":[{"action":"accept","src":["seed@"],"dst":["*:*"]}],"tests":[{"src":"nas","accept":["eve@:22"]}]}
+< 422 {"code":"P21","place":"tests[0].accept[0]"}
+= tests-of-both-addresses
+> POST /machine/register mkey:%1 {"Auth":{"AuthKey":"k1"},"NodeKey":"nodekey:%a"}
+< registered
+> PUT /api/v1/policy Bearer/secret {"acls":[{"action":"accept","src":["eve@"],"dst":["100.64.0.1:22"]}],"tests":[{"src":"eve@","deny":["seed@:22"]}]}
+< 422 {"code":"P21","place":"tests[0].deny[0]"}
+> PUT /api/v1/policy Bearer/secret {"acls":[{"action":"accept","src":["eve@"],"dst":["fd7a:115c:a1e0::1:22"]}],"tests":[{"src":"eve@","deny":["seed@:22"]}]}
+< 422 {"code":"P21","place":"tests[0].deny[0]"}
+> PUT /api/v1/policy Bearer/secret {"acls":[{"action":"accept","src":["eve@"],"dst":["100.64.0.2:22"]}],"tests":[{"src":"eve@","deny":["seed@:22"]}]}
+< 200 {}
+= tests-of-tagged-machines
+> PUT /api/v1/policy Bearer/secret {"tagOwners":{"tag:web":["seed@"]}}
+< 200 {}
+> POST /machine/register mkey:%1 {"Auth":{"AuthKey":"k1"},"NodeKey":"nodekey:%a","Hostinfo":{"RequestTags":["tag:web"]}}
+< registered
+> PUT /api/v1/policy Bearer/secret {"tagOwners":{"tag:web":["seed@"]},"acls":[{"action":"accept","src":["100.64.0.1"],"dst":["*:22"]}],"tests":[{"src":"seed@","deny":["eve@:22"]}]}
+< 200 {}
+> PUT /api/v1/policy Bearer/secret {"tagOwners":{"tag:web":["seed@"]},"acls":[{"action":"accept","src":["100.64.0.1"],"dst":["*:22"]}],"tests":[{"src":"tag:web","deny":["eve@:22"]}]}
+< 422 {"code":"P21","place":"tests[0].deny[0]"}"#;
 
 /// Tables that keep nothing but this policy.
 fn tables_with(alloc: Global, policy: &str) -> Result<Tables, NoMemory> {
@@ -209,10 +269,22 @@ fn kept_policies_are_opened(rt: HostRuntime) -> Result<(), Fail> {
     assert_damaged(&rt, alloc, "")?;
     assert_damaged(&rt, alloc, "{\"acls\":[{}]}")?;
     assert_damaged(&rt, alloc, "{\"autoApprovers\":{\"exitNode\":[\"ann@\"]}}")?;
-    assert_damaged(
-        &rt,
-        alloc,
-        "{\"tests\":[{\"src\":\"ann@\",\"accept\":[\"bob@:22\"]}]}",
-    )?;
+    Ok(())
+}
+
+#[test]
+fn policies_are_tested(rt: HostRuntime) -> Result<(), Fail> {
+    assert_all_held(&rt, rt.alloc(), TESTS)?;
+    Ok(())
+}
+
+/// A policy stays in force when a test of it would fail.
+#[test]
+fn kept_policies_are_not_tested(rt: HostRuntime) -> Result<(), Fail> {
+    let alloc = rt.alloc();
+    let kept = "{\"acls\":[],\"tests\":[{\"src\":\"ann@\",\"accept\":[\"bob@:22\"]}]}";
+    let ran = piped_over(alloc, tables_with(alloc, kept)?, SHOW)?;
+    assert!(rt; ran.status == Status::Ok);
+    assert!(rt; ran.output.bytes().ends_with(kept.as_bytes()));
     Ok(())
 }
