@@ -13,6 +13,7 @@ from bodies import (
     read_register,
     read_tags_form,
 )
+from grants import Grants
 from heads import HeadFault, refuse_head, values_of
 from policies import PolicyFault
 from tailnet import Refusal
@@ -165,9 +166,11 @@ class Front:
         return [{"Addr": address} for address in addresses]
 
     def whole_map(self, row):
-        """Without a policy every live machine is a peer of every other, and all may send to it."""
-        peers = [other for other in self.tailnet.machines.values() if other is not row and self.tailnet.is_live(other)]
-        ports = {"First": 0, "Last": 65535}
+        """What the policy in force lets the machine see, and whom it lets in."""
+        tailnet = self.tailnet
+        live = [other for other in tailnet.machines.values() if tailnet.is_live(other)]
+        grants = Grants(tailnet.policy, live, lambda other: tailnet.users[other.user].login)
+        peers = [other for other in live if grants.sees(row, other)]
         routes = self.settings.get("dns.routes", {})
         whole = {
             "DNSConfig": {
@@ -179,13 +182,7 @@ class Front:
             },
             "Domain": self.settings["base_domain"],
             "Node": self.node(row),
-            "PacketFilter": [
-                {
-                    "DstPorts": [{"IP": str(address), "Ports": ports} for address in (row.v4, row.v6)],
-                    "IPProto": [1, 6, 17, 58],
-                    "SrcIPs": ["*"],
-                }
-            ],
+            "PacketFilter": grants.filter_of(row),
             "UserProfiles": [self.profile(user) for user in sorted({self.owner(other) for other in [row, *peers]})],
         }
         return {**whole, "Peers": [self.node(peer) for peer in peers]} if peers else whole

@@ -56,6 +56,13 @@ NO_POLICIES = [
     "", "[,]", "/* open", '{"tagOwners": {"tag:1": []}}', '{"tagOwners": {"tag:a": ["group:x"]}}', '{"tests": [{"src": "*"}]}',
     '{"autoApprovers": {"exitNode": ["ann@"]}}', '{"a\\"b": 1}', '{"groups": {"group:a": ["ann"]}}', "null", "\ufeff{}",
 ]
+SOURCES = [
+    "*", "ann@", "BOB@example.org", "seed@", "eve@", "group:dev", "group:none", "tag:web", "tag:Db-1", "autogroup:member",
+    "autogroup:tagged", "100.64.0.0/10", "100.64.0.1", "100.64.0.2", "[fd7a:115c:a1e0::2]", "fd7a:115c:a1e0::/125", "lab", "one",
+    "10.0.0.0/8", "0.0.0.0/0", "::/0",
+]
+DESTS = SOURCES + ["autogroup:self", "autogroup:self", "autogroup:internet"]
+PORTS = ["*", "*", "22", "80-90,85-100", "443,22", "1-2,3-4,6", "0-65535"]
 STRAY = [
     ("GET", "/"), ("GET", "/machine/map"), ("PUT", "/machine/map"), ("POST", "/machine/map/"), ("GET", "/api/v1/node/1"),
     ("POST", "/api/v1/policy"), ("POST", "/api/v1/node/1/routes"), ("GET", "/api/v1/dns"), ("DELETE", "/api/v1/user/"),
@@ -163,6 +170,13 @@ class Talk:
             machine, body["NodeKey"] = "mkey:" + held.machine, "nodekey:" + held.node
         return "POST", "/machine/map", machine, body
 
+    def whole_map(self):
+        """A sound request for a map, once there is a machine."""
+        held = self.one_of(self.tailnet.machines.values(), [] if self.tailnet.machines else [None])
+        if held is None:
+            return self.register()
+        return "POST", "/machine/map", "mkey:" + held.machine, {"NodeKey": "nodekey:" + held.node, "ReadOnly": True}
+
     def id(self, rows):
         return self.one_of(IDS if self.once_in(10) else [], [str(id) for id in rows], ["1"])
 
@@ -213,10 +227,31 @@ class Talk:
             ("POST", "/api/v1/sweep", None, {}),
         ])
 
+    def rule(self):
+        proto = self.one_of([None, None, None, "tcp", 17, "icmp", "132", 255])
+        ports = PORTS if proto in (None, "tcp", 17, "132") else ["*"]
+        return {
+            "action": "accept",
+            **({} if proto is None else {"proto": proto}),
+            "src": [self.one_of(SOURCES) for _ in range(self.one_of([0, 1, 1, 1, 2, 3]))],
+            "dst": [f"{self.one_of(DESTS)}:{self.one_of(ports)}" for _ in range(self.one_of([0, 1, 1, 1, 2, 3]))],
+        }
+
+    def rules(self):
+        """A policy with rules."""
+        return json.dumps({
+            "groups": {"group:dev": ["ann@", "bob@example.org"], "group:none": []},
+            "hosts": {"lab": "100.64.0.0/30", "one": "fd7a:115c:a1e0::1"},
+            "tagOwners": {"tag:web": ["group:dev", "seed@"], "tag:Db-1": ["seed@"], "tag:a": []},
+            "acls": [self.rule() for _ in range(self.one_of([0, 1, 1, 2, 3, 4]))],
+        })
+
     def policy(self):
+        text = self.one_of(2 * POLICIES + TESTED, NO_POLICIES) if self.once_in(2) else self.rules()
         return self.one_of([
             ("GET", "/api/v1/policy", None, None),
-            ("PUT", "/api/v1/policy", None, self.one_of(4 * POLICIES + TESTED, NO_POLICIES).encode()),
+            ("PUT", "/api/v1/policy", None, text.encode()),
+            ("PUT", "/api/v1/policy", None, text.encode()),
         ])
 
     def stray(self):
@@ -266,7 +301,7 @@ class Talk:
         return fields
 
     def request(self):
-        draws = 10 * [self.register] + 5 * [self.map] + 3 * [self.node] + [self.user, self.pre_auth_key, self.waiting, self.policy]
+        draws = 10 * [self.register] + 5 * [self.map] + 5 * [self.whole_map] + 3 * [self.node] + 2 * [self.policy] + [self.user, self.pre_auth_key, self.waiting]
         draw = self.stray if self.once_in(40) else self.random.choice(draws)
         method, path, machine, body = draw()
         body = b"" if body is None else body if isinstance(body, bytes) else json.dumps(body, ensure_ascii=self.once_in(2)).encode()

@@ -3,3 +3,4 @@ pub mod Reaches
 pub mod Seen
 pub mod Shown
 pub mod Worlds
+pub mod Ways

@@ -1,11 +1,12 @@
 //! Who reaches and who sees whom.
 ghost use Rattle.std.specs.Prelude.{◌≡◌, ◌≤◌, ◌+◌, Contains};
 ghost use Rattle.peer_view.specs.Seen.{node_reaches, of_ids, sees};
+ghost use Rattle.peer_view.specs.Ways.{ways_of};
 
 use crate::by_id::id_reaches;
 use crate::machine::LiveMachine;
-use crate::site_rules::either_reaches;
 use crate::steps::Steps;
+use crate::way::{Way, some_way_joins};
 use crate::world::World;
 use std::sync::ledger::Ledger;
 
@@ -38,9 +39,16 @@ pub fn sees<L: Ledger>(world: &World<'_>, viewer: u32, peer: u32, steps: &mut St
     pair_test(world, peer, viewer, steps)
 }
 
-/// Whether one live machine sees the other. It takes no memory, and looks up no ids.
-pub fn sees_machine(world: &World<'_>, viewer: &LiveMachine<'_>, peer: &LiveMachine<'_>) -> bool
+/// Whether one live machine, of which the rules say this, sees the other. It takes no memory, and looks
+/// up no ids.
+pub fn sees_machine(
+    world: &World<'_>,
+    viewer: &LiveMachine<'_>,
+    ways: &[Way<'_>],
+    peer: &LiveMachine<'_>,
+) -> bool
     requires viewer { Contains world.now.nodes viewer.now }
+    requires ways { ways.now ≡ ways_of world.now viewer.now }
     requires peer { Contains world.now.nodes peer.now }
     ensures value { result ≡ sees world.now viewer.now peer.now }
 {
@@ -48,5 +56,7 @@ pub fn sees_machine(world: &World<'_>, viewer: &LiveMachine<'_>, peer: &LiveMach
         return false;
     }
     let expanded = world.expanded;
-    either_reaches(expanded.groups(), expanded.rules(), viewer.site, peer.site)
+    // For what it promises, that rules are sound.
+    let _rules = expanded.rules();
+    some_way_joins(expanded.groups(), ways, viewer.site, peer.site)
 }

@@ -1,5 +1,5 @@
 //! Which machines the rules let through, seen from the two machines alone.
-ghost use Rattle.std.specs.Prelude.{◌≡◌, ◌||◌};
+ghost use Rattle.std.specs.Prelude.{◌≡◌};
 ghost use Rattle.std.specs.List.{list_any};
 ghost use Rattle.policy_eval.specs.Covers.{is_own_devices};
 ghost use Rattle.peer_view.specs.Reaches.{covers_site, joins_own_by, lets_through, sends, site_reaches, takes};
@@ -32,7 +32,7 @@ fn covers_site(groups: &[Group], site: &Site, selector: &Selector) -> bool
 }
 
 /// Whether the machine may send by the rule.
-fn sends(groups: &[Group], rule: &Rule, site: &Site) -> bool
+pub(crate) fn sends(groups: &[Group], rule: &Rule, site: &Site) -> bool
     ensures value { result ≡ sends groups.now rule.now site.now }
 {
     let sources = rule.sources.as_slice();
@@ -42,7 +42,7 @@ fn sends(groups: &[Group], rule: &Rule, site: &Site) -> bool
 }
 
 /// Whether the rule lets through to the machine whoever may send by it.
-fn takes(groups: &[Group], rule: &Rule, site: &Site) -> bool
+pub(crate) fn takes(groups: &[Group], rule: &Rule, site: &Site) -> bool
     ensures value { result ≡ takes groups.now rule.now site.now }
 {
     let entries = rule.dests.as_slice();
@@ -52,7 +52,7 @@ fn takes(groups: &[Group], rule: &Rule, site: &Site) -> bool
 }
 
 /// Whether the rule has `autogroup:self` as a destination.
-fn has_own_devices(entries: &[Dest]) -> bool
+pub(crate) fn has_own_devices(entries: &[Dest]) -> bool
     ensures value { result ≡ list_any (λ entry. is_own_devices entry.to) entries.now }
 {
     entries.iter().any(|entry| is_own_devices(&entry.to))
@@ -77,12 +77,4 @@ pub(crate) fn site_reaches(groups: &[Group], rules: &[Rule], a: &Site, b: &Site)
     ensures value { result ≡ site_reaches groups.now rules.now a.now b.now }
 {
     rules.iter().any(|rule| lets_through(groups, rule, a, b))
-}
-
-/// Whether one machine reaches the other, or the other the one.
-pub(crate) fn either_reaches(groups: &[Group], rules: &[Rule], a: &Site, b: &Site) -> bool
-    ensures value { result ≡ (site_reaches groups.now rules.now a.now b.now
-        || site_reaches groups.now rules.now b.now a.now) }
-{
-    site_reaches(groups, rules, a, b) || site_reaches(groups, rules, b, a)
 }

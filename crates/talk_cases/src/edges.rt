@@ -1,5 +1,6 @@
 //! The rules of reading at their edges, and every cut of an input.
-use crate::tests::{CALM, FIRST, REGISTERED_TWICE, SETTINGS, TWICE, piped};
+use crate::registrations::{FIRST, REGISTERED_TWICE, TWICE};
+use crate::runs::{CALM, SETTINGS, piped};
 use run_ends::Status;
 use std::alloc::Global;
 use std::test::Fail;

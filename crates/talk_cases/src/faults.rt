@@ -1,5 +1,6 @@
 //! One call after the other fails.
-use crate::tests::{CALM, Plan, REGISTERED, REGISTERED_TWICE, SETTINGS, TWICE, piped};
+use crate::registrations::{REGISTERED, REGISTERED_TWICE, TWICE};
+use crate::runs::{CALM, Plan, SETTINGS, piped};
 use run_ends::Status;
 use std::alloc::Global;
 use std::test::Fail;

@@ -1,5 +1,5 @@
 //! Every refusal, and what stands in the tables after it; the first fault of every body.
-use crate::tests::talks::assert_all_held;
+use crate::talks::assert_all_held;
 use std::test::Fail;
 
 /// What the desk refuses, and that it changes nothing.

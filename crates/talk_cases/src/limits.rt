@@ -1,5 +1,5 @@
 //! As many rows of a kind as there may be, and then one more.
-use crate::tests::{CALM, SETTINGS, piped};
+use crate::runs::{CALM, SETTINGS, piped};
 use std::alloc::Global;
 use std::test::Fail;
 use tail_base::NoMemory;

@@ -1,14 +1,15 @@
 //! Conversations as lines of a text, and whether `pipe` holds them so.
 //!
 //! `= name` begins a conversation. Before its first request may stand `: key = value`, a line more in its settings,
-//! `@ 1 2 3`, the clock's answers, and `! keep 4` or `! word 1`, the call of the keeper or of the random source that
-//! fails. Then `> METHOD PATH CALLER BODY` is a request and `< STATUS BODY` an answer.
+//! `@ 1 2 3`, the clock's answers, `! keep 4` or `! word 1`, the call of the keeper or of the random source that
+//! fails, and `~ TEXT`, the policy that the tables keep, and nothing else. Then `> METHOD PATH CALLER BODY` is a request and `< STATUS BODY` an answer.
 //!
 //! A caller is `Bearer/TOKEN`, a machine key, or `-` for none. `%x` stands for 64 times `x` and `^` for a line feed, a
 //! request's body `*7` for a length without a body, an answer's body `#…` for a framed one, and `< registered` for the
 //! answer to a registration of the seed's user.
-use crate::tests::{CALM, Plan, SETTINGS, piped_at};
+use crate::runs::{CALM, Plan, SETTINGS, piped_at, tables_with};
 use io_edge::MemoryClock;
+use net_rows::Tables;
 use run_ends::Status;
 use std::alloc::Global;
 use std::process::Abort;
@@ -20,6 +21,7 @@ struct Talk {
     settings: Vec<u8>,
     moments: Items<i64>,
     plan: Plan,
+    tables: Tables,
     input: Vec<u8>,
     output: Vec<u8>,
     /// Whether the last answer ends the connection.
@@ -35,6 +37,7 @@ fn new_talk(alloc: Global) -> Result<Talk, NoMemory> {
         settings: Vec::from_slice(alloc, SETTINGS)?,
         moments: Items::new(alloc),
         plan: CALM,
+        tables: Tables::empty(alloc),
         input: Vec::new(alloc),
         output: Vec::new(alloc),
         early: false,
@@ -42,7 +45,7 @@ fn new_talk(alloc: Global) -> Result<Talk, NoMemory> {
 }
 
 /// What stands before the first space, and what stands behind it.
-fn cut(line: &str) -> (&str, &str) {
+pub(crate) fn cut(line: &str) -> (&str, &str) {
     match line.split_once(" ") {
         Some(parts) => parts,
         None => (line, ""),
@@ -190,6 +193,7 @@ fn add_line(alloc: Global, talk: &mut Talk, line: &str) -> Result<(), NoMemory> 
         "!" => {
             let _planned = talk.plan.fail(rest);
         }
+        "~" => talk.tables = tables_with(alloc, rest)?,
         ">" => add_request(alloc, &mut talk.input, rest)?,
         _ => talk.early = add_answer(alloc, &mut talk.output, rest)?,
     }
@@ -202,7 +206,14 @@ fn is_held(alloc: Global, mut talk: Talk) -> Result<bool, NoMemory> {
         talk.moments.push(1_000_000_000)?;
     }
     let clock = MemoryClock::new(talk.moments);
-    let ran = piped_at(alloc, clock, &talk.settings, &talk.input, &talk.plan)?;
+    let ran = piped_at(
+        alloc,
+        clock,
+        talk.tables,
+        &talk.settings,
+        &talk.input,
+        &talk.plan,
+    )?;
     let (status, line) = if talk.early {
         (Status::Early, b"tailnetd: closed early\n".as_slice())
     } else {

@@ -1,5 +1,5 @@
 //! How machines come, are renewed, wait, and go, with the time.
-use crate::tests::talks::assert_all_held;
+use crate::talks::assert_all_held;
 use std::test::Fail;
 
 const LIVES: &str = r#"= sweep-at-the-end

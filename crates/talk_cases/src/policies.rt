@@ -1,12 +1,11 @@
 //! Policies saved, refused and opened, and the tags that they let machines have.
-use crate::tests::talks::assert_all_held;
-use crate::tests::{CALM, SETTINGS, piped, piped_over};
-use net_rows::{Counters, Rows, Tables};
+use crate::runs::{CALM, SETTINGS, piped, piped_over, tables_with};
+use crate::talks::assert_all_held;
 use run_ends::Status;
 use std::alloc::Global;
 use std::process::Abort;
 use std::test::Fail;
-use tail_base::{Items, NoMemory, Text};
+use tail_base::NoMemory;
 
 /// What is kept of each save.
 const SAVES: &str = r#"= policy-none
@@ -180,26 +179,30 @@ const TESTS: &str = r#"= tests-with-phantoms
 > PUT /api/v1/policy Bearer/secret {"tagOwners":{"tag:web":["seed@"]},"acls":[{"action":"accept","src":["100.64.0.1"],"dst":["*:22"]}],"tests":[{"src":"tag:web","deny":["eve@:22"]}]}
 < 422 {"code":"P21","place":"tests[0].deny[0]"}"#;
 
-/// Tables that keep nothing but this policy.
-fn tables_with(alloc: Global, policy: &str) -> Result<Tables, NoMemory> {
-    let next = Counters {
-        user: 1,
-        key: 1,
-        pending: 1,
-        machine: 1,
-    };
-    let policy = Some(Text::from_str(alloc, policy)?);
-    let rows = Rows {
-        users: Items::new(alloc),
-        keys: Items::new(alloc),
-        pending: Items::new(alloc),
-        machines: Items::new(alloc),
-        extras: Items::new(alloc),
-        policy,
-        next,
-    };
-    Tables::checked(rows).map_err(|_| NoMemory)
-}
+/// Policies that are kept when the program begins. The first that is saved afterwards is another text.
+const KEPT: &str = r#"= kept-policy-closes
+~ {"acls":[]}
+> POST /machine/register mkey:%1 {"Auth":{"AuthKey":"k1"},"NodeKey":"nodekey:%a"}
+< registered
+> POST /machine/register mkey:%2 {"Auth":{"AuthKey":"k1"},"NodeKey":"nodekey:%b"}
+< registered
+> POST /machine/map mkey:%1 {"NodeKey":"nodekey:%a","ReadOnly":true}
+< 200 #{"DNSConfig":{"Domains":["tail.example"],"ExtraRecords":[],"Proxied":true,"Resolvers":[],"Routes":{}},"Domain":"tail.example","Node":{"Addresses":["100.64.0.1/32","fd7a:115c:a1e0::1/128"],"AllowedIPs":["100.64.0.1/32","fd7a:115c:a1e0::1/128"],"Created":"2001-09-09T01:46:40Z","DiscoKey":"discokey:%0","Endpoints":[],"HomeDERP":0,"Hostinfo":{"Hostname":""},"ID":1,"Key":"nodekey:%a","KeyExpiry":"0001-01-01T00:00:00Z","Machine":"mkey:%1","MachineAuthorized":true,"Name":"node.tail.example.","Online":false,"StableID":"n1","Tags":[],"User":1},"PacketFilter":[],"UserProfiles":[{"DisplayName":"seed","ID":1,"LoginName":"seed@"}]}
+> GET /api/v1/policy Bearer/secret
+< 200 {"acls":[]}
+= kept-policy-grants-tags
+~ {"tagOwners":{"tag:a":["seed@"]}}
+> POST /machine/register mkey:%1 {"Auth":{"AuthKey":"k1"},"NodeKey":"nodekey:%a","Hostinfo":{"RequestTags":["tag:b"]}}
+< 403 {"error":"TagUndefined"}
+> POST /machine/register mkey:%1 {"Auth":{"AuthKey":"k1"},"NodeKey":"nodekey:%a","Hostinfo":{"RequestTags":["tag:a"]}}
+< registered
+= kept-text-saved-again
+~ {"acls":[]}
+! keep 3
+> PUT /api/v1/policy Bearer/secret {"acls":[]}
+< 200 {}
+> PUT /api/v1/policy Bearer/secret {}
+< 500 {"error":"KeeperFault"}"#;
 
 /// The request of an operator for the policy.
 const SHOW: &[u8] =
@@ -237,6 +240,12 @@ fn policies_are_saved(rt: HostRuntime) -> Result<(), Fail> {
 #[test]
 fn policies_grant_tags(rt: HostRuntime) -> Result<(), Fail> {
     assert_all_held(&rt, rt.alloc(), TAGS)?;
+    Ok(())
+}
+
+#[test]
+fn kept_policies_are_in_force(rt: HostRuntime) -> Result<(), Fail> {
+    assert_all_held(&rt, rt.alloc(), KEPT)?;
     Ok(())
 }
 

@@ -1,5 +1,5 @@
 //! Worked conversations, byte for byte.
-use crate::tests::talks::assert_all_held;
+use crate::talks::assert_all_held;
 use std::test::Fail;
 
 const WORKED: &str = r#"= first-registration
@@ -70,6 +70,56 @@ const WORKED: &str = r#"= first-registration
 < registered
 > POST /api/v1/register Bearer/secret {"id":"reg-9-x","user":"seed@"}
 < 404 {"error":"PendingUnknown"}
+= filter-of-two-sources
+> POST /machine/register mkey:%1 {"Auth":{"AuthKey":"k1"},"NodeKey":"nodekey:%a"}
+< registered
+> PUT /api/v1/policy Bearer/secret {"acls":[{"action":"accept","src":["100.64.0.2","100.64.0.3"],"dst":["100.64.0.1:22,80-90,85-100"]}]}
+< 200 {}
+> POST /machine/map mkey:%1 {"NodeKey":"nodekey:%a","OmitPeers":false,"Stream":false}
+< 200 #{"DNSConfig":{"Domains":["tail.example"],"ExtraRecords":[],"Proxied":true,"Resolvers":[],"Routes":{}},"Domain":"tail.example","Node":{"Addresses":["100.64.0.1/32","fd7a:115c:a1e0::1/128"],"AllowedIPs":["100.64.0.1/32","fd7a:115c:a1e0::1/128"],"Created":"2001-09-09T01:46:40Z","DiscoKey":"discokey:%0","Endpoints":[],"HomeDERP":0,"Hostinfo":{"Hostname":""},"ID":1,"Key":"nodekey:%a","KeyExpiry":"0001-01-01T00:00:00Z","Machine":"mkey:%1","MachineAuthorized":true,"Name":"node.tail.example.","Online":false,"StableID":"n1","Tags":[],"User":1},"PacketFilter":[{"DstPorts":[{"IP":"100.64.0.1","Ports":{"First":22,"Last":22}},{"IP":"100.64.0.1","Ports":{"First":80,"Last":100}}],"IPProto":[1,6,17,58],"SrcIPs":["100.64.0.2/31"]}],"UserProfiles":[{"DisplayName":"seed","ID":1,"LoginName":"seed@"}]}
+= self-filter
+> POST /api/v1/user Bearer/secret {"name":"ann"}
+< 200 {"id":2,"login":"ann@"}
+> POST /api/v1/user Bearer/secret {"name":"bob"}
+< 200 {"id":3,"login":"bob@"}
+> PUT /api/v1/policy Bearer/secret {"tagOwners":{"tag:srv":["ann@"]},"acls":[{"action":"accept","src":["autogroup:member"],"dst":["autogroup:self:*"]}]}
+< 200 {}
+> POST /api/v1/preauthkey Bearer/secret {"user":"ann@","reusable":true}
+< 200 {"ephemeral":false,"expiry":"0001-01-01T00:00:00Z","id":2,"key":"tnkey-2-0000000000000001000000000000000200000000000000030000000000000004","reusable":true,"tags":[],"used":false,"user":"ann@"}
+> POST /api/v1/preauthkey Bearer/secret {"user":"bob@","reusable":true}
+< 200 {"ephemeral":false,"expiry":"0001-01-01T00:00:00Z","id":3,"key":"tnkey-3-0000000000000001000000000000000200000000000000030000000000000004","reusable":true,"tags":[],"used":false,"user":"bob@"}
+> POST /machine/register mkey:%1 {"Auth":{"AuthKey":"tnkey-2-0000000000000001000000000000000200000000000000030000000000000004"},"NodeKey":"nodekey:%a"}
+< 200 {"AuthURL":"","Error":"","Login":{"ID":2,"LoginName":"ann@"},"MachineAuthorized":true,"NodeKeyExpired":false,"User":{"DisplayName":"ann","ID":2}}
+> POST /machine/register mkey:%2 {"Auth":{"AuthKey":"tnkey-2-0000000000000001000000000000000200000000000000030000000000000004"},"NodeKey":"nodekey:%b"}
+< 200 {"AuthURL":"","Error":"","Login":{"ID":2,"LoginName":"ann@"},"MachineAuthorized":true,"NodeKeyExpired":false,"User":{"DisplayName":"ann","ID":2}}
+> POST /machine/register mkey:%3 {"Auth":{"AuthKey":"tnkey-2-0000000000000001000000000000000200000000000000030000000000000004"},"Hostinfo":{"RequestTags":["tag:srv"]},"NodeKey":"nodekey:%c"}
+< 200 {"AuthURL":"","Error":"","Login":{"ID":2,"LoginName":"ann@"},"MachineAuthorized":true,"NodeKeyExpired":false,"User":{"DisplayName":"ann","ID":2}}
+> POST /machine/register mkey:%4 {"Auth":{"AuthKey":"tnkey-3-0000000000000001000000000000000200000000000000030000000000000004"},"NodeKey":"nodekey:%d"}
+< 200 {"AuthURL":"","Error":"","Login":{"ID":3,"LoginName":"bob@"},"MachineAuthorized":true,"NodeKeyExpired":false,"User":{"DisplayName":"bob","ID":3}}
+> POST /machine/map mkey:%1 {"NodeKey":"nodekey:%a","OmitPeers":false,"Stream":false}
+< 200 #{"DNSConfig":{"Domains":["tail.example"],"ExtraRecords":[],"Proxied":true,"Resolvers":[],"Routes":{}},"Domain":"tail.example","Node":{"Addresses":["100.64.0.1/32","fd7a:115c:a1e0::1/128"],"AllowedIPs":["100.64.0.1/32","fd7a:115c:a1e0::1/128"],"Created":"2001-09-09T01:46:40Z","DiscoKey":"discokey:%0","Endpoints":[],"HomeDERP":0,"Hostinfo":{"Hostname":""},"ID":1,"Key":"nodekey:%a","KeyExpiry":"0001-01-01T00:00:00Z","Machine":"mkey:%1","MachineAuthorized":true,"Name":"node.tail.example.","Online":false,"StableID":"n1","Tags":[],"User":2},"PacketFilter":[{"DstPorts":[{"IP":"100.64.0.1","Ports":{"First":0,"Last":65535}},{"IP":"fd7a:115c:a1e0::1","Ports":{"First":0,"Last":65535}}],"IPProto":[1,6,17,58],"SrcIPs":["100.64.0.1","100.64.0.2","fd7a:115c:a1e0::1","fd7a:115c:a1e0::2"]}],"Peers":[{"Addresses":["100.64.0.2/32","fd7a:115c:a1e0::2/128"],"AllowedIPs":["100.64.0.2/32","fd7a:115c:a1e0::2/128"],"Created":"2001-09-09T01:46:40Z","DiscoKey":"discokey:%0","Endpoints":[],"HomeDERP":0,"Hostinfo":{"Hostname":""},"ID":2,"Key":"nodekey:%b","KeyExpiry":"0001-01-01T00:00:00Z","Machine":"mkey:%2","MachineAuthorized":true,"Name":"node-1.tail.example.","Online":false,"StableID":"n2","Tags":[],"User":2}],"UserProfiles":[{"DisplayName":"ann","ID":2,"LoginName":"ann@"}]}
+> POST /machine/map mkey:%3 {"NodeKey":"nodekey:%c","OmitPeers":false,"Stream":false}
+< 200 #{"DNSConfig":{"Domains":["tail.example"],"ExtraRecords":[],"Proxied":true,"Resolvers":[],"Routes":{}},"Domain":"tail.example","Node":{"Addresses":["100.64.0.3/32","fd7a:115c:a1e0::3/128"],"AllowedIPs":["100.64.0.3/32","fd7a:115c:a1e0::3/128"],"Created":"2001-09-09T01:46:40Z","DiscoKey":"discokey:%0","Endpoints":[],"HomeDERP":0,"Hostinfo":{"Hostname":""},"ID":3,"Key":"nodekey:%c","KeyExpiry":"0001-01-01T00:00:00Z","Machine":"mkey:%3","MachineAuthorized":true,"Name":"node-2.tail.example.","Online":false,"StableID":"n3","Tags":["tag:srv"],"User":2147483647},"PacketFilter":[],"UserProfiles":[{"DisplayName":"Tagged Devices","ID":2147483647,"LoginName":"tagged-devices"}]}
+= closed-map
+> POST /machine/register mkey:%1 {"Auth":{"AuthKey":"k1"},"NodeKey":"nodekey:%a"}
+< registered
+> POST /machine/register mkey:%2 {"Auth":{"AuthKey":"k1"},"NodeKey":"nodekey:%b"}
+< registered
+> PUT /api/v1/policy Bearer/secret {"acls":[]}
+< 200 {}
+> POST /machine/map mkey:%1 {"NodeKey":"nodekey:%a","OmitPeers":false,"Stream":false}
+< 200 #{"DNSConfig":{"Domains":["tail.example"],"ExtraRecords":[],"Proxied":true,"Resolvers":[],"Routes":{}},"Domain":"tail.example","Node":{"Addresses":["100.64.0.1/32","fd7a:115c:a1e0::1/128"],"AllowedIPs":["100.64.0.1/32","fd7a:115c:a1e0::1/128"],"Created":"2001-09-09T01:46:40Z","DiscoKey":"discokey:%0","Endpoints":[],"HomeDERP":0,"Hostinfo":{"Hostname":""},"ID":1,"Key":"nodekey:%a","KeyExpiry":"0001-01-01T00:00:00Z","Machine":"mkey:%1","MachineAuthorized":true,"Name":"node.tail.example.","Online":false,"StableID":"n1","Tags":[],"User":1},"PacketFilter":[],"UserProfiles":[{"DisplayName":"seed","ID":1,"LoginName":"seed@"}]}
+= one-way-map
+> POST /machine/register mkey:%1 {"Auth":{"AuthKey":"k1"},"NodeKey":"nodekey:%a"}
+< registered
+> POST /machine/register mkey:%2 {"Auth":{"AuthKey":"k1"},"NodeKey":"nodekey:%b"}
+< registered
+> POST /machine/register mkey:%3 {"Auth":{"AuthKey":"k1"},"NodeKey":"nodekey:%c"}
+< registered
+> PUT /api/v1/policy Bearer/secret {"acls":[{"action":"accept","src":["100.64.0.2","100.64.0.3"],"dst":["100.64.0.1:22,80-90,85-100"]}]}
+< 200 {}
+> POST /machine/map mkey:%2 {"NodeKey":"nodekey:%b","OmitPeers":false,"Stream":false}
+< 200 #{"DNSConfig":{"Domains":["tail.example"],"ExtraRecords":[],"Proxied":true,"Resolvers":[],"Routes":{}},"Domain":"tail.example","Node":{"Addresses":["100.64.0.2/32","fd7a:115c:a1e0::2/128"],"AllowedIPs":["100.64.0.2/32","fd7a:115c:a1e0::2/128"],"Created":"2001-09-09T01:46:40Z","DiscoKey":"discokey:%0","Endpoints":[],"HomeDERP":0,"Hostinfo":{"Hostname":""},"ID":2,"Key":"nodekey:%b","KeyExpiry":"0001-01-01T00:00:00Z","Machine":"mkey:%2","MachineAuthorized":true,"Name":"node-1.tail.example.","Online":false,"StableID":"n2","Tags":[],"User":1},"PacketFilter":[],"Peers":[{"Addresses":["100.64.0.1/32","fd7a:115c:a1e0::1/128"],"AllowedIPs":["100.64.0.1/32","fd7a:115c:a1e0::1/128"],"Created":"2001-09-09T01:46:40Z","DiscoKey":"discokey:%0","Endpoints":[],"HomeDERP":0,"Hostinfo":{"Hostname":""},"ID":1,"Key":"nodekey:%a","KeyExpiry":"0001-01-01T00:00:00Z","Machine":"mkey:%1","MachineAuthorized":true,"Name":"node.tail.example.","Online":false,"StableID":"n1","Tags":[],"User":1}],"UserProfiles":[{"DisplayName":"seed","ID":1,"LoginName":"seed@"}]}
 = compressed-refused
 > POST /machine/register mkey:%1 {"Auth":{"AuthKey":"k1"},"NodeKey":"nodekey:%a"}
 < registered
