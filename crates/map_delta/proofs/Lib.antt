@@ -1,4 +1,5 @@
 pub mod IdLaws
+pub mod PlaceLemmas
 pub mod PatchLemmas
 pub mod PeerLemmas
 pub mod ProfileLemmas

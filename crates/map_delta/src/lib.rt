@@ -2,6 +2,9 @@
 #![tactic(auto)]
 
 mod laws;
+mod patch;
+mod patching;
+mod puts;
 
 pub use laws::{
     changes_stand_at_listed_ids, deltas_bring_new_maps, first_responses_are_whole_maps,
