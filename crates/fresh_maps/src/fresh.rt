@@ -56,14 +56,7 @@ fn peers_of(
     let ways = ways_of(alloc, world, viewer)?;
     let mut peers = Items::new(alloc);
     for site in expanded.sites() {
-        add_peer(
-            alloc,
-            &mut peers,
-            world,
-            viewer,
-            ways.as_slice(),
-            site,
-        )?;
+        add_peer(alloc, &mut peers, world, viewer, ways.as_slice(), site)?;
     }
     Ok(peers)
 }

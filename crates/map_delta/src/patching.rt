@@ -40,13 +40,7 @@ fn patched_disco(given: Option<DiscoKey>, was: DiscoKey) -> DiscoKey
     ensures value { result ≡ spec.patched_disco given was }
 {
     match given {
-        Some(key) => {
-            if is_zero_key(&key) {
-                was
-            } else {
-                key
-            }
-        }
+        Some(key) => { if is_zero_key(&key) { was } else { key } }
         None => was,
     }
 }
@@ -75,11 +69,7 @@ fn patched_if(alloc: Global, patch: &Patch, node: NodeRow) -> Result<NodeRow, No
 }
 
 /// The nodes after one patch.
-fn patched_rows(
-    alloc: Global,
-    patch: &Patch,
-    nodes: Vec<NodeRow>,
-) -> Result<Vec<NodeRow>, NoMemory>
+fn patched_rows(alloc: Global, patch: &Patch, nodes: Vec<NodeRow>) -> Result<Vec<NodeRow>, NoMemory>
     ensures value { IfOk result (λ made. made.items ≡ map (spec.patched_if patch.now) nodes.items) }
 {
     let mut made = Vec::new(alloc);

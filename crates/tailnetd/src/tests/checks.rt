@@ -109,7 +109,8 @@ fn a_policy_may_be_too_long(rt: HostRuntime) -> Result<(), Fail> {
 }
 
 /// Policies with tests, and what is written of each.
-const TESTED: &str = r#"{"tagOwners":{"tag:web":[]},"acls":[{"action":"accept","src":["bob@"],"dst":["tag:web:443"]}],"tests":[{"src":"bob@","deny":["tag:web:443"]}]} => P21 tests[0].deny[0]
+const TESTED: &str =
+    r#"{"tagOwners":{"tag:web":[]},"acls":[{"action":"accept","src":["bob@"],"dst":["tag:web:443"]}],"tests":[{"src":"bob@","deny":["tag:web:443"]}]} => P21 tests[0].deny[0]
 {"groups":{"group:e":[]},"acls":[],"tests":[{"src":"group:e","accept":["group:e:22","ann@:22"],"deny":["group:e:22"]},{"src":"ann@","accept":["group:e:22"]}]} => ok
 {"groups":{"group:g":["ann@","bob@"]},"acls":[{"action":"accept","proto":"udp","src":["ann@"],"dst":["cy@:53"]},{"action":"accept","proto":"tcp","src":["bob@"],"dst":["cy@:53"]}],"tests":[{"src":"group:g","accept":["cy@:53"]}]} => ok
 {"groups":{"group:g":["ann@","bob@"]},"acls":[{"action":"accept","proto":"udp","src":["ann@"],"dst":["cy@:53"]},{"action":"accept","proto":"tcp","src":["bob@"],"dst":["cy@:53"]}],"tests":[{"src":"group:g","proto":"tcp","accept":["cy@:53"]}]} => P21 tests[0].accept[0]
