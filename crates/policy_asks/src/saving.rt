@@ -13,15 +13,21 @@ use policy_tests::tested;
 use std::alloc::Global;
 use tail_base::{Duplicate, Failure, Items, NoMemory, Text};
 
+/// The refusal that a policy's fault is.
+fn refusal_by(fault: PolicyFault) -> Refusal
+    ensures value { result ≡ Refusal.PolicyRefused fault.code fault.place }
+{
+    let PolicyFault { code, place } = fault;
+    Refusal::PolicyRefused { code, place }
+}
+
 /// The policy of a text, whose fault refuses the ask.
 fn policy_or_refused(alloc: Global, text: &Text) -> Result<Policy, Failure<Refusal>>
     ensures value { Gives (λ p. p) result (spec.or_refused (served_policy text.now)) }
 {
     match served_policy(alloc, text.as_slice()) {
         Ok(policy) => Ok(policy),
-        Err(Failure::Fault(PolicyFault { code, place })) => {
-            Err(Failure::Fault(Refusal::PolicyRefused { code, place }))
-        }
+        Err(Failure::Fault(fault)) => Err(Failure::Fault(refusal_by(fault))),
         Err(Failure::NoMemory) => Err(Failure::NoMemory),
     }
 }
@@ -37,9 +43,7 @@ fn tested_or_refused(
     let live = live_ids(alloc, at)?;
     match tested(alloc, policy, at.tables, live.as_slice()) {
         Ok(()) => Ok(()),
-        Err(Failure::Fault(PolicyFault { code, place })) => {
-            Err(Failure::Fault(Refusal::PolicyRefused { code, place }))
-        }
+        Err(Failure::Fault(fault)) => Err(Failure::Fault(refusal_by(fault))),
         Err(Failure::NoMemory) => Err(Failure::NoMemory),
     }
 }
