@@ -9,33 +9,33 @@ use Rattle.clap.specs.Words.{App, IsAmong, Kinds, Row, Text, fault_of, is_simple
 use Rattle.clap.specs.declared.error.kind.ErrorKind.{ErrorKind}
 use Rattle.command_words.specs.Arguments.{asked_of}
 use Rattle.command_words.specs.Lines.{app_of_line}
-use Rattle.command_words.specs.Table.{Line, lines, plain_line}
+use Rattle.command_words.specs.Table.{CommandLine, lines, plain_line}
 use Rattle.command_words.specs.Words.{asked_by, asked_if, asked_in, invocation_of, line_in, table_line}
 use Rattle.command_words.specs.declared.argument.Argument.{Argument}
 use Rattle.command_words.specs.declared.invocation.Invocation.{Invocation}
 use Rattle.command_words.specs.declared.line.CommandKind.{CommandKind}
 
 -- what `clap`'s definition is exact of
-abbrev pub is_exact : Line → Bool
+abbrev pub is_exact : CommandLine → Bool
 is_exact line = is_simple_and_free (app_of_line line.0 line.2)
 
 lines_exact : list_all is_exact lines ≡ true
 unfolding lines app_of_line
 lines_exact = refl
 
-found_here : (b : Bool) (l line : Line) (rest : Option Line) → is_exact l ≡ true → (rest ≡ Some line → is_exact line ≡ true)
+found_here : (b : Bool) (l line : CommandLine) (rest : Option CommandLine) → is_exact l ≡ true → (rest ≡ Some line → is_exact line ≡ true)
     → cond b (Some l) rest ≡ Some line → is_exact line ≡ true
 found_here true l line rest here below e = let same : l ≡ line = cc in subst (λ x. is_exact x ≡ true) same here
 found_here false l line rest here below e = below e
 
-found_exact : (ls : List Line) (name : Text) (line : Line) → list_all is_exact ls ≡ true → line_in ls name ≡ Some line → is_exact line ≡ true
+found_exact : (ls : List CommandLine) (name : Text) (line : CommandLine) → list_all is_exact ls ≡ true → line_in ls name ≡ Some line → is_exact line ≡ true
 found_exact [] name line all e = absurd (cc)
 found_exact (l ∷ ls) name line all e =
     let both = and_parts (is_exact l) (list_all is_exact ls) all in
     found_here (bytes_eq l.0 name) l line (line_in ls name) both.0 (found_exact ls name line both.1) e
 
 -- it is so for each line of the table
-pub line_exact : (name : Text) (line : Line) → table_line name ≡ Some line → is_exact line ≡ true
+pub line_exact : (name : Text) (line : CommandLine) → table_line name ≡ Some line → is_exact line ≡ true
 unfolding table_line
 line_exact name line e = found_exact lines name line lines_exact e
 

@@ -10,15 +10,15 @@ use Rattle.command_words.specs.declared.line.OperatorKind.{OperatorKind}
 use Rattle.command_words.specs.declared.line.OperatorKind.TheVariants as operator
 
 -- a line of the table: a name, what it leads to, and the arguments, positional ones in their order
-abbrev pub Line : Type 0
-Line = Text × CommandKind × List Argument
+abbrev pub CommandLine : Type 0
+CommandLine = Text × CommandKind × List Argument
 
 -- the line of an operator's command, which has a server and a token besides
-abbrev pub operator_line : Text → OperatorKind → List Argument → Line
+abbrev pub operator_line : Text → OperatorKind → List Argument → CommandLine
 operator_line name kind arguments = (name, Operator kind, arguments ++ (Server ∷ Token ∷ []))
 
 -- each line
-unfoldable pub lines : List Line
+unfoldable pub lines : List CommandLine
 lines =
     (codes "pipe", Pipe, Settings ∷ Seed ∷ [])
     ∷ (codes "policy-check", PolicyCheck, File ∷ [])
@@ -44,5 +44,5 @@ lines =
     ∷ []
 
 -- what stands behind the references of a line
-abbrev pub plain_line : Bor Text × CommandKind × Bor (List Argument) → Line
+abbrev pub plain_line : Bor Text × CommandKind × Bor (List Argument) → CommandLine
 plain_line line = (line.0.now, line.1, line.2.now)

@@ -5,16 +5,16 @@ use Rattle.std.specs.Str.{bytes_eq}
 use Rattle.clap.specs.Words.{App, Kinds, Row, Text, fault_of, matches_of}
 use Rattle.command_words.specs.Arguments.{asked_of}
 use Rattle.command_words.specs.Lines.{app_of_line}
-use Rattle.command_words.specs.Table.{Line, lines}
+use Rattle.command_words.specs.Table.{CommandLine, lines}
 use Rattle.command_words.specs.declared.invocation.Invocation.{Invocation}
 use Rattle.command_words.specs.declared.line.CommandKind.{CommandKind}
 
 -- the line of that name among these
-abbrev pub line_in : List Line → Text → Option Line
+abbrev pub line_in : List CommandLine → Text → Option CommandLine
 line_in ls name = find (λ line. bytes_eq line.0 name) ls
 
 -- the line of a name
-unfoldable pub table_line : Text → Option Line
+unfoldable pub table_line : Text → Option CommandLine
 table_line name = line_in lines name
 
 -- what arguments ask, if `clap` found no fault
@@ -27,7 +27,7 @@ unfoldable pub asked_in : App → CommandKind → List Text → Option Invocatio
 asked_in app kind words = asked_if (fault_of app words) kind (matches_of app words)
 
 -- what words ask, of which the first names the command
-abbrev pub asked_by : List Text → Line → Option Invocation
+abbrev pub asked_by : List Text → CommandLine → Option Invocation
 asked_by words line = asked_in (app_of_line line.0 line.2) line.1 words
 
 -- What the words ask. They are a command where the first is the name of a line of the table, `clap` takes them for that line,

@@ -21,15 +21,16 @@ pub struct MemoryDoor {
 }
 
 impl MemoryDoor {
-    /// A door at which these connections come, of which the calls with these numbers fail. It makes the
-    /// room in which connections are given back.
+    /// A door at which these connections come, of which the calls with these numbers fail. It makes
+    /// the room in which connections are given back.
     pub fn new(
         alloc: Global,
         connections: Items<Bytes>,
         fails: Items<u32>,
     ) -> Result<MemoryDoor, NoMemory>
-        ensures opened { IfOk result (λ d. IsOpenedWith connections (⟦<MemoryDoor as Door>⟧.coming d)
-            (⟦<MemoryDoor as Door>⟧.finished d) (⟦<MemoryDoor as Door>⟧.number d)) }
+        ensures opened { IfOk result (λ d. IsOpenedWith connections
+            (⟦<MemoryDoor as Door>⟧.coming d) (⟦<MemoryDoor as Door>⟧.finished d)
+            (⟦<MemoryDoor as Door>⟧.number d)) }
         ensures faults { IfOk result (λ d. ⟦<MemoryDoor as Door>⟧.faults d ≡ 0) }
         ensures planned { IfOk result (λ d. d.faults.fails ≡ fails) }
     {
@@ -43,7 +44,8 @@ impl MemoryDoor {
         })
     }
 
-    /// A door at which the connections come that still come at this one, and of which the same calls fail.
+    /// A door at which the connections come that still come at this one, and of which the same calls
+    /// fail.
     pub(crate) fn anew(&self, alloc: Global) -> Result<MemoryDoor, NoMemory>
         ensures opened { IfOk result (λ d. IsOpenedWith (drop self.now.at self.now.connections)
             (⟦<MemoryDoor as Door>⟧.coming d) (⟦<MemoryDoor as Door>⟧.finished d)
@@ -64,7 +66,9 @@ impl Door for MemoryDoor {
 
     ghost coming = { λ d. Some (drop d.at d.connections) };
 
-    ghost finished = { λ d. Some (all_finished ⟦<MemorySource as Source>⟧.left ⟦<MemorySource as Source>⟧.read_faults ⟦<MemorySink as Sink>⟧.holds ⟦<MemorySink as Sink>⟧.write_faults d.finished.items) };
+    ghost finished = { λ d. Some (all_finished
+        ⟦<MemorySource as Source>⟧.left ⟦<MemorySource as Source>⟧.read_faults
+        ⟦<MemorySink as Sink>⟧.holds ⟦<MemorySink as Sink>⟧.write_faults d.finished.items) };
 
     ghost number = { λ d. Some (length d.connections) };
 

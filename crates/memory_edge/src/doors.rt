@@ -60,7 +60,8 @@ impl MemoryDoors {
 
     /// The door for a place: as it is to be opened, or one where nothing comes.
     fn door_for(&self, alloc: Global, place: usize) -> Result<MemoryDoor, NoMemory>
-        ensures opened { IfOk result (λ d. IfSome (⟦<MemoryDoors as Doors>⟧.coming self.now) (λ told.
+        ensures opened { IfOk result (λ d. IfSome (⟦<MemoryDoors as Doors>⟧.coming self.now)
+            (λ told.
             IsOpenedWith (for_place told place) (⟦<MemoryDoor as Door>⟧.coming d)
             (⟦<MemoryDoor as Door>⟧.finished d) (⟦<MemoryDoor as Door>⟧.number d))) }
         ensures fresh { IfOk result (λ d. ⟦<MemoryDoor as Door>⟧.faults d ≡ 0) }
@@ -74,9 +75,12 @@ impl MemoryDoors {
     /// The doors for the first places.
     fn doors_for(&self, alloc: Global, count: u32) -> Result<Vec<MemoryDoor>, NoMemory>
         ensures count { IfOk result (λ doors. length doors.items ≡ count) }
-        ensures fresh { IfOk result (λ doors. All (λ d. ⟦<MemoryDoor as Door>⟧.faults d ≡ 0) doors.items) }
-        ensures opened { IfOk result (λ doors. IfSome (⟦<MemoryDoors as Doors>⟧.coming self.now) (λ told. (i : ℕ)
-            → IfSome (slice_get doors.items i) (λ d. IsOpenedWith (for_place told i) (⟦<MemoryDoor as Door>⟧.coming d)
+        ensures fresh { IfOk result (λ doors.
+            All (λ d. ⟦<MemoryDoor as Door>⟧.faults d ≡ 0) doors.items) }
+        ensures opened { IfOk result (λ doors. IfSome (⟦<MemoryDoors as Doors>⟧.coming self.now)
+            (λ told. (i : ℕ)
+            → IfSome (slice_get doors.items i) (λ d. IsOpenedWith (for_place told i)
+            (⟦<MemoryDoor as Door>⟧.coming d)
             (⟦<MemoryDoor as Door>⟧.finished d) (⟦<MemoryDoor as Door>⟧.number d)))) }
     {
         let mut doors = Vec::new(alloc);
@@ -89,8 +93,10 @@ impl MemoryDoors {
     /// Notes what is asked for.
     fn note(&mut self, alloc: Global, address: &str, count: u32) -> Result<(), NoMemory>
         ensures ok { OnOk result (⟦<MemoryDoors as Doors>⟧.asked self.new
-            ≡ and_asked (⟦<MemoryDoors as Doors>⟧.asked self.old) (record { address = address.now; count = count })) }
-        ensures err { OnErr result (⟦<MemoryDoors as Doors>⟧.asked self.new ≡ ⟦<MemoryDoors as Doors>⟧.asked self.old) }
+            ≡ and_asked (⟦<MemoryDoors as Doors>⟧.asked self.old)
+            (record { address = address.now; count = count })) }
+        ensures err { OnErr result (⟦<MemoryDoors as Doors>⟧.asked self.new
+            ≡ ⟦<MemoryDoors as Doors>⟧.asked self.old) }
         ensures same { (self.new.places ≡ self.old.places) × (self.new.faults ≡ self.old.faults) }
     {
         let address = Bytes::from_slice(alloc, address.as_bytes())?;
@@ -106,7 +112,10 @@ impl Doors for MemoryDoors {
 
     ghost coming = { λ d. Some (map (λ door. drop door.at door.connections) d.places.items) };
 
-    ghost finished = { λ d. Some (map (λ door. all_finished ⟦<MemorySource as Source>⟧.left ⟦<MemorySource as Source>⟧.read_faults ⟦<MemorySink as Sink>⟧.holds ⟦<MemorySink as Sink>⟧.write_faults door.finished.items) d.places.items) };
+    ghost finished = { λ d. Some (map (λ door. all_finished
+        ⟦<MemorySource as Source>⟧.left ⟦<MemorySource as Source>⟧.read_faults
+        ⟦<MemorySink as Sink>⟧.holds ⟦<MemorySink as Sink>⟧.write_faults
+        door.finished.items) d.places.items) };
 
     ghost asked = { λ d. Some (map as_opening d.asked.items) };
 
@@ -136,10 +145,13 @@ impl Doors for MemoryDoors {
             (⟦<MemoryDoors as Doors>⟧.coming self.new) }
         ensures finished { IsToldOfEach (map (λ d. ⟦<MemoryDoor as Door>⟧.finished d) doors.items)
             (⟦<MemoryDoors as Doors>⟧.finished self.new) }
-        ensures asked { ⟦<MemoryDoors as Doors>⟧.asked self.new ≡ ⟦<MemoryDoors as Doors>⟧.asked self.old }
-        ensures faults { ⟦<MemoryDoors as Doors>⟧.faults self.new ≡ min (⟦<MemoryDoors as Doors>⟧.faults self.old
+        ensures asked { ⟦<MemoryDoors as Doors>⟧.asked self.new
+            ≡ ⟦<MemoryDoors as Doors>⟧.asked self.old }
+        ensures faults { ⟦<MemoryDoors as Doors>⟧.faults self.new
+            ≡ min (⟦<MemoryDoors as Doors>⟧.faults self.old
             + sum_by (λ d. ⟦<MemoryDoor as Door>⟧.faults d) doors.items) (2 ^ 64 - 1) }
-        ensures later { ⟦<MemoryDoors as Doors>⟧.faults self.old ≤ ⟦<MemoryDoors as Doors>⟧.faults self.new }
+        ensures later { ⟦<MemoryDoors as Doors>⟧.faults self.old
+            ≤ ⟦<MemoryDoors as Doors>⟧.faults self.new }
     {
         let mut all = self.faults.count;
         for door in &doors {

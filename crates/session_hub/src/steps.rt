@@ -106,7 +106,8 @@ impl<K: Keeper> Hub<K> {
         _reply: &Reply,
     )
         requires table { place.old.table_id ≡ self.now.table }
-        requires entry { MayEnter (Replays (point_of K.told K.faults K.calls)) place.old.me E.line desk }
+        requires entry { MayEnter (Replays (point_of K.told K.faults K.calls))
+            place.old.me E.line desk }
         ensures same { (place.new.table_id ≡ place.old.table_id) × (place.new.id ≡ place.old.id) }
         ensures entered { place.new.me ≡ (
           idle place.old.me.0.start

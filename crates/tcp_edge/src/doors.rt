@@ -41,7 +41,8 @@ impl<R: Net<Listener = TcpListener, Stream = TcpStream> + Clock + Copy> TcpDoors
     /// Listens, and makes the doors.
     fn listen(&self, alloc: Global, address: &str, count: u32) -> Result<Vec<TcpDoor<R>>, EdgeFault>
         ensures count { IfOk result (λ doors. length doors.items ≡ count) }
-        ensures fresh { IfOk result (λ doors. All (λ d. ⟦<TcpDoor<R> as Door>⟧.faults d ≡ 0) doors.items) }
+        ensures fresh { IfOk result (λ doors.
+            All (λ d. ⟦<TcpDoor<R> as Door>⟧.faults d ≡ 0) doors.items) }
     {
         let Ok(listener) = TcpListener::bind(&self.rt, address) else {
             return Err(EdgeFault::Failed);
@@ -87,9 +88,11 @@ impl<R: Net<Listener = TcpListener, Stream = TcpStream> + Clock + Copy + Send> D
     }
 
     fn close(&mut self, doors: Vec<TcpDoor<R>>)
-        ensures faults { ⟦<TcpDoors<R> as Doors>⟧.faults self.new ≡ min (⟦<TcpDoors<R> as Doors>⟧.faults self.old
+        ensures faults { ⟦<TcpDoors<R> as Doors>⟧.faults self.new
+            ≡ min (⟦<TcpDoors<R> as Doors>⟧.faults self.old
             + sum_by (λ d. ⟦<TcpDoor<R> as Door>⟧.faults d) doors.items) (2 ^ 64 - 1) }
-        ensures later { ⟦<TcpDoors<R> as Doors>⟧.faults self.old ≤ ⟦<TcpDoors<R> as Doors>⟧.faults self.new }
+        ensures later { ⟦<TcpDoors<R> as Doors>⟧.faults self.old
+            ≤ ⟦<TcpDoors<R> as Doors>⟧.faults self.new }
     {
         let mut all = self.failed;
         for door in &doors {
