@@ -7,7 +7,7 @@ use crate::sink::TcpSink;
 use crate::source::TcpSource;
 use io_edge::{Door, Failed, Sink, Source};
 use std::alloc::Global;
-use std::net::{TcpListener, TcpStream};
+use std::net::{SocketAddr, TcpListener, TcpStream};
 use std::sync::Arc;
 use std::sync::atomic::AtomicU64;
 use std::thread;
@@ -35,6 +35,11 @@ impl<R: Clock + Copy> TcpDoor<R> {
             limits,
             failed: 0,
         }
+    }
+
+    /// Where it listens. The system chooses the port if 0 was asked for.
+    pub fn address(&self) -> Option<SocketAddr> {
+        self.listener.local_addr().ok()
     }
 
     /// The halves of a connection that just came. There are none where the system or memory has no room.
