@@ -12,14 +12,14 @@ use Rattle.tailcfg.specs.declared.patch.Patch.{Patch}
 use Rattle.tailcfg.specs.declared.response.Response.{Response}
 use Rattle.same_maps.specs.Dns.{same_dns}
 use Rattle.same_maps.specs.Filters.{same_filter}
-use Rattle.same_maps.specs.Nodes.{same_node}
+use Rattle.same_maps.specs.Nodes.{same_node_row}
 use Rattle.same_maps.proofs.DnsLemmas.{dns_equal, dns_itself}
 use Rattle.same_maps.proofs.FilterLemmas.{filter_itself, filters_equal}
 use Rattle.same_maps.proofs.NodeLemmas.{node_itself, nodes_equal}
 use Rattle.fresh_maps.specs.InOrder.{IsInOrder}
 use Rattle.fresh_maps.specs.Profiles.{owns_any}
 use Rattle.fresh_maps.specs.declared.view.View.{View}
-use Rattle.map_delta.specs.Delta.{change, delta, is_empty, is_nil, new_profiles, patches_between, patching, then_patch, unless}
+use Rattle.map_delta.specs.Delta.{change, delta, is_empty, is_nil, new_profiles, patches_between, patching, then_patch, new_unless}
 use Rattle.map_delta.specs.Fold.{applied, fold_all, left_rows, patch_rows, peers_after, start}
 use Rattle.map_delta.specs.Puts.{node_id, profile_id, put_rows}
 use Rattle.map_delta.proofs.PatchLemmas.{owners_patched}
@@ -32,13 +32,13 @@ drop_none (r ∷ rows) = ap (λ rest. r ∷ rest) (drop_none rows)
 
 -- ---- what is given where it differs
 
-node_given : (a b : NodeRow) → unwrap_or (unless (same_node a b) b) a ≡ b
-node_given a b = elim (cases_Bool (same_node a b)) [ inl same ↦ rw same (nodes_equal a b same) | inr other ↦ rw other refl ]
+node_given : (a b : NodeRow) → unwrap_or (new_unless (same_node_row a b) b) a ≡ b
+node_given a b = elim (cases_Bool (same_node_row a b)) [ inl same ↦ rw same (nodes_equal a b same) | inr other ↦ rw other refl ]
 
-filter_given : (a b : List FilterRule) → unwrap_or (unless (same_filter a b) b) a ≡ b
+filter_given : (a b : List FilterRule) → unwrap_or (new_unless (same_filter a b) b) a ≡ b
 filter_given a b = elim (cases_Bool (same_filter a b)) [ inl same ↦ rw same (filters_equal a b same) | inr other ↦ rw other refl ]
 
-dns_given : (a b : Dns) → unwrap_or (unless (same_dns a b) b) a ≡ b
+dns_given : (a b : Dns) → unwrap_or (new_unless (same_dns a b) b) a ≡ b
 dns_given a b = elim (cases_Bool (same_dns a b)) [ inl same ↦ rw same (dns_equal a b same) | inr other ↦ rw other refl ]
 
 -- ---- a change
@@ -54,7 +54,7 @@ middle_owners old new ho hn k =
 
 change_gives : (old new : View) (seq : ℕ) → IsInOrder old → IsInOrder new → old.domain ≡ new.domain → applied (change old new seq) old ≡ between old new
 change_gives old new seq ho hn domain =
-    let node : unwrap_or (unless (same_node old.node new.node) new.node) old.node ≡ new.node = node_given old.node new.node in
+    let node : unwrap_or (new_unless (same_node_row old.node new.node) new.node) old.node ≡ new.node = node_given old.node new.node in
     λ i. record {
       node = node i;
       peers = middle_rows old.peers new.peers;
@@ -139,9 +139,9 @@ no_change : (v : View) (seq : ℕ) → IsInOrder v → change v v seq ≡ patchi
 no_change v seq h = λ i. record {
   handle = None;
   seq = Some seq;
-  node = ap (λ b. unless b v.node) (node_itself v.node) i;
-  filter = ap (λ b. unless b v.filter) (filter_itself v.filter) i;
-  dns = ap (λ b. unless b v.dns) (dns_itself v.dns) i;
+  node = ap (λ b. new_unless b v.node) (node_itself v.node) i;
+  filter = ap (λ b. new_unless b v.filter) (filter_itself v.filter) i;
+  dns = ap (λ b. new_unless b v.dns) (dns_itself v.dns) i;
   domain = None;
   peers = [];
   changed = nothing_changed v.peers h.peers i;

@@ -10,8 +10,8 @@ use Rattle.tailcfg.specs.declared.node_row.NodeRow.{NodeRow}
 use Rattle.tailcfg.specs.declared.patch.Patch.{Patch}
 use Rattle.peer_view.proofs.ListLemmas.{ascending_filter, ascending_map}
 use Rattle.same_maps.proofs.NodeLemmas.{node_itself}
-use Rattle.map_delta.specs.Delta.{changed_rows, is_whole, patch_for, patches_between, removed_ids}
-use Rattle.map_delta.specs.Fold.{is_listed}
+use Rattle.map_delta.specs.Delta.{changed_rows, is_sent_whole, patch_for, patches_between, removed_ids}
+use Rattle.map_delta.specs.Fold.{lists_id}
 use Rattle.map_delta.specs.Listed.{changed_listed, gone_at, patch_at, patches_listed, removed_listed, whole_at}
 use Rattle.map_delta.specs.Puts.{node_id, patch_id}
 use Rattle.map_delta.proofs.IdLaws.{ascending_filter_map, kept, row_at-filter_ids, row_at-filter_map, row_at-map, row_at_id}
@@ -21,7 +21,7 @@ abbrev number : ℕ → ℕ
 number k = k
 
 -- a number is found at itself, if it is listed
-number_at : (ks : List ℕ) (k : ℕ) → row_at number ks k ≡ (if is_listed ks k then Some k else None)
+number_at : (ks : List ℕ) (k : ℕ) → row_at number ks k ≡ (if lists_id ks k then Some k else None)
 number_at [] k = refl
 number_at (x ∷ ks) k =
     let rest = number_at ks k in
@@ -36,20 +36,20 @@ listed_only false k f h = sym (h refl)
 
 -- what a list of ids gives at an id, where an id that isn't listed gives nothing
 at_listed : {U : Type 0} (id : U → ℕ) (f : ℕ → Option U) → ((k : ℕ) (u : U) → f k ≡ Some u → id u ≡ k) → (ids : List ℕ) → IsAscending number ids
-    → (k : ℕ) → (is_listed ids k ≡ false → f k ≡ None) → row_at id (filter_map f ids) k ≡ f k
+    → (k : ℕ) → (lists_id ids k ≡ false → f k ≡ None) → row_at id (filter_map f ids) k ≡ f k
 at_listed id f named ids h k none =
     row_at-filter_map number id f named ids k h
     ∙ ap (option_and_then f) (number_at ids k)
-    ∙ listed_only (is_listed ids k) k f none
+    ∙ listed_only (lists_id ids k) k f none
 
 whole_of : (o n : Option NodeRow) (k : ℕ) → ((r : NodeRow) → n ≡ Some r → r.id ≡ k) → (r : NodeRow) → whole_at o n ≡ Some r → r.id ≡ k
 whole_of o None k at r e = absurd (cc)
-whole_of o (Some b) k at r e = elim (cases_Bool (is_whole o b)) [
+whole_of o (Some b) k at r e = elim (cases_Bool (is_sent_whole o b)) [
   | inl w ↦ let f : Some b ≡ Some r = rw w at e in at r f
   | inr w ↦ let f : None ≡ Some r = rw w at e in absurd (cc)
 ]
 
-whole_is : (o n : Option NodeRow) → whole_at o n ≡ kept (is_whole o) n
+whole_is : (o n : Option NodeRow) → whole_at o n ≡ kept (is_sent_whole o) n
 whole_is o None = refl
 whole_is o (Some b) = refl
 
@@ -58,11 +58,11 @@ no_whole_at None = refl
 no_whole_at (Some a) = rw (node_itself a) refl
 
 pub changed_are : (ids : List ℕ) (old new : List NodeRow) → IsAscending (λ k. k) ids → IsAscending node_id new
-    → ((k : ℕ) → is_listed ids k ≡ false → row_at node_id old k ≡ row_at node_id new k) → changed_listed ids old new ≡ changed_rows old new
+    → ((k : ℕ) → lists_id ids k ≡ false → row_at node_id old k ≡ row_at node_id new k) → changed_listed ids old new ≡ changed_rows old new
 changed_are ids old new hi hn same =
     same_rows node_id (changed_listed ids old new) (changed_rows old new)
     (ascending_filter_map number node_id whole named ids hi)
-    (ascending_filter node_id (λ b. is_whole (row_at node_id old b.id) b) new hn)
+    (ascending_filter node_id (λ b. is_sent_whole (row_at node_id old b.id) b) new hn)
     (λ k. at_listed node_id whole named ids hi k (λ bare. ap (λ o. whole_at o (row_at node_id new k)) (same k bare) ∙ no_whole_at (row_at node_id new k))
     ∙ whole_is (row_at node_id old k) (row_at node_id new k) ∙ sym (changed_at_id old new hn k))
   where
@@ -85,7 +85,7 @@ patch_is o None = refl
 patch_is o (Some b) = refl
 
 pub patches_are : (ids : List ℕ) (old new : List NodeRow) → IsAscending (λ k. k) ids → IsAscending node_id new
-    → ((k : ℕ) → is_listed ids k ≡ false → row_at node_id old k ≡ row_at node_id new k) → patches_listed ids old new ≡ patches_between old new
+    → ((k : ℕ) → lists_id ids k ≡ false → row_at node_id old k ≡ row_at node_id new k) → patches_listed ids old new ≡ patches_between old new
 patches_are ids old new hi hn same =
     same_rows patch_id (patches_listed ids old new) (patches_between old new)
     (ascending_filter_map number patch_id patch named ids hi)
@@ -116,7 +116,7 @@ gone_is k (Some a) None at = ap Some (sym (at a refl))
 gone_is k (Some a) (Some b) at = refl
 
 pub removed_are : (ids : List ℕ) (old new : List NodeRow) → IsAscending (λ k. k) ids → IsAscending node_id old
-    → ((k : ℕ) → is_listed ids k ≡ false → row_at node_id old k ≡ row_at node_id new k) → removed_listed ids old new ≡ removed_ids old new
+    → ((k : ℕ) → lists_id ids k ≡ false → row_at node_id old k ≡ row_at node_id new k) → removed_listed ids old new ≡ removed_ids old new
 removed_are ids old new hi ho same =
     same_rows number (removed_listed ids old new) (removed_ids old new)
     (ascending_filter_map number number gone named ids hi)

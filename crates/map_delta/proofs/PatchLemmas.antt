@@ -18,14 +18,14 @@ use Rattle.same_maps.specs.Parts.{same_endpoint}
 use Rattle.same_maps.proofs.NodeLemmas.{disco_keys_equal, fixed_of}
 use Rattle.same_maps.proofs.PartLemmas.{endpoints_equal, lists_equal}
 use Rattle.fresh_maps.specs.Profiles.{owns_any}
-use Rattle.map_delta.specs.Delta.{can_patch, is_nil, patch_between, unless}
+use Rattle.map_delta.specs.Delta.{can_patch, is_nil, patch_between, new_unless}
 use Rattle.map_delta.specs.Fold.{is_zero_key, patch_rows, patched, patched_derp, patched_disco, patched_endpoints, patched_if}
 use Rattle.map_delta.specs.Puts.{node_id, patch_id}
 use Rattle.map_delta.proofs.IdLaws.{none_behind, row_at-map, row_at_id}
 
 -- ---- one patch
 
-endpoints_given : (x y : List Endpoint) → (pointwise same_endpoint x y || not (is_nil y)) ≡ true → patched_endpoints (unless (pointwise same_endpoint x y) y) x ≡ y
+endpoints_given : (x y : List Endpoint) → (pointwise same_endpoint x y || not (is_nil y)) ≡ true → patched_endpoints (new_unless (pointwise same_endpoint x y) y) x ≡ y
 endpoints_given x [] h = elim (cases_Bool (pointwise same_endpoint x [])) [
   | inl same ↦ rw same (lists_equal same_endpoint endpoints_equal x [] same)
   | inr other ↦ absurd (false≢true (rw other at h))
@@ -35,7 +35,7 @@ endpoints_given x (y ∷ ys) h = elim (cases_Bool (pointwise same_endpoint x (y 
   | inr other ↦ rw other refl
 ]
 
-derp_given : (x y : ℕ) → (x == y || not (y == 0)) ≡ true → patched_derp (unless (x == y) y) x ≡ y
+derp_given : (x y : ℕ) → (x == y || not (y == 0)) ≡ true → patched_derp (new_unless (x == y) y) x ≡ y
 derp_given x y h = elim (cases_Bool (x == y)) [
   | inl same ↦ rw same (eqb-true x y same)
   | inr other ↦ elim (cases_Bool (y == 0)) [
@@ -44,7 +44,7 @@ derp_given x y h = elim (cases_Bool (x == y)) [
   ]
 ]
 
-disco_given : (x y : DiscoKey) → (bytes_eq x.0 y.0 || not (is_zero_key y)) ≡ true → patched_disco (unless (bytes_eq x.0 y.0) y) x ≡ y
+disco_given : (x y : DiscoKey) → (bytes_eq x.0 y.0 || not (is_zero_key y)) ≡ true → patched_disco (new_unless (bytes_eq x.0 y.0) y) x ≡ y
 disco_given x y h = elim (cases_Bool (bytes_eq x.0 y.0)) [
   | inl same ↦ rw same (disco_keys_equal x y same)
   | inr other ↦ elim (cases_Bool (is_zero_key y)) [
@@ -53,7 +53,7 @@ disco_given x y h = elim (cases_Bool (bytes_eq x.0 y.0)) [
   ]
 ]
 
-online_given : (x y : Bool) → unwrap_or (unless (beq x y) y) x ≡ y
+online_given : (x y : Bool) → unwrap_or (new_unless (beq x y) y) x ≡ y
 online_given true true = refl
 online_given true false = refl
 online_given false true = refl

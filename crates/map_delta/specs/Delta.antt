@@ -11,7 +11,7 @@ use Rattle.tailcfg.specs.declared.profile.Profile.{Profile}
 use Rattle.tailcfg.specs.declared.response.Response.{Response}
 use Rattle.same_maps.specs.Dns.{same_dns}
 use Rattle.same_maps.specs.Filters.{same_filter}
-use Rattle.same_maps.specs.Nodes.{same_fixed, same_node, same_profile}
+use Rattle.same_maps.specs.Nodes.{same_fixed, same_node_row, same_profile}
 use Rattle.same_maps.specs.Parts.{same_endpoint}
 use Rattle.fresh_maps.specs.Responses.{first_response}
 use Rattle.fresh_maps.specs.declared.view.View.{View}
@@ -23,8 +23,8 @@ is_nil [] = true
 is_nil (x ∷ xs) = false
 
 -- what is given where it isn't as it was
-abbrev pub unless : {T : Type 0} → Bool → T → Option T
-unless same x = if same then None else Some x
+abbrev pub new_unless : {T : Type 0} → Bool → T → Option T
+new_unless same x = if same then None else Some x
 
 -- ---- peers
 
@@ -41,24 +41,24 @@ can_patch a b =
 abbrev pub patch_between : NodeRow → NodeRow → Patch
 patch_between a b = record {
   id = b.id;
-  derp = unless (a.derp == b.derp) b.derp;
-  disco = unless (bytes_eq a.disco.0 b.disco.0) b.disco;
-  endpoints = unless (pointwise same_endpoint a.endpoints b.endpoints) b.endpoints;
-  online = unless (beq a.online b.online) b.online;
+  derp = new_unless (a.derp == b.derp) b.derp;
+  disco = new_unless (bytes_eq a.disco.0 b.disco.0) b.disco;
+  endpoints = new_unless (pointwise same_endpoint a.endpoints b.endpoints) b.endpoints;
+  online = new_unless (beq a.online b.online) b.online;
 }
 
 -- a whole row is sent of a peer that is new, or that differs and can't be patched
-abbrev pub is_whole : Option NodeRow → NodeRow → Bool
-is_whole None b = true
-is_whole (Some a) b = not (same_node a b) && not (can_patch a b)
+abbrev pub is_sent_whole : Option NodeRow → NodeRow → Bool
+is_sent_whole None b = true
+is_sent_whole (Some a) b = not (same_node_row a b) && not (can_patch a b)
 
 -- a patch is sent of a peer that differs and can be patched
 abbrev pub patch_for : Option NodeRow → NodeRow → Option Patch
 patch_for None b = None
-patch_for (Some a) b = if same_node a b then None else if can_patch a b then Some (patch_between a b) else None
+patch_for (Some a) b = if same_node_row a b then None else if can_patch a b then Some (patch_between a b) else None
 
 abbrev pub changed_rows : List NodeRow → List NodeRow → List NodeRow
-changed_rows old new = filter (λ b. is_whole (row_at node_id old b.id) b) new
+changed_rows old new = filter (λ b. is_sent_whole (row_at node_id old b.id) b) new
 
 abbrev pub removed_ids : List NodeRow → List NodeRow → List ℕ
 removed_ids old new = map node_id (filter (λ a. is_none (row_at node_id new a.id)) old)
@@ -83,9 +83,9 @@ abbrev pub change : View → View → ℕ → Response
 change old new seq = record {
   handle = None;
   seq = Some seq;
-  node = unless (same_node old.node new.node) new.node;
-  filter = unless (same_filter old.filter new.filter) new.filter;
-  dns = unless (same_dns old.dns new.dns) new.dns;
+  node = new_unless (same_node_row old.node new.node) new.node;
+  filter = new_unless (same_filter old.filter new.filter) new.filter;
+  dns = new_unless (same_dns old.dns new.dns) new.dns;
   domain = None;
   peers = [];
   changed = changed_rows old.peers new.peers;

@@ -54,12 +54,12 @@ patch_rows nodes (p ∷ ps) = patch_rows (map (patched_if p) nodes) ps
 -- ---- peers and profiles
 
 -- the id is one of these
-abbrev pub is_listed : List ℕ → ℕ → Bool
-is_listed ids id = list_any (λ k. k == id) ids
+abbrev pub lists_id : List ℕ → ℕ → Bool
+lists_id ids id = list_any (λ k. k == id) ids
 
 -- the peers whose ids aren't listed
 abbrev pub left_rows : List NodeRow → List ℕ → List NodeRow
-left_rows nodes gone = filter (λ n. not (is_listed gone n.id)) nodes
+left_rows nodes gone = filter (λ n. not (lists_id gone n.id)) nodes
 
 -- all peers anew, if the response has any
 abbrev pub peers_given : List NodeRow → List NodeRow → List NodeRow

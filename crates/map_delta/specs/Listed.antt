@@ -4,13 +4,13 @@ use Rattle.std.specs.List.{filter_map}
 use Rattle.net_rows.specs.Shelf.{row_at}
 use Rattle.tailcfg.specs.declared.node_row.NodeRow.{NodeRow}
 use Rattle.tailcfg.specs.declared.patch.Patch.{Patch}
-use Rattle.map_delta.specs.Delta.{is_whole, patch_for}
+use Rattle.map_delta.specs.Delta.{is_sent_whole, patch_for}
 use Rattle.map_delta.specs.Puts.{node_id}
 
 -- the node that is sent whole, of what was and is at an id
 abbrev pub whole_at : Option NodeRow → Option NodeRow → Option NodeRow
 whole_at old None = None
-whole_at old (Some b) = if is_whole old b then Some b else None
+whole_at old (Some b) = if is_sent_whole old b then Some b else None
 
 -- the patch that is sent
 abbrev pub patch_at : Option NodeRow → Option NodeRow → Option Patch

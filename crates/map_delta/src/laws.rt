@@ -6,7 +6,7 @@ ghost use Rattle.fresh_maps.specs.InOrder.{IsInOrder};
 ghost use Rattle.fresh_maps.specs.Responses.{first_response};
 ghost use Rattle.fresh_maps.specs.declared.view.View.{View};
 ghost use Rattle.map_delta.specs.Delta.{AreNumbered, changed_rows, delta, greeting, patches_between, removed_ids, responses_for};
-ghost use Rattle.map_delta.specs.Fold.{fold, fold_all, is_listed};
+ghost use Rattle.map_delta.specs.Fold.{fold, fold_all, lists_id};
 ghost use Rattle.map_delta.specs.Listed.{changed_listed, patches_listed, removed_listed};
 ghost use Rattle.map_delta.specs.Puts.{node_id};
 
@@ -46,14 +46,14 @@ pub fn greetings_change_nothing()
 pub fn changes_stand_at_listed_ids()
     ensures changed { (ids : List ℕ) (old new : List NodeRow) → IsAscending (λ k. k) ids
         → IsAscending node_id new
-        → ((k : ℕ) → is_listed ids k ≡ false → row_at node_id old k ≡ row_at node_id new k)
+        → ((k : ℕ) → lists_id ids k ≡ false → row_at node_id old k ≡ row_at node_id new k)
         → changed_listed ids old new ≡ changed_rows old new }
     ensures patched { (ids : List ℕ) (old new : List NodeRow) → IsAscending (λ k. k) ids
         → IsAscending node_id new
-        → ((k : ℕ) → is_listed ids k ≡ false → row_at node_id old k ≡ row_at node_id new k)
+        → ((k : ℕ) → lists_id ids k ≡ false → row_at node_id old k ≡ row_at node_id new k)
         → patches_listed ids old new ≡ patches_between old new }
     ensures removed { (ids : List ℕ) (old new : List NodeRow) → IsAscending (λ k. k) ids
         → IsAscending node_id old
-        → ((k : ℕ) → is_listed ids k ≡ false → row_at node_id old k ≡ row_at node_id new k)
+        → ((k : ℕ) → lists_id ids k ≡ false → row_at node_id old k ≡ row_at node_id new k)
         → removed_listed ids old new ≡ removed_ids old new }
 {}

@@ -13,7 +13,7 @@ ghost use Rattle.map_delta.specs.Puts.{node_id};
 use crate::patching::is_zero_key;
 use crate::puts::listed_row;
 use net_addr::Endpoint;
-use same_maps::{same_endpoints, same_fixed, same_node};
+use same_maps::{same_endpoints, same_fixed, same_node_row};
 use std::alloc::Global;
 use tail_base::{DiscoKey, Duplicate, Items, NoMemory};
 use tailcfg::{NodeRow, Patch};
@@ -55,7 +55,7 @@ pub(crate) fn copy_unless<T: Duplicate>(
     same: bool,
     value: &T,
 ) -> Result<Option<T>, NoMemory>
-    ensures value { IfOk result (λ made. made ≡ spec.unless same value.now) }
+    ensures value { IfOk result (λ made. made ≡ spec.new_unless same value.now) }
 {
     if same {
         Ok(None)
@@ -65,19 +65,19 @@ pub(crate) fn copy_unless<T: Duplicate>(
 }
 
 fn derp_between(a: u32, b: u32) -> Option<u32>
-    ensures value { result ≡ spec.unless (a == b) b }
+    ensures value { result ≡ spec.new_unless (a == b) b }
 {
     if a == b { None } else { Some(b) }
 }
 
 fn disco_between(a: DiscoKey, b: DiscoKey) -> Option<DiscoKey>
-    ensures value { result ≡ spec.unless (bytes_eq a.0 b.0) b }
+    ensures value { result ≡ spec.new_unless (bytes_eq a.0 b.0) b }
 {
     if a == b { None } else { Some(b) }
 }
 
 fn online_between(a: bool, b: bool) -> Option<bool>
-    ensures value { result ≡ spec.unless (beq a b) b }
+    ensures value { result ≡ spec.new_unless (beq a b) b }
 {
     if a == b { None } else { Some(b) }
 }
@@ -102,12 +102,13 @@ fn patch_for(
     old: Option<&NodeRow>,
     node: &NodeRow,
 ) -> Result<Option<Patch>, NoMemory>
-    ensures value { IfOk result (λ patch. patch ≡ spec.patch_for (option_copied old.entry) node.now) }
+    ensures value { IfOk result (λ patch. patch
+        ≡ spec.patch_for (option_copied old.entry) node.now) }
 {
     let Some(old) = old else {
         return Ok(None);
     };
-    if same_node(old, node) || !can_patch(old, node) {
+    if same_node_row(old, node) || !can_patch(old, node) {
         return Ok(None);
     }
     Ok(Some(patch_between(alloc, old, node)?))

@@ -16,7 +16,7 @@ use Rattle.net_addr.specs.Bits.{Block}
 use Rattle.net_addr.specs.declared.endpoint.Endpoint.{Endpoint}
 use Rattle.tailcfg.specs.declared.node_row.NodeRow.{NodeRow}
 use Rattle.tailcfg.specs.declared.profile.Profile.{Profile}
-use Rattle.same_maps.specs.Nodes.{same_contact, same_fixed, same_identity, same_node, same_profile, same_standing}
+use Rattle.same_maps.specs.Nodes.{same_contact, same_fixed, same_identity, same_node_row, same_profile, same_standing}
 use Rattle.same_maps.specs.Parts.{same_endpoint, same_prefix}
 use Rattle.same_maps.proofs.PartLemmas.{endpoint_itself, endpoints_equal, list_itself, lists_equal, prefix_itself, prefixes_equal}
 
@@ -109,7 +109,7 @@ one_node a b f r = λ i. record {
   online = r.online i;
 }
 
-pub nodes_equal : (a b : NodeRow) → same_node a b ≡ true → a ≡ b
+pub nodes_equal : (a b : NodeRow) → same_node_row a b ≡ true → a ≡ b
 nodes_equal a b h =
     let halves = and_parts (same_fixed a b) (same_contact a b) h in
     one_node a b (fixed_of a b halves.0) (contact_of a b halves.1)
@@ -130,13 +130,13 @@ contact_itself a =
     and4 (pointwise same_endpoint a.endpoints a.endpoints) (a.derp == a.derp) (bytes_eq a.disco.0 a.disco.0) (beq a.online a.online)
     (list_itself same_endpoint endpoint_itself a.endpoints) (eq-eqb a.derp a.derp refl) (bytes_eq-from a.disco.0 a.disco.0 refl) (beq-from a.online a.online refl)
 
-pub node_itself : (a : NodeRow) → same_node a a ≡ true
+pub node_itself : (a : NodeRow) → same_node_row a a ≡ true
 node_itself a =
     and_from (same_fixed a a) (same_contact a a)
     (and_from (same_identity a a) (same_standing a a) (identity_itself a) (standing_itself a)) (contact_itself a)
 
-pub same_nodes : (a b : NodeRow) → same_node a b ≡ true ↔ (a ≡ b)
-same_nodes a b = (nodes_equal a b, λ e. ap (λ (x : NodeRow). same_node a x) (sym e) ∙ node_itself a)
+pub same_nodes : (a b : NodeRow) → same_node_row a b ≡ true ↔ (a ≡ b)
+same_nodes a b = (nodes_equal a b, λ e. ap (λ (x : NodeRow). same_node_row a x) (sym e) ∙ node_itself a)
 
 pub profiles_equal : (a b : Profile) → same_profile a b ≡ true → a ≡ b
 profiles_equal a b h =

@@ -32,8 +32,8 @@ same_contact a b =
     && beq a.online b.online
 
 -- the nodes are the same
-abbrev pub same_node : NodeRow → NodeRow → Bool
-same_node a b = same_fixed a b && same_contact a b
+abbrev pub same_node_row : NodeRow → NodeRow → Bool
+same_node_row a b = same_fixed a b && same_contact a b
 
 -- the profiles are
 abbrev pub same_profile : Profile → Profile → Bool

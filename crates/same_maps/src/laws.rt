@@ -6,11 +6,11 @@ ghost use Rattle.tailcfg.specs.declared.node_row.NodeRow.{NodeRow};
 ghost use Rattle.tailcfg.specs.declared.profile.Profile.{Profile};
 ghost use Rattle.same_maps.specs.Dns.{same_dns};
 ghost use Rattle.same_maps.specs.Filters.{same_filter};
-ghost use Rattle.same_maps.specs.Nodes.{same_node, same_profile};
+ghost use Rattle.same_maps.specs.Nodes.{same_node_row, same_profile};
 
 /// Nodes are the same exactly where they are equal, and so are profiles.
 pub fn same_nodes_are_equal()
-    ensures nodes { (a b : NodeRow) → same_node a b ≡ true ↔ (a ≡ b) }
+    ensures nodes { (a b : NodeRow) → same_node_row a b ≡ true ↔ (a ≡ b) }
     ensures profiles { (a b : Profile) → same_profile a b ≡ true ↔ (a ≡ b) }
 {}
 

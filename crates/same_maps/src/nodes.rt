@@ -75,8 +75,8 @@ fn same_contact(a: &NodeRow, b: &NodeRow) -> bool
 }
 
 /// Whether the nodes are the same.
-pub fn same_node(a: &NodeRow, b: &NodeRow) -> bool
-    ensures value { result ≡ spec.same_node a.now b.now }
+pub fn same_node_row(a: &NodeRow, b: &NodeRow) -> bool
+    ensures value { result ≡ spec.same_node_row a.now b.now }
 {
     same_fixed(a, b) && same_contact(a, b)
 }
