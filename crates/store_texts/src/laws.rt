@@ -1,12 +1,7 @@
 //! What the statements mean. None of these functions does anything: each states a law.
-ghost use Rattle.std.specs.Prelude.{◌≡◌, ◌∷◌, [], ℕ, List, Ok, drop, map, pos};
-ghost use Rattle.sqlite_value.specs.Order.{Row};
+ghost use Rattle.std.specs.Prelude.{◌≡◌, ◌∷◌, [], ℕ, Ok};
 ghost use Rattle.sqlite_value.specs.declared.value.Value.{Value};
-ghost use Rattle.sqlite_value.specs.declared.value.Value.TheVariants.{Int};
-ghost use Rattle.sqlite_trees.specs.Tree.{put_row};
-ghost use Rattle.sqlite.specs.Effect.{Database};
-ghost use Rattle.store_texts.specs.Ran.{HasRun, IsPutBy};
-ghost use Rattle.store_texts.specs.Standing.{AreTaken, SetsRows, Stands, row_standing, without_id};
+ghost use Rattle.store_texts.specs.Standing.{PutsRow, TakesAllOut, TakesRowOut};
 ghost use Rattle.sqlite_catalog.specs.Change.{created};
 ghost use Rattle.sqlite_resolve.specs.Compile.{table_defined_by};
 ghost use Rattle.store_texts.specs.Commands.{update_meta, update_users, update_auth_keys, update_pending, update_machines, update_policy, clear_extras, select_meta, select_users, select_auth_keys, select_pending, select_machines, select_extras, select_policy, insert_meta, insert_users, insert_auth_keys, insert_pending, insert_machines, insert_extras, insert_policy, delete_users, delete_auth_keys, delete_pending, delete_machines};
@@ -73,64 +68,35 @@ pub fn updates_replace_a_row()
     ensures extras { Means clear_extras_text clear_extras }
 {}
 
-/// An UPDATE that found no row with the INSERT behind it, or an UPDATE that found one: the row of the
-/// parameters takes the place of the row of its id, and stands among the others by its id. The
-/// other tables stay.
+/// An UPDATE that found a row, or one that found none with the INSERT behind it, puts the row of its
+/// parameters in its place by the id. The other tables stay.
 pub fn puts_replace_or_add()
-    ensures meta { (db after : Database) (rows : List (ℕ × Row)) (id : ℕ) (a b c d e : Value)
-        → AreTaken (drop 1 meta_table.columns) (a ∷ b ∷ c ∷ d ∷ e ∷ [])
-        → Stands 0 rows db
-        → IsPutBy update_meta_text insert_meta_text (Int (pos id) ∷ a ∷ b ∷ c ∷ d ∷ e ∷ []) db after
-        → SetsRows schema_1 0 (put_row (row_standing (id, a ∷ b ∷ c ∷ d ∷ e ∷ []))
-        (map row_standing (without_id id rows))) db after }
-    ensures users { (db after : Database) (rows : List (ℕ × Row)) (id : ℕ) (a : Value)
-        → AreTaken (drop 1 users_table.columns) (a ∷ [])
-        → Stands 1 rows db
-        → IsPutBy update_users_text insert_users_text (Int (pos id) ∷ a ∷ []) db after
-        → SetsRows schema_1 1 (put_row (row_standing (id, a ∷ []))
-        (map row_standing (without_id id rows))) db after }
-    ensures auth_keys { (db after : Database) (rows : List (ℕ × Row)) (id : ℕ) (a b c d e f g : Value)
-        → AreTaken (drop 1 auth_keys_table.columns) (a ∷ b ∷ c ∷ d ∷ e ∷ f ∷ g ∷ [])
-        → Stands 3 rows db
-        → IsPutBy update_auth_keys_text insert_auth_keys_text (Int (pos id) ∷ a ∷ b ∷ c ∷ d ∷ e ∷ f ∷ g ∷ []) db after
-        → SetsRows schema_1 3 (put_row (row_standing (id, a ∷ b ∷ c ∷ d ∷ e ∷ f ∷ g ∷ []))
-        (map row_standing (without_id id rows))) db after }
-    ensures pending { (db after : Database) (rows : List (ℕ × Row)) (id : ℕ) (a b c d e f g h i : Value)
-        → AreTaken (drop 1 pending_table.columns) (a ∷ b ∷ c ∷ d ∷ e ∷ f ∷ g ∷ h ∷ i ∷ [])
-        → Stands 5 rows db
-        → IsPutBy update_pending_text insert_pending_text (Int (pos id) ∷ a ∷ b ∷ c ∷ d ∷ e ∷ f ∷ g ∷ h ∷ i ∷ []) db after
-        → SetsRows schema_1 5 (put_row (row_standing (id, a ∷ b ∷ c ∷ d ∷ e ∷ f ∷ g ∷ h ∷ i ∷ []))
-        (map row_standing (without_id id rows))) db after }
-    ensures machines { (db after : Database) (rows : List (ℕ × Row)) (id : ℕ) (a b c d e f g h i j k l m n o p : Value)
-        → AreTaken (drop 1 machines_table.columns) (a ∷ b ∷ c ∷ d ∷ e ∷ f ∷ g ∷ h ∷ i ∷ j ∷ k ∷ l ∷ m ∷ n ∷ o ∷ p ∷ [])
-        → Stands 8 rows db
-        → IsPutBy update_machines_text insert_machines_text (Int (pos id) ∷ a ∷ b ∷ c ∷ d ∷ e ∷ f ∷ g ∷ h ∷ i ∷ j ∷ k ∷ l ∷ m ∷ n ∷ o ∷ p ∷ []) db after
-        → SetsRows schema_1 8 (put_row (row_standing (id, a ∷ b ∷ c ∷ d ∷ e ∷ f ∷ g ∷ h ∷ i ∷ j ∷ k ∷ l ∷ m ∷ n ∷ o ∷ p ∷ []))
-        (map row_standing (without_id id rows))) db after }
-    ensures policy { (db after : Database) (rows : List (ℕ × Row)) (id : ℕ) (a : Value)
-        → AreTaken (drop 1 policy_table.columns) (a ∷ [])
-        → Stands 15 rows db
-        → IsPutBy update_policy_text insert_policy_text (Int (pos id) ∷ a ∷ []) db after
-        → SetsRows schema_1 15 (put_row (row_standing (id, a ∷ []))
-        (map row_standing (without_id id rows))) db after }
+    ensures meta { (id : ℕ) (a b c d e : Value)
+        → PutsRow meta_table update_meta_text insert_meta_text id
+        (a ∷ b ∷ c ∷ d ∷ e ∷ []) }
+    ensures users { (id : ℕ) (a : Value)
+        → PutsRow users_table update_users_text insert_users_text id
+        (a ∷ []) }
+    ensures auth_keys { (id : ℕ) (a b c d e f g : Value)
+        → PutsRow auth_keys_table update_auth_keys_text insert_auth_keys_text id
+        (a ∷ b ∷ c ∷ d ∷ e ∷ f ∷ g ∷ []) }
+    ensures pending { (id : ℕ) (a b c d e f g h i : Value)
+        → PutsRow pending_table update_pending_text insert_pending_text id
+        (a ∷ b ∷ c ∷ d ∷ e ∷ f ∷ g ∷ h ∷ i ∷ []) }
+    ensures machines { (id : ℕ) (a b c d e f g h i j k l m n o p : Value)
+        → PutsRow machines_table update_machines_text insert_machines_text id
+        (a ∷ b ∷ c ∷ d ∷ e ∷ f ∷ g ∷ h ∷ i ∷ j ∷ k ∷ l ∷ m ∷ n ∷ o ∷ p ∷ []) }
+    ensures policy { (id : ℕ) (a : Value)
+        → PutsRow policy_table update_policy_text insert_policy_text id
+        (a ∷ []) }
 {}
 
 /// A DELETE that has run leaves the rows of the other ids, and that of the extra records none. The
 /// other tables stay.
 pub fn deletes_leave_the_others()
-    ensures users { (db after : Database) (rows : List (ℕ × Row)) (id count : ℕ)
-        → Stands 1 rows db → HasRun delete_users_text (Int (pos id) ∷ []) count db after
-        → SetsRows schema_1 1 (map row_standing (without_id id rows)) db after }
-    ensures auth_keys { (db after : Database) (rows : List (ℕ × Row)) (id count : ℕ)
-        → Stands 3 rows db → HasRun delete_auth_keys_text (Int (pos id) ∷ []) count db after
-        → SetsRows schema_1 3 (map row_standing (without_id id rows)) db after }
-    ensures pending { (db after : Database) (rows : List (ℕ × Row)) (id count : ℕ)
-        → Stands 5 rows db → HasRun delete_pending_text (Int (pos id) ∷ []) count db after
-        → SetsRows schema_1 5 (map row_standing (without_id id rows)) db after }
-    ensures machines { (db after : Database) (rows : List (ℕ × Row)) (id count : ℕ)
-        → Stands 8 rows db → HasRun delete_machines_text (Int (pos id) ∷ []) count db after
-        → SetsRows schema_1 8 (map row_standing (without_id id rows)) db after }
-    ensures extras { (db after : Database) (rows : List (ℕ × Row)) (count : ℕ)
-        → Stands 14 rows db → HasRun clear_extras_text [] count db after
-        → SetsRows schema_1 14 [] db after }
+    ensures users { TakesRowOut users_table delete_users_text }
+    ensures auth_keys { TakesRowOut auth_keys_table delete_auth_keys_text }
+    ensures pending { TakesRowOut pending_table delete_pending_text }
+    ensures machines { TakesRowOut machines_table delete_machines_text }
+    ensures extras { TakesAllOut extras_table clear_extras_text }
 {}
