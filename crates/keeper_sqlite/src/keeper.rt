@@ -1,6 +1,8 @@
 //! A keeper over a connection to a database.
 ghost use Rattle.std.specs.Prelude.{◌≡◌, ◌≤◌, None, Err, false, IsTrue, OnOk, OnErr, IsErrOf};
 ghost use Rattle.io_edge.specs.Edge.{Rose};
+ghost use Rattle.net_rows.specs.Rows.{after};
+ghost use Rattle.keeper_sqlite.specs.Kept.{Makes};
 ghost use Rattle.keeper_sqlite.specs.Pending.{IsSettled, Leaves};
 ghost use Rattle.sqlite.specs.Held.{state};
 ghost use Rattle.sqlite.specs.State.{HasCleanDisk};
@@ -69,6 +71,9 @@ impl<S: Alter> SqliteKeeper<S> {
             → (result ≡ Err EdgeFault.Failed) × (self.new.conn ≡ self.old.conn) }
         ensures ok { HasCleanDisk (state S.Store self.new.conn)
             → OnOk result (IsSettled (state S.Store self.new.conn)) }
+        ensures made { HasCleanDisk (state S.Store self.new.conn) → OnOk result (Makes
+            (state S.Store self.old.conn).now (state S.Store self.new.conn).now
+            (λ rows. after rows change.now)) }
         ensures err { HasCleanDisk (state S.Store self.new.conn)
             → OnErr result (Leaves (state S.Store self.old.conn) (state S.Store self.new.conn)) }
         ensures calls { self.new.calls ≡ self.old.calls }

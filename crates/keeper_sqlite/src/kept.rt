@@ -1,4 +1,9 @@
 //! Rows that are kept under an id, each kind in a table of its own.
+ghost use Rattle.std.specs.Prelude.{◌≡◌, ℕ, List, IfOk};
+ghost use Rattle.store_rows.specs.Rows.{auth_key_cells, machine_cells, pending_cells, user_cells};
+ghost use Rattle.store_rows.specs.declared.cell.Cell.{Cell};
+ghost use Rattle.store_texts.specs.Texts.{insert_auth_keys_text, insert_machines_text, insert_pending_text, insert_users_text, update_auth_keys_text, update_machines_text, update_pending_text, update_users_text};
+
 use net_rows::{AuthKey, Kind, Machine, Pending, User};
 use std::alloc::Global;
 use store_rows::{
@@ -14,6 +19,15 @@ use tail_base::{Items, NoMemory};
 
 /// Rows that are kept under an id.
 pub(crate) trait Kept: Drop + Sized {
+    /// The row as it is stored.
+    ghost cells: { Self → List Cell };
+
+    /// The text that replaces the row of an id.
+    ghost update_text: { List ℕ };
+
+    /// The text that adds one.
+    ghost insert_text: { List ℕ };
+
     /// Their kind.
     fn kind() -> Kind;
 
@@ -21,19 +35,28 @@ pub(crate) trait Kept: Drop + Sized {
     fn select() -> &'static str;
 
     /// The text that replaces the row of an id.
-    fn update() -> &'static str;
+    fn update() -> &'static str
+        ensures value { result.now ≡ update_text };
 
     /// The text that adds one.
-    fn insert() -> &'static str;
+    fn insert() -> &'static str
+        ensures value { result.now ≡ insert_text };
 
     /// The row as it is stored.
-    fn write(&self, alloc: Global) -> Result<Items<Cell>, NoMemory>;
+    fn write(&self, alloc: Global) -> Result<Items<Cell>, NoMemory>
+        ensures value { IfOk result (λ made. made ≡ cells self.now) };
 
     /// The row that is stored so, if there is one.
     fn read(alloc: Global, cells: &[Cell]) -> Result<Option<Self>, NoMemory>;
 }
 
 impl Kept for User {
+    ghost cells = { user_cells };
+
+    ghost update_text = { update_users_text };
+
+    ghost insert_text = { insert_users_text };
+
     fn kind() -> Kind {
         Kind::User
     }
@@ -60,6 +83,12 @@ impl Kept for User {
 }
 
 impl Kept for AuthKey {
+    ghost cells = { auth_key_cells };
+
+    ghost update_text = { update_auth_keys_text };
+
+    ghost insert_text = { insert_auth_keys_text };
+
     fn kind() -> Kind {
         Kind::Key
     }
@@ -86,6 +115,12 @@ impl Kept for AuthKey {
 }
 
 impl Kept for Pending {
+    ghost cells = { pending_cells };
+
+    ghost update_text = { update_pending_text };
+
+    ghost insert_text = { insert_pending_text };
+
     fn kind() -> Kind {
         Kind::Pending
     }
@@ -112,6 +147,12 @@ impl Kept for Pending {
 }
 
 impl Kept for Machine {
+    ghost cells = { machine_cells };
+
+    ghost update_text = { update_machines_text };
+
+    ghost insert_text = { insert_machines_text };
+
     fn kind() -> Kind {
         Kind::Machine
     }
