@@ -1,0 +1,3 @@
+pub mod AnswerHeads
+pub mod AnswerLaws
+pub mod AnswerLooks

@@ -1,0 +1,8 @@
+//! Tests of the operator's commands: words and what they ask, the requests of commands, answers of
+//! bytes, and the link in memory.
+#![tactic(auto)]
+
+#[cfg(test)]
+mod answers;
+#[cfg(test)]
+mod words;
