@@ -266,14 +266,22 @@ fn add_node(alloc: Global, out: &mut String, machine: &Shown) -> Result<(), NoMe
     Ok(())
 }
 
+/// A comma, unless nothing stands before.
+fn add_comma(out: &mut String, is_first: bool) -> Result<(), NoMemory> {
+    if !is_first {
+        out.push_str(",")?;
+    }
+    Ok(())
+}
+
 /// The nodes of these machines, behind a comma each but the first.
 fn add_nodes(alloc: Global, out: &mut String, ids: &str) -> Result<(), NoMemory> {
-    let mut before = "";
+    let mut is_first = true;
     for machine in &MACHINES {
         if ids.contains(machine.id) {
-            out.push_str(before)?;
+            add_comma(out, is_first)?;
             add_node(alloc, out, machine)?;
-            before = ",";
+            is_first = false;
         }
     }
     Ok(())
@@ -285,12 +293,12 @@ fn is_owner(ids: &str, owner: &str) -> bool {
 
 /// The profiles of the owners of these machines.
 fn add_profiles(out: &mut String, ids: &str) -> Result<(), NoMemory> {
-    let mut before = "";
+    let mut is_first = true;
     for (owner, profile) in &PROFILES {
         if is_owner(ids, owner) {
-            out.push_str(before)?;
+            add_comma(out, is_first)?;
             out.push_str(profile)?;
-            before = ",";
+            is_first = false;
         }
     }
     Ok(())
