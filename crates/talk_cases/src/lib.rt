@@ -6,8 +6,6 @@ mod edges;
 #[cfg(test)]
 mod faults;
 #[cfg(test)]
-mod filters;
-#[cfg(test)]
 mod limits;
 #[cfg(test)]
 mod lives;
