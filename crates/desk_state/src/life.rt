@@ -5,7 +5,7 @@ ghost use Rattle.desk_state.specs.State.{State, is_ahead, is_live, is_live_with,
 use crate::presence::{MachinePresence, Presence};
 use moments::Moment;
 use net_rows::{Machine, Pending, Shelf, Tables};
-use policy_rows::Policy;
+use policy_eval::InForce;
 use settings::{Settings, SettingsFields};
 use std::alloc::Global;
 use std::marker::Model;
@@ -17,18 +17,17 @@ pub struct Snapshot<'a> {
     pub settings: &'a Settings,
     pub tables: &'a Tables,
     /// The policy in force.
-    pub policy: Option<&'a Policy>,
+    pub policy: &'a InForce,
     pub presence: &'a Shelf<MachinePresence>,
     pub time: Moment,
 }
 
 impl<'a> Model for Snapshot<'a> {
-    ghost use Rattle.std.specs.Option.{option_copied};
     ghost use Rattle.desk_state.specs.State.{State};
 
     ghost Value = { State };
 
-    ghost view = { λ a. record { settings = a.settings.now; rows = a.tables.now.rows; policy = option_copied a.policy; presence = a.presence.now.0; now = a.time } };
+    ghost view = { λ a. record { settings = a.settings.now; rows = a.tables.now.rows; policy = a.policy.now; presence = a.presence.now.0; now = a.time } };
 }
 
 /// Whether there is no end, or it is still to come.

@@ -63,7 +63,7 @@ fn is_owner(at: &Snapshot<'_>, policy: &Policy, entry: &TagOwner, user: u32) -> 
 fn tag_defined(at: &Snapshot<'_>, tag: &Tag) -> Result<(), Failure<Refusal>>
     ensures value { Gives (λ t. t) result (tag_defined at.now tag.now) }
 {
-    let Some(policy) = at.policy else {
+    let Some(policy) = at.policy.policy() else {
         return Err(Failure::Fault(Refusal::TagUndefined));
     };
     match entry_of(policy.tags.as_slice(), tag) {
@@ -85,7 +85,7 @@ pub fn tags_defined(at: &Snapshot<'_>, tags: &[Tag]) -> Result<(), Failure<Refus
 fn tag_granted(at: &Snapshot<'_>, user: u32, tag: &Tag) -> Result<(), Failure<Refusal>>
     ensures value { Gives (λ t. t) result (tag_granted at.now user tag.now) }
 {
-    let Some(policy) = at.policy else {
+    let Some(policy) = at.policy.policy() else {
         return Err(Failure::Fault(Refusal::TagUndefined));
     };
     let Some(entry) = entry_of(policy.tags.as_slice(), tag) else {

@@ -2,6 +2,7 @@
 ghost use Rattle.std.specs.Prelude.{◌≡◌, ◌∷◌, ◌++◌, [], IfOk, IfSome, None, OnOk, Some, if◌then◌else◌};
 ghost use Rattle.std.specs.Option.{option_copied};
 ghost use Rattle.desk_state.specs.State.{is_online, live_ids};
+ghost use Rattle.policy_eval.specs.Expansion.{expansion_of};
 ghost use Rattle.tail_base.specs.Steps.{Gives};
 ghost use Rattle.net_rows.specs.Damage.{damage};
 ghost use Rattle.net_rows.specs.Rows.{after};
@@ -46,7 +47,30 @@ fn online_ids(alloc: Global, presence: &[MachinePresence]) -> Result<Items<u32>,
     Ok(ids)
 }
 
-/// The whole map of a live machine of these ids, computed afresh.
+/// The whole map of a live machine of these ids, by what was expanded.
+fn map_over(
+    alloc: Global,
+    at: &Snapshot<'_>,
+    expanded: &Expanded,
+    live: &[u32],
+    online: &[u32],
+    row: &Machine,
+) -> Result<View, NoMemory>
+    requires live { IsLiveRow at.now row.now }
+    requires live_ids { live.now ≡ live_ids at.now }
+    requires online_ids { online.now ≡ spec.online_ids at.now.presence }
+    requires fits { expanded.now ≡ expansion_of at.now.policy at.now.rows live.now }
+    ensures value { IfOk result (λ view. view ≡ spec.fresh_for at.now row.now) }
+{
+    keep_rules(at);
+    let policy = at.policy.policy();
+    let world = World::new(at.settings, at.tables, policy, expanded, live, online);
+    let view = fresh_map(alloc, &world, row.id)?;
+    Ok(view)
+}
+
+/// The whole map of a live machine of these ids. What was expanded last is taken if it is the policy over
+/// these machines; else the policy is expanded.
 fn map_among(
     alloc: Global,
     at: &Snapshot<'_>,
@@ -59,11 +83,11 @@ fn map_among(
     requires online_ids { online.now ≡ spec.online_ids at.now.presence }
     ensures value { IfOk result (λ view. view ≡ spec.fresh_for at.now row.now) }
 {
-    keep_rules(at);
-    let expanded = Expanded::of(alloc, at.policy, at.tables, live)?;
-    let world = World::new(at.settings, at.tables, at.policy, &expanded, live, online);
-    let view = fresh_map(alloc, &world, row.id)?;
-    Ok(view)
+    if let Some(expanded) = at.policy.expanded_over(at.tables, live) {
+        return map_over(alloc, at, expanded, live, online, row);
+    }
+    let expanded = Expanded::of(alloc, at.policy.policy(), at.tables, live)?;
+    map_over(alloc, at, &expanded, live, online, row)
 }
 
 /// The whole map of a live machine, computed afresh.

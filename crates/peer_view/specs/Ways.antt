@@ -33,4 +33,4 @@ ways_of w m = map (way_of (groups_of w.policy) m.site) (rules_of w.policy)
 abbrev pub way_joins : List Group → Site → Site → RuleWay → Bool
 way_joins groups a b way =
     (way.sends && (takes groups way.rule b || (way.owns && is_own (holder_of a) (holder_of b))))
-    || (sends groups way.rule b && (way.takes || (way.owns && is_own (holder_of b) (holder_of a))))
+    || ((way.takes || (way.owns && is_own (holder_of b) (holder_of a))) && sends groups way.rule b)

@@ -72,11 +72,13 @@ pub fn ways_of<'a>(
     Ok(ways)
 }
 
+/// Whether one machine, of which the rule says this, reaches the other or is reached by it. What is known
+/// of the one is looked at first: most rules leave it alone.
 fn way_joins(groups: &[Group], a: &Site, b: &Site, way: &Way<'_>) -> bool
     ensures value { result ≡ way_joins groups.now a.now b.now way.now }
 {
     (way.sends && (takes(groups, way.rule, b) || (way.owns && are_own(a, b))))
-        || (sends(groups, way.rule, b) && (way.takes || (way.owns && are_own(b, a))))
+        || ((way.takes || (way.owns && are_own(b, a))) && sends(groups, way.rule, b))
 }
 
 /// Whether one of the two machines reaches the other, by the rules that say so of the first.

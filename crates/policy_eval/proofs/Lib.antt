@@ -1,5 +1,6 @@
 pub mod EndLemmas
 pub mod FitLemmas
+pub mod FittingLemmas
 pub mod IdLemmas
 pub mod MatchLemmas
 pub mod NetLemmas

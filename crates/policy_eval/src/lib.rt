@@ -5,9 +5,11 @@
 mod covering;
 mod end;
 mod expanded;
+mod fitting;
 mod granting;
 mod group_nets;
 mod id_list;
+mod in_force;
 mod laws;
 mod listing;
 mod rule_sets;
@@ -18,5 +20,6 @@ pub use covering::is_own_devices;
 pub use end::{End, Holder};
 pub use expanded::Expanded;
 pub use id_list::IdList;
+pub use in_force::InForce;
 pub use laws::{a_reach_is_by_rules, an_address_has_one_site};
 pub use site::{Site, are_own, sites_of};

@@ -53,7 +53,7 @@ fn site_of(alloc: Global, tables: &Tables, machine: &Machine) -> Result<Site, No
     })
 }
 
-fn is_among(live: &IdList<'_>, machine: &Machine) -> bool
+pub(crate) fn is_among(live: &IdList<'_>, machine: &Machine) -> bool
     ensures value { result ≡ is_among live.now machine.now }
 {
     live.has(machine.id)

@@ -18,10 +18,12 @@ use crate::deciding::decide;
 use crate::opening::{Beginning, beginning_of};
 use crate::reply::{Answer, Loss, Reply};
 use crate::settling::{end_presence, forget, go_offline, put_in_force};
-use desk_state::{Decision, MachinePresence, Snapshot, keep_rules};
+use desk_state::{Decision, MachinePresence, Snapshot, keep_rules, live_ids};
 use io_edge::EdgeFault;
+use machine_asks::MachineAsk;
 use moments::Moment;
 use net_rows::{Change, Kind, Shelf, Tables};
+use policy_eval::InForce;
 use policy_rows::Policy;
 use row_keeper::{Keeper, LoadFault};
 use settings::Settings;
@@ -35,7 +37,7 @@ use tail_base::{Failure, Items, NoMemory};
 pub struct Desk<K: Keeper> {
     settings: Settings,
     tables: Tables,
-    policy: Option<Policy>,
+    policy: InForce,
     presence: Shelf<MachinePresence>,
     time: Moment,
     keeper: K,
@@ -80,6 +82,17 @@ fn make_room(
         tables.reserve(change)?;
     }
     presence.reserve(offline)
+}
+
+/// Whether the ask is one for a map.
+fn is_map(ask: &Ask) -> bool {
+    match ask {
+        Ask::Machine(MachineAsk::OneMap { .. }) => true,
+        Ask::Machine(MachineAsk::Register { .. } | MachineAsk::Update { .. })
+        | Ask::Seed { .. }
+        | Ask::Operator(_)
+        | Ask::Policy(_) => false,
+    }
 }
 
 /// An answer that isn't given is let go here.
@@ -135,7 +148,7 @@ impl<K: Keeper> Desk<K> {
             Ok(Beginning { policy, presence }) => Ok(Desk {
                 settings,
                 tables,
-                policy,
+                policy: InForce::new(policy),
                 presence,
                 time: moment,
                 keeper,
@@ -202,6 +215,23 @@ impl<K: Keeper> Desk<K> {
         reply_of(kept, answer)
     }
 
+    /// Expands the policy over the machines that are live, unless it is so already. Contracts see no
+    /// change. Out of memory is told by what needs it.
+    fn expand(&mut self, alloc: Global)
+        ensures same { self.new ≡ self.old }
+    {
+        let at = Snapshot {
+            settings: &self.settings,
+            tables: &self.tables,
+            policy: &self.policy,
+            presence: &self.presence,
+            time: self.time,
+        };
+        if let Ok(live) = live_ids(alloc, &at) {
+            let _kept = self.policy.expand(alloc, &self.tables, live.as_slice());
+        }
+    }
+
     /// One event: its reply is the machine's, or out of memory, or a fault of the keeper. The lists and
     /// texts of the ask are within the limits of rows.
     pub fn ask(
@@ -216,10 +246,13 @@ impl<K: Keeper> Desk<K> {
             (point_of K.told K.faults K.calls self.new) }
     {
         self.time = self.time.or_later(moment);
+        if is_map(ask) {
+            self.expand(alloc);
+        }
         let at = Snapshot {
             settings: &self.settings,
             tables: &self.tables,
-            policy: self.policy.as_ref(),
+            policy: &self.policy,
             presence: &self.presence,
             time: self.time,
         };

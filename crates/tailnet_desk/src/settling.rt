@@ -6,6 +6,7 @@ ghost use Rattle.desk_state.specs.State.{all_ended, all_offline, forgotten, offl
 use desk_state::{MachinePresence, Presence, is_online, presence_of};
 use moments::Moment;
 use net_rows::{RowKey, Shelf};
+use policy_eval::InForce;
 use policy_rows::Policy;
 
 fn offline_at(id: u32, now: Moment) -> MachinePresence
@@ -18,11 +19,11 @@ fn offline_at(id: u32, now: Moment) -> MachinePresence
 }
 
 /// The policy that is given, if one is, is in force from now on. It takes no memory.
-pub(crate) fn put_in_force(held: &mut Option<Policy>, policy: Option<Policy>)
+pub(crate) fn put_in_force(held: &mut InForce, policy: Option<Policy>)
     ensures value { held.new ≡ option_or policy held.old }
 {
     if policy.is_some() {
-        *held = policy;
+        *held = InForce::new(policy);
     }
 }
 

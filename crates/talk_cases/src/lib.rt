@@ -6,6 +6,8 @@ mod edges;
 #[cfg(test)]
 mod faults;
 #[cfg(test)]
+mod filters;
+#[cfg(test)]
 mod limits;
 #[cfg(test)]
 mod lives;
