@@ -5,7 +5,6 @@ use Rattle.net_rows.specs.Rows.{after}
 use Rattle.net_rows.specs.declared.change.Change.{Change}
 use Rattle.net_rows.specs.declared.change.Counters.{Counters}
 use Rattle.net_rows.specs.declared.rows.Rows.{Rows}
-use Rattle.policy_rows.specs.declared.policy.Policy.{Policy}
 use Rattle.desk_state.specs.declared.decision.Decision.{Decision}
 use Rattle.desk_state.specs.declared.refusal.Refusal.{Refusal}
 

@@ -1,10 +1,10 @@
 //! The rules of reading at their edges, and every cut of an input.
 use crate::registrations::{FIRST, REGISTERED_TWICE, TWICE};
-use crate::runs::{CALM, SETTINGS, piped};
 use run_ends::Status;
 use std::alloc::Global;
 use std::test::Fail;
 use tail_base::NoMemory;
+use talk_runs::{CALM, SETTINGS, piped};
 
 /// A line is the status of the answer; how many field lines `A: b` follow; how long the head is where one
 /// more field line fills it up, or 0; how long the body is; and the head, with `|` at each line's end.

@@ -1,10 +1,10 @@
 //! One call after the other fails.
 use crate::registrations::{REGISTERED, REGISTERED_TWICE, TWICE};
-use crate::runs::{CALM, Plan, SETTINGS, piped};
 use run_ends::Status;
 use std::alloc::Global;
 use std::test::Fail;
 use tail_base::NoMemory;
+use talk_runs::{CALM, Plan, SETTINGS, piped};
 
 /// A line is what fails at which call, the status, what is on the output, and the line on errors.
 const FAULTS: &str = "read 1, read fault, nothing, tailnetd: read fault

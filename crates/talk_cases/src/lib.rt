@@ -6,13 +6,9 @@ mod edges;
 #[cfg(test)]
 mod faults;
 #[cfg(test)]
-mod filters;
-#[cfg(test)]
 mod limits;
 #[cfg(test)]
 mod lives;
-#[cfg(test)]
-mod policies;
 #[cfg(test)]
 mod refusals;
 #[cfg(test)]
@@ -20,8 +16,4 @@ mod registrations;
 #[cfg(test)]
 mod rows;
 #[cfg(test)]
-mod runs;
-#[cfg(test)]
 mod settings_refused;
-#[cfg(test)]
-mod talks;

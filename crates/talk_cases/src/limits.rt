@@ -1,8 +1,8 @@
 //! As many rows of a kind as there may be, and then one more.
-use crate::runs::{CALM, SETTINGS, piped};
 use std::alloc::Global;
 use std::test::Fail;
 use tail_base::NoMemory;
+use talk_runs::{CALM, SETTINGS, piped};
 
 /// What makes rows of a kind.
 #[derive(Clone, Copy, Drop)]

@@ -1,6 +1,6 @@
 //! Every refusal, and what stands in the tables after it; the first fault of every body.
-use crate::talks::assert_all_held;
 use std::test::Fail;
+use talk_runs::first_not_held;
 
 /// What the desk refuses, and that it changes nothing.
 const REFUSALS: &str = r#"= logins
@@ -384,16 +384,126 @@ const BODIES: &str = r#"= no-machine-key
 < 400 {"error":"NotJson"}
 = sweep-list
 > POST /api/v1/sweep Bearer/secret []
-< 400 {"error":"NotJson"}"#;
+< 400 {"error":"NotJson"}
+= empty-body
+> POST /machine/register mkey:%1
+< 400 {"error":"NotJson"}
+= two-values
+> POST /machine/register mkey:%1 {} {}
+< 400 {"error":"NotJson"}
+= number-too-large
+> POST /machine/register mkey:%1 {"a":1e999}
+< 400 {"error":"NotJson"}
+= member-in-small-letters
+> POST /machine/register mkey:%1 {"nodekey":"nodekey:%a"}
+< 400 {"error":"Missing","field":"NodeKey"}
+= short-node-key
+> POST /machine/register mkey:%1 {"NodeKey":"nodekey:00"}
+< 400 {"error":"BadField","field":"NodeKey"}
+= node-key-as-a-number
+> POST /machine/register mkey:%1 {"NodeKey":3}
+< 400 {"error":"BadField","field":"NodeKey"}
+= short-old-node-key
+> POST /machine/register mkey:%1 {"NodeKey":"nodekey:%a","OldNodeKey":"nodekey:0","Auth":1}
+< 400 {"error":"BadField","field":"OldNodeKey"}
+= auth-as-a-list
+> POST /machine/register mkey:%1 {"NodeKey":"nodekey:%a","Auth":[],"Expiry":1}
+< 400 {"error":"BadField","field":"Auth"}
+= no-leap-day
+> POST /machine/register mkey:%1 {"NodeKey":"nodekey:%a","Expiry":"2001-02-29T00:00:00Z","Ephemeral":1}
+< 400 {"error":"BadField","field":"Expiry"}
+= hostinfo-as-a-list
+> POST /machine/register mkey:%1 {"NodeKey":"nodekey:%a","Hostinfo":[]}
+< 400 {"error":"BadField","field":"Hostinfo"}
+= host-name-as-a-number
+> POST /machine/register mkey:%1 {"NodeKey":"nodekey:%a","Hostinfo":{"Hostname":1,"RoutableIPs":1}}
+< 400 {"error":"BadField","field":"Hostname"}
+= routes-as-an-object
+> POST /machine/register mkey:%1 {"NodeKey":"nodekey:%a","Hostinfo":{"RoutableIPs":{},"RequestTags":1}}
+< 400 {"error":"BadField","field":"RoutableIPs"}
+= null-route
+> POST /machine/register mkey:%1 {"NodeKey":"nodekey:%a","Hostinfo":{"RoutableIPs":[null]}}
+< 400 {"error":"BadField","field":"RoutableIPs"}
+= no-time-in-another-zone
+> POST /machine/register mkey:%1 {"NodeKey":"nodekey:%a","Auth":{},"Expiry":"0001-01-01T01:00:00+01:00","OldNodeKey":"nodekey:%0"}
+< 200 {"AuthURL":"http://tail.example/register/reg-1-00000000000000010000000000000002","Error":"","Login":{"ID":0,"LoginName":""},"MachineAuthorized":false,"NodeKeyExpired":false,"User":{"DisplayName":"","ID":0}}
+= routes-and-tags-are-read
+> POST /machine/register mkey:%1 {"NodeKey":"nodekey:%a","Auth":{"AuthKey":"k"},"Hostinfo":{"RoutableIPs":["::/0"],"RequestTags":["tag:a"]}}
+< 401 {"error":"KeyUnknown"}
+= map-list
+> POST /machine/map mkey:%1 []
+< 400 {"error":"NotJson"}
+= map-null-node-key
+> POST /machine/map mkey:%1 {"NodeKey":null,"Stream":3}
+< 400 {"error":"Missing","field":"NodeKey"}
+= map-zero-node-key
+> POST /machine/map mkey:%1 {"NodeKey":"nodekey:%0"}
+< 400 {"error":"BadField","field":"NodeKey"}
+= compressed-by-name
+> POST /machine/map mkey:%1 {"Compress":"zstd"}
+< 400 {"error":"Compressed"}
+= stream-as-a-number
+> POST /machine/map mkey:%1 {"NodeKey":"nodekey:%a","Stream":0,"OmitPeers":0}
+< 400 {"error":"BadField","field":"Stream"}
+= omit-peers-as-a-text
+> POST /machine/map mkey:%1 {"NodeKey":"nodekey:%a","OmitPeers":"","ReadOnly":0}
+< 400 {"error":"BadField","field":"OmitPeers"}
+= read-only-as-a-list
+> POST /machine/map mkey:%1 {"NodeKey":"nodekey:%a","ReadOnly":[],"MapSessionHandle":0}
+< 400 {"error":"BadField","field":"ReadOnly"}
+= seq-with-an-exponent
+> POST /machine/map mkey:%1 {"NodeKey":"nodekey:%a","MapSessionSeq":1e0,"Endpoints":1}
+< 400 {"error":"BadField","field":"MapSessionSeq"}
+= seq-minus-zero
+> POST /machine/map mkey:%1 {"NodeKey":"nodekey:%a","MapSessionSeq":-0}
+< 400 {"error":"BadField","field":"MapSessionSeq"}
+= endpoint-without-a-port
+> POST /machine/map mkey:%1 {"NodeKey":"nodekey:%a","Endpoints":["1.2.3.4"],"DiscoKey":1}
+< 400 {"error":"BadField","field":"Endpoints"}
+= short-disco-key
+> POST /machine/map mkey:%1 {"NodeKey":"nodekey:%a","DiscoKey":"discokey:0","Hostinfo":1}
+< 400 {"error":"BadField","field":"DiscoKey"}
+= map-hostinfo-as-a-flag
+> POST /machine/map mkey:%1 {"NodeKey":"nodekey:%a","Hostinfo":true}
+< 400 {"error":"BadField","field":"Hostinfo"}
+= map-host-name-as-an-object
+> POST /machine/map mkey:%1 {"NodeKey":"nodekey:%a","Hostinfo":{"Hostname":{},"NetInfo":1}}
+< 400 {"error":"BadField","field":"Hostname"}
+= route-of-129-bits
+> POST /machine/map mkey:%1 {"NodeKey":"nodekey:%a","Hostinfo":{"RoutableIPs":["::/129"]}}
+< 400 {"error":"BadField","field":"RoutableIPs"}
+= largest-seq
+> POST /machine/map mkey:%1 {"NodeKey":"nodekey:%a","Compress":"","MapSessionSeq":18446744073709551615,"MapSessionHandle":"s1-0"}
+< 401 {"error":"UnknownMachine"}
+= each-member-of-a-map-request
+> POST /machine/map mkey:%1 {"NodeKey":"nodekey:%a","Endpoints":["[fd00::1]:5"],"DiscoKey":"discokey:%0","Hostinfo":{"Hostname":"","NetInfo":{}}}
+< 401 {"error":"UnknownMachine"}
+= key-form-list
+> POST /api/v1/preauthkey Bearer/secret [{"user":"ann@"}]
+< 400 {"error":"NotJson"}
+= key-null-user
+> POST /api/v1/preauthkey Bearer/secret {"user":null,"tags":3}
+< 400 {"error":"Missing","field":"user"}
+= key-tag-without-its-head
+> POST /api/v1/preauthkey Bearer/secret {"user":"ann@","tags":["web"]}
+< 400 {"error":"BadField","field":"tags"}
+= last-of-doubled-members
+> POST /api/v1/preauthkey Bearer/secret {"user":"bob@","user":"seed@","expiry":"0001-01-01T00:00:00Z"}
+< 200 {"ephemeral":false,"expiry":"0001-01-01T00:00:00Z","id":2,"key":"tnkey-2-0000000000000001000000000000000200000000000000030000000000000004","reusable":false,"tags":[],"used":false,"user":"seed@"}
+= quoted-host
+> POST /machine/register mkey:%4 {"NodeKey":"nodekey:%d","Hostinfo":{"Hostname":"a \"quoted\" host"}}
+< 200 {"AuthURL":"http://tail.example/register/reg-1-00000000000000010000000000000002","Error":"","Login":{"ID":0,"LoginName":""},"MachineAuthorized":false,"NodeKeyExpired":false,"User":{"DisplayName":"","ID":0}}
+> GET /api/v1/register Bearer/secret
+< 200 {"pending":[{"host":"a \"quoted\" host","id":"reg-1-00000000000000010000000000000002","machine":"mkey:%4","node":"nodekey:%d"}]}"#;
 
 #[test]
 fn refusals_of_the_desk(rt: HostRuntime) -> Result<(), Fail> {
-    assert_all_held(&rt, rt.alloc(), REFUSALS)?;
+    assert_eq!(rt; first_not_held(rt.alloc(), REFUSALS)?, None);
     Ok(())
 }
 
 #[test]
 fn faults_of_bodies(rt: HostRuntime) -> Result<(), Fail> {
-    assert_all_held(&rt, rt.alloc(), BODIES)?;
+    assert_eq!(rt; first_not_held(rt.alloc(), BODIES)?, None);
     Ok(())
 }

@@ -1,10 +1,10 @@
 //! Registrations and other requests, byte for byte.
-use crate::runs::{CALM, SETTINGS, piped};
 use run_ends::Status;
 use std::alloc::Global;
 use std::process::Abort;
 use std::test::Fail;
 use tail_base::NoMemory;
+use talk_runs::{CALM, SETTINGS, piped};
 
 pub(crate) const REGISTERED: &[u8] =
     b"HTTP/1.1 200 OK\r\nContent-Type: application/json\r\nContent-Length: 147\r\n\r\n{\"AuthURL\":\"\",\"Error\":\"\",\"Login\":{\"ID\":1,\"LoginName\":\"seed@\"},\"MachineAuthorized\":true,\"NodeKeyExpired\":false,\"User\":{\"DisplayName\":\"seed\",\"ID\":1}}";

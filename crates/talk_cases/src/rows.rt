@@ -1,6 +1,6 @@
 //! Worked conversations, byte for byte.
-use crate::talks::assert_all_held;
 use std::test::Fail;
+use talk_runs::first_not_held;
 
 const WORKED: &str = r#"= first-registration
 > POST /machine/register mkey:%1 {"Auth":{"AuthKey":"k1"},"Hostinfo":{"Hostname":"Alice's MacBook Pro!"},"NodeKey":"nodekey:%a"}
@@ -199,6 +199,6 @@ const WORKED: &str = r#"= first-registration
 
 #[test]
 fn worked_conversations(rt: HostRuntime) -> Result<(), Fail> {
-    assert_all_held(&rt, rt.alloc(), WORKED)?;
+    assert_eq!(rt; first_not_held(rt.alloc(), WORKED)?, None);
     Ok(())
 }

@@ -1,11 +1,11 @@
 //! Settings that are refused.
 use crate::registrations::FIRST;
-use crate::runs::{CALM, SETTINGS, piped};
 use run_ends::Status;
 use std::alloc::Global;
 use std::process::Abort;
 use std::test::Fail;
 use tail_base::NoMemory;
+use talk_runs::{CALM, SETTINGS, piped};
 
 /// Asserts that settings are refused with this line, and nothing else is written.
 fn assert_refused(

@@ -16,7 +16,7 @@ pub(crate) fn one<T: Drop>(alloc: Global, item: T) -> Result<Items<T>, NoMemory>
     Ok(items)
 }
 
-pub(crate) fn addr(spelled: &[u8]) -> Result<Addr, Fail> {
+fn addr(spelled: &[u8]) -> Result<Addr, Fail> {
     Ok(Addr::read(spelled).ok_or("no address")?)
 }
 
@@ -24,7 +24,7 @@ fn prefix(spelled: &[u8]) -> Result<Prefix, Fail> {
     Ok(Prefix::read(spelled).ok().ok_or("no prefix")?)
 }
 
-pub(crate) fn prefixes(alloc: Global, spelled: &[&[u8]]) -> Result<Items<Prefix>, Fail> {
+fn prefixes(alloc: Global, spelled: &[&[u8]]) -> Result<Items<Prefix>, Fail> {
     let mut made = Items::new(alloc);
     for text in spelled {
         made.push(prefix(text)?)?;

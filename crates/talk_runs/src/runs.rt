@@ -7,24 +7,32 @@ use std::alloc::Global;
 use tail_base::{Bytes, Items, NoMemory, Text};
 use tailnet_commands::pipe_command;
 
-pub(crate) const SETTINGS: &[u8] =
+/// The settings of each run.
+pub const SETTINGS: &[u8] =
     b"base_domain = \"tail.example\"\nserver_url = \"http://tail.example\"\ntoken = \"secret\"\n";
 
 /// The first planned failure of each object, counted from 1; 0 is none.
 #[derive(Clone, Copy, Drop)]
-pub(crate) struct Plan {
+pub struct Plan {
+    /// The input's reads.
     pub read: u32,
+    /// The output's writes.
     pub write: u32,
+    /// The writes on errors.
     pub error: u32,
+    /// The reads of the settings file.
     pub file: u32,
+    /// The opener's calls.
     pub open: u32,
+    /// The keeper's calls.
     pub keep: u32,
+    /// The random source's calls.
     pub word: u32,
 }
 
 impl Plan {
     /// Plans a failure: `keep 4` is the keeper's fourth call.
-    pub(crate) fn fail(&mut self, text: &str) -> Option<()> {
+    pub fn fail(&mut self, text: &str) -> Option<()> {
         let (object, call) = text.split_once(" ")?;
         let call = call.parse::<u32>().ok()?;
         match object {
@@ -42,7 +50,7 @@ impl Plan {
 }
 
 /// Nothing fails.
-pub(crate) const CALM: Plan = Plan {
+pub const CALM: Plan = Plan {
     read: 0,
     write: 0,
     error: 0,
@@ -54,10 +62,14 @@ pub(crate) const CALM: Plan = Plan {
 
 /// What a run left.
 #[derive(Drop)]
-pub(crate) struct Ran {
+pub struct Ran {
+    /// The status that the program ends with.
     pub status: Status,
+    /// What it wrote.
     pub output: MemorySink,
+    /// What it wrote on errors.
     pub errors: MemorySink,
+    /// How many machines its tables have.
     pub machines: usize,
 }
 
@@ -93,7 +105,7 @@ fn opener_of(alloc: Global, tables: Tables, plan: &Plan) -> Result<MemoryOpener,
 }
 
 /// Runs `pipe tailnet.toml --seed k1` over the bytes, with this text in the file, at 2001-09-09T01:46:40Z.
-pub(crate) fn piped(
+pub fn piped(
     alloc: Global,
     settings: &[u8],
     input: &[u8],
@@ -183,7 +195,7 @@ fn run(alloc: Global, mut streams: Streams, mut stores: Stores) -> Ran {
 }
 
 /// The same with this clock.
-pub(crate) fn piped_at(
+pub fn piped_at(
     alloc: Global,
     clock: MemoryClock,
     tables: Tables,
@@ -197,7 +209,7 @@ pub(crate) fn piped_at(
 }
 
 /// The same over kept tables, at 2001-09-09T01:46:40Z.
-pub(crate) fn piped_over(alloc: Global, tables: Tables, input: &[u8]) -> Result<Ran, NoMemory> {
+pub fn piped_over(alloc: Global, tables: Tables, input: &[u8]) -> Result<Ran, NoMemory> {
     let mut moments = Items::new(alloc);
     moments.push(1_000_000_000)?;
     piped_at(
@@ -211,7 +223,7 @@ pub(crate) fn piped_over(alloc: Global, tables: Tables, input: &[u8]) -> Result<
 }
 
 /// Tables that keep nothing but this policy.
-pub(crate) fn tables_with(alloc: Global, policy: &str) -> Result<Tables, NoMemory> {
+pub fn tables_with(alloc: Global, policy: &str) -> Result<Tables, NoMemory> {
     let next = Counters {
         user: 1,
         key: 1,

@@ -12,8 +12,7 @@ use io_edge::MemoryClock;
 use net_rows::Tables;
 use run_ends::Status;
 use std::alloc::Global;
-use std::process::Abort;
-use tail_base::{Items, NoMemory, Text};
+use tail_base::{Items, NoMemory};
 
 /// What the program is given, and what it has to answer.
 #[derive(Drop)]
@@ -45,7 +44,7 @@ fn new_talk(alloc: Global) -> Result<Talk, NoMemory> {
 }
 
 /// What stands before the first space, and what stands behind it.
-pub(crate) fn cut(line: &str) -> (&str, &str) {
+pub fn cut(line: &str) -> (&str, &str) {
     match line.split_once(" ") {
         Some(parts) => parts,
         None => (line, ""),
@@ -226,25 +225,22 @@ fn is_held(alloc: Global, mut talk: Talk) -> Result<bool, NoMemory> {
     )
 }
 
-/// Asserts that the conversation of this name is held.
-fn assert_held(rt: &impl Abort, alloc: Global, name: &Text, talk: Talk) -> Result<(), NoMemory> {
-    assert!(rt; is_held(alloc, talk)?, "{}", name.as_str());
-    Ok(())
-}
-
-/// Asserts that each conversation of the table is held.
-pub(crate) fn assert_all_held(rt: &impl Abort, alloc: Global, table: &str) -> Result<(), NoMemory> {
-    let mut name = Text::new(alloc);
+/// The name of the first conversation of the table that isn't held; None if all are.
+pub fn first_not_held(alloc: Global, table: &str) -> Result<Option<String>, NoMemory> {
+    let mut name = String::new(alloc);
     let mut talk = new_talk(alloc)?;
     for line in table.lines() {
         match line.strip_prefix("= ") {
             Some(next) => {
-                assert_held(rt, alloc, &name, talk)?;
-                name = Text::from_str(alloc, next)?;
+                if !is_held(alloc, talk)? {
+                    return Ok(Some(name));
+                }
+                name = String::from_str(alloc, next)?;
                 talk = new_talk(alloc)?;
             }
             None => add_line(alloc, &mut talk, line)?,
         }
     }
-    assert_held(rt, alloc, &name, talk)
+    let held = is_held(alloc, talk)?;
+    Ok(if held { None } else { Some(name) })
 }

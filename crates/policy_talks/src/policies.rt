@@ -1,11 +1,10 @@
 //! Policies saved, refused and opened, and the tags that they let machines have.
-use crate::runs::{CALM, SETTINGS, piped, piped_over, tables_with};
-use crate::talks::assert_all_held;
 use run_ends::Status;
 use std::alloc::Global;
 use std::process::Abort;
 use std::test::Fail;
 use tail_base::NoMemory;
+use talk_runs::{CALM, SETTINGS, first_not_held, piped, piped_over, tables_with};
 
 /// What is kept of each save.
 const SAVES: &str = r#"= policy-none
@@ -233,19 +232,19 @@ fn save_of(alloc: Global, body: &[u8]) -> Result<Vec<u8>, NoMemory> {
 
 #[test]
 fn policies_are_saved(rt: HostRuntime) -> Result<(), Fail> {
-    assert_all_held(&rt, rt.alloc(), SAVES)?;
+    assert_eq!(rt; first_not_held(rt.alloc(), SAVES)?, None);
     Ok(())
 }
 
 #[test]
 fn policies_grant_tags(rt: HostRuntime) -> Result<(), Fail> {
-    assert_all_held(&rt, rt.alloc(), TAGS)?;
+    assert_eq!(rt; first_not_held(rt.alloc(), TAGS)?, None);
     Ok(())
 }
 
 #[test]
 fn kept_policies_are_in_force(rt: HostRuntime) -> Result<(), Fail> {
-    assert_all_held(&rt, rt.alloc(), KEPT)?;
+    assert_eq!(rt; first_not_held(rt.alloc(), KEPT)?, None);
     Ok(())
 }
 
@@ -283,7 +282,7 @@ fn kept_policies_are_opened(rt: HostRuntime) -> Result<(), Fail> {
 
 #[test]
 fn policies_are_tested(rt: HostRuntime) -> Result<(), Fail> {
-    assert_all_held(&rt, rt.alloc(), TESTS)?;
+    assert_eq!(rt; first_not_held(rt.alloc(), TESTS)?, None);
     Ok(())
 }
 
