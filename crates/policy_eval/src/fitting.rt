@@ -69,12 +69,7 @@ fn sites_behind<'a>(
 }
 
 /// Whether the sites are those of the machines that are live, place by place.
-fn are_sites_of(
-    tables: &Tables,
-    live: &IdList<'_>,
-    machines: &[Machine],
-    sites: &[Site],
-) -> bool
+fn are_sites_of(tables: &Tables, live: &IdList<'_>, machines: &[Machine], sites: &[Site]) -> bool
     ensures same { result ≡ true
         → sites.now ≡ live_sites tables.now.rows.users live.now machines.now }
 {

@@ -4,5 +4,5 @@
 mod runs;
 mod talks;
 
-pub use runs::{CALM, Plan, Ran, SETTINGS, piped, piped_at, piped_over, tables_with};
+pub use runs::{CALM, PipeRun, Plan, SETTINGS, piped, piped_at, piped_over, tables_with};
 pub use talks::{cut, first_not_held};

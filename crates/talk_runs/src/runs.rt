@@ -62,7 +62,7 @@ pub const CALM: Plan = Plan {
 
 /// What a run left.
 #[derive(Drop)]
-pub struct Ran {
+pub struct PipeRun {
     /// The status that the program ends with.
     pub status: Status,
     /// What it wrote.
@@ -110,7 +110,7 @@ pub fn piped(
     settings: &[u8],
     input: &[u8],
     plan: &Plan,
-) -> Result<Ran, NoMemory> {
+) -> Result<PipeRun, NoMemory> {
     let mut moments = Items::new(alloc);
     moments.push(1_000_000_000)?;
     let tables = Tables::empty(alloc);
@@ -172,7 +172,7 @@ fn stores_of(
 }
 
 /// The command, over these objects.
-fn run(alloc: Global, mut streams: Streams, mut stores: Stores) -> Ran {
+fn run(alloc: Global, mut streams: Streams, mut stores: Stores) -> PipeRun {
     let status = pipe_command(
         alloc,
         "tailnet.toml",
@@ -186,7 +186,7 @@ fn run(alloc: Global, mut streams: Streams, mut stores: Stores) -> Ran {
         &mut stores.entropy,
     );
     let machines = stores.opener.tables().machines().len();
-    Ran {
+    PipeRun {
         status,
         output: streams.output,
         errors: streams.errors,
@@ -202,14 +202,14 @@ pub fn piped_at(
     settings: &[u8],
     input: &[u8],
     plan: &Plan,
-) -> Result<Ran, NoMemory> {
+) -> Result<PipeRun, NoMemory> {
     let stores = stores_of(alloc, clock, tables, settings, plan)?;
     let streams = streams_of(alloc, input, plan)?;
     Ok(run(alloc, streams, stores))
 }
 
 /// The same over kept tables, at 2001-09-09T01:46:40Z.
-pub fn piped_over(alloc: Global, tables: Tables, input: &[u8]) -> Result<Ran, NoMemory> {
+pub fn piped_over(alloc: Global, tables: Tables, input: &[u8]) -> Result<PipeRun, NoMemory> {
     let mut moments = Items::new(alloc);
     moments.push(1_000_000_000)?;
     piped_at(
