@@ -86,16 +86,32 @@ fn mode(rt: &HostRuntime, name: &str) -> Result<u32, Fail> {
     Ok(fs::metadata(rt, name)?.mode() & 0o777)
 }
 
+/// Whether the file and its log are for their owner alone.
+fn are_private(rt: &HostRuntime) -> Result<bool, Fail> {
+    let file = mode(rt, FILE)?;
+    let log = mode(rt, LOG)?;
+    Ok(file == 0o600 && log == 0o600)
+}
+
+/// Whether what the log alone holds is there again, and both files are for their owner alone.
+fn is_kept_without_a_close(rt: &HostRuntime) -> Result<bool, Fail> {
+    keep_and_drop(rt, "{}")?;
+    Ok(are_private(rt)? && reads(rt, "{}")?)
+}
+
+/// Whether what was kept before a close is there without the log.
+fn is_kept_by_a_close(rt: &HostRuntime) -> Result<bool, Fail> {
+    keep_and_close(rt, "{\"acls\":[]}")?;
+    fs::remove_file(rt, LOG)?;
+    reads(rt, "{\"acls\":[]}")
+}
+
 #[test]
 fn what_was_kept_is_there_again(rt: HostRuntime) -> Result<(), Fail> {
     let _ = fs::remove_dir_all(&rt, FOLDER);
     fs::create_dir(&rt, FOLDER)?;
-    keep_and_drop(&rt, "{}")?;
-    assert!(rt; mode(&rt, FILE)? == 0o600 && mode(&rt, LOG)? == 0o600);
-    assert!(rt; reads(&rt, "{}")?);
-    keep_and_close(&rt, "{\"acls\":[]}")?;
-    fs::remove_file(&rt, LOG)?;
-    assert!(rt; reads(&rt, "{\"acls\":[]}")?);
+    assert!(rt; is_kept_without_a_close(&rt)?);
+    assert!(rt; is_kept_by_a_close(&rt)?);
     assert!(rt; has_one_opener(&rt)?);
     fs::remove_dir_all(&rt, FOLDER)?;
     Ok(())

@@ -22,18 +22,28 @@ const TEXT: &str = "store_cases_others/text.db";
 
 const ADDRESS: &str = "file:store_cases_others.db";
 
+/// Makes a folder anew.
+fn make_folder(rt: &HostRuntime, name: &str) -> Result<(), Fail> {
+    let _ = fs::remove_dir_all(rt, name);
+    fs::create_dir(rt, name)?;
+    Ok(())
+}
+
+/// Whether a text isn't opened, and stays as it is.
+fn is_text_left(rt: &HostRuntime) -> Result<bool, Fail> {
+    let words = b"a text of some length".as_slice();
+    fs::write(rt, TEXT, words)?;
+    let is_refused = fails(rt, TEXT);
+    Ok(is_refused && fs::read(rt, TEXT)?.as_slice() == words)
+}
+
 #[test]
 fn what_is_no_database_fails(rt: HostRuntime) -> Result<(), Fail> {
-    let _ = fs::remove_dir_all(&rt, FOLDER);
-    fs::create_dir(&rt, FOLDER)?;
-    let words = b"a text of some length".as_slice();
-    fs::write(&rt, TEXT, words)?;
-    assert!(rt; fails(&rt, TEXT));
-    assert!(rt; fs::read(&rt, TEXT)?.as_slice() == words);
+    make_folder(&rt, FOLDER)?;
+    assert!(rt; is_text_left(&rt)?);
     assert!(rt; fails(&rt, FOLDER));
     assert!(rt; fails(&rt, "store_cases_others/no/a.db"));
-    assert!(rt; fails(&rt, ADDRESS));
-    assert!(rt; fs::metadata(&rt, ADDRESS).is_err());
+    assert!(rt; fails(&rt, ADDRESS) && fs::metadata(&rt, ADDRESS).is_err());
     fs::remove_dir_all(&rt, FOLDER)?;
     Ok(())
 }
@@ -66,18 +76,24 @@ fn fault_of_notes(rt: &HostRuntime) -> Result<Option<LoadFault>, Fail> {
     Ok(fault)
 }
 
+/// Why the notes aren't loaded, and whether they stay as they are.
+fn fault_and_sameness(rt: &HostRuntime) -> Result<(Option<LoadFault>, bool), Fail> {
+    let before = fs::read(rt, NOTES)?;
+    let fault = fault_of_notes(rt)?;
+    let after = fs::read(rt, NOTES)?;
+    Ok((fault, before.as_slice() == after.as_slice()))
+}
+
 #[test]
 fn another_programs_database_stays(rt: HostRuntime) -> Result<(), Fail> {
-    let _ = fs::remove_dir_all(&rt, ANOTHER);
-    fs::create_dir(&rt, ANOTHER)?;
+    make_folder(&rt, ANOTHER)?;
     make_notes(&rt)?;
-    let before = fs::read(&rt, NOTES)?;
+    let (fault, is_same) = fault_and_sameness(&rt)?;
     let damaged = LoadFault::Damaged {
         kind: Kind::Meta,
         id: 0,
     };
-    assert!(rt; fault_of_notes(&rt)? == Some(damaged));
-    assert!(rt; fs::read(&rt, NOTES)?.as_slice() == before.as_slice());
+    assert!(rt; fault == Some(damaged) && is_same);
     fs::remove_dir_all(&rt, ANOTHER)?;
     Ok(())
 }

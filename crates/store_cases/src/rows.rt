@@ -2,7 +2,7 @@
 use crate::made::{made, run};
 use io_edge::EdgeFault;
 use keeper_sqlite::SqliteKeeper;
-use net_rows::{Change, Row, RowKey, Tables};
+use net_rows::{Change, Counters, Row, RowKey, Tables};
 use row_keeper::Keeper;
 use sqlite::{Connection, MemStore};
 use std::alloc::Global;
@@ -28,16 +28,14 @@ const ROWS: &str = "
     INSERT INTO policy VALUES (1, '{}');
 ";
 
-/// The tables by name.
-const TABLES: [&str; 7] = [
-    "SELECT * FROM meta",
-    "SELECT * FROM users",
-    "SELECT * FROM auth_keys",
-    "SELECT * FROM pending",
-    "SELECT * FROM machines",
-    "SELECT * FROM extras",
-    "SELECT * FROM policy",
-];
+/// A query for each of the tables.
+const TABLES: &str = "SELECT * FROM meta
+SELECT * FROM users
+SELECT * FROM auth_keys
+SELECT * FROM pending
+SELECT * FROM machines
+SELECT * FROM extras
+SELECT * FROM policy";
 
 /// Adds what puts the rows of these tables with ids.
 fn put_rows(alloc: Global, puts: &mut Items<Row>, tables: &Tables) -> Result<(), NoMemory> {
@@ -93,7 +91,43 @@ fn commit(alloc: Global, keeper: &mut SqliteKeeper<MemStore>, change: &Change) -
     }
 }
 
-/// A database to which these rows were committed, twice, so that each is added and then replaced.
+/// A database with these rows.
+fn with_rows(alloc: Global) -> Result<Connection<MemStore>, Fail> {
+    let mut conn = made(alloc)?;
+    run(&mut conn, ROWS)?;
+    Ok(conn)
+}
+
+/// Adds the rows of each table as a line.
+fn add_shown(alloc: Global, out: &mut String, conn: &mut Connection<MemStore>) -> Result<(), Fail> {
+    for table in TABLES.lines() {
+        let rows = shown(alloc, conn, table)?;
+        out.push_str(rows.as_str())?;
+        out.push_str("\n")?;
+    }
+    Ok(())
+}
+
+/// The tables of a database as a text.
+fn text_of(alloc: Global, mut conn: Connection<MemStore>) -> Result<String, Fail> {
+    let mut out = String::new(alloc);
+    add_shown(alloc, &mut out, &mut conn)?;
+    Ok(out)
+}
+
+fn first_text(alloc: Global) -> Result<String, Fail> {
+    let conn = with_rows(alloc)?;
+    text_of(alloc, conn)
+}
+
+/// The change that makes these rows of none.
+fn whole_change(alloc: Global) -> Result<Change, Fail> {
+    let mut keeper = SqliteKeeper::adopt(with_rows(alloc)?);
+    let tables = load(alloc, &mut keeper)?;
+    Ok(change_to(alloc, &tables)?)
+}
+
+/// A database to which the change was committed, twice, so that each row is added and then replaced.
 fn copied(alloc: Global, change: &Change) -> Result<Connection<MemStore>, Fail> {
     let mut keeper = SqliteKeeper::adopt(made(alloc)?);
     load(alloc, &mut keeper)?;
@@ -102,46 +136,74 @@ fn copied(alloc: Global, change: &Change) -> Result<Connection<MemStore>, Fail> 
     Ok(keeper.give_back())
 }
 
-#[test]
-fn what_is_read_is_written_the_same(rt: HostRuntime) -> Result<(), Fail> {
-    let alloc = rt.alloc();
-    let mut first = made(alloc)?;
-    run(&mut first, ROWS)?;
-    let mut keeper = SqliteKeeper::adopt(first);
-    let change = change_to(alloc, &load(alloc, &mut keeper)?)?;
-    let mut first = keeper.give_back();
-    let mut second = copied(alloc, &change)?;
-    for table in TABLES {
-        let written = shown(alloc, &mut second, table)?;
-        assert!(rt;
-            shown(alloc, &mut first, table)? == written,
-            "{table}: {written}"
-        );
-    }
-    Ok(())
+fn copied_text(alloc: Global) -> Result<String, Fail> {
+    let change = whole_change(alloc)?;
+    let conn = copied(alloc, &change)?;
+    text_of(alloc, conn)
 }
 
 #[test]
-fn gone_rows_go_and_a_change_before_a_load_fails(rt: HostRuntime) -> Result<(), Fail> {
-    let alloc = rt.alloc();
-    let mut first = made(alloc)?;
-    run(&mut first, ROWS)?;
-    let mut keeper = SqliteKeeper::adopt(first);
-    let mut change = Change {
-        puts: Items::new(alloc),
-        gone: Items::new(alloc),
-        next: Tables::empty(alloc).next(),
-    };
-    change.gone.push(RowKey::Key(2))?;
-    change.gone.push(RowKey::Pending(3))?;
-    change.gone.push(RowKey::Machine(4))?;
-    assert!(rt; keeper.commit(alloc, &change) == Err(EdgeFault::Failed));
-    let before = load(alloc, &mut keeper)?;
-    change.next = before.next();
-    commit(alloc, &mut keeper, &change)?;
+fn what_is_read_is_written_the_same(rt: HostRuntime) -> Result<(), Fail> {
+    let first = first_text(rt.alloc())?;
+    let copied = copied_text(rt.alloc())?;
+    assert_eq!(rt; copied.as_str(), first.as_str());
+    Ok(())
+}
+
+/// The change that removes the key, the waiting machine and the machine.
+fn removal(alloc: Global, next: Counters) -> Result<Change, NoMemory> {
+    let mut gone = Items::new(alloc);
+    gone.push(RowKey::Key(2))?;
+    gone.push(RowKey::Pending(3))?;
+    gone.push(RowKey::Machine(4))?;
+    let puts = Items::new(alloc);
+    Ok(Change { puts, gone, next })
+}
+
+/// How many users, keys, waiting machines and machines there are.
+fn counts(tables: &Tables) -> [usize; 4] {
+    [
+        tables.users().len(),
+        tables.keys().len(),
+        tables.pending().len(),
+        tables.machines().len(),
+    ]
+}
+
+/// Loads, and counts the rows.
+fn counted(alloc: Global, keeper: &mut SqliteKeeper<MemStore>) -> Result<[usize; 4], Fail> {
+    let tables = load(alloc, keeper)?;
+    Ok(counts(&tables))
+}
+
+/// The counts before and after the removal.
+fn counts_around_the_removal(alloc: Global) -> Result<([usize; 4], [usize; 4]), Fail> {
+    let mut keeper = SqliteKeeper::adopt(with_rows(alloc)?);
     let tables = load(alloc, &mut keeper)?;
-    assert!(rt; before.machines().len() == 1 && before.keys().len() == 1);
-    assert!(rt; tables.machines().is_empty() && tables.keys().is_empty());
-    assert!(rt; tables.pending().is_empty() && tables.users().len() == 1);
+    let change = removal(alloc, tables.next())?;
+    commit(alloc, &mut keeper, &change)?;
+    let after = counted(alloc, &mut keeper)?;
+    Ok((counts(&tables), after))
+}
+
+#[test]
+fn gone_rows_go(rt: HostRuntime) -> Result<(), Fail> {
+    let (before, after) = counts_around_the_removal(rt.alloc())?;
+    assert!(rt; before == [1, 1, 1, 1]);
+    assert!(rt; after == [1, 0, 0, 0]);
+    Ok(())
+}
+
+/// What a change before any load comes to.
+fn early_commit(alloc: Global) -> Result<Result<(), EdgeFault>, Fail> {
+    let mut keeper = SqliteKeeper::adopt(with_rows(alloc)?);
+    let change = removal(alloc, Tables::empty(alloc).next())?;
+    Ok(keeper.commit(alloc, &change))
+}
+
+#[test]
+fn a_change_before_a_load_fails(rt: HostRuntime) -> Result<(), Fail> {
+    let kept = early_commit(rt.alloc())?;
+    assert!(rt; kept == Err(EdgeFault::Failed));
     Ok(())
 }
