@@ -68,11 +68,6 @@ pub at_later : (f : SettingsFields) (t : Rows) (policy : Option Policy) (p : Lis
     → now ≡ later_of was m → state_with f t policy p was ≡ s → state_with f t policy p now ≡ at_moment s m
 at_later f t policy p was now m s later same = ap (λ n. state_with f t policy p n) later ∙ ap (λ (u : State). at_moment u m) same
 
--- what is decided while its policy is lent
-pub lent_decision : (f : SettingsFields) (t : Rows) (policy held : Option Policy) (p : List MachinePresence) (now : ℤ) (x : Ask) (words : Option (List ℕ)) (r : Result (Decision Answer) Refusal)
-    → policy ≡ held → decision (state_with f t policy p now) x words ≡ r → decision (state_with f t held p now) x words ≡ r
-lent_decision f t policy held p now x words r lent is = subst (λ (y : Option Policy). decision (state_with f t y p now) x words ≡ r) lent is
-
 pub carried_turn : (p q : Point) (x : Ask) (m : ℤ) (words : Option (List ℕ)) (d : Decision Answer) (reply : Reply)
     → IsShort x → decision (at_moment p.state m) x words ≡ Ok d → EachSound p.state.rows d.change
     → Carried (at_moment p.state m) d reply q.state p.keeping q.keeping → p.keeping.faults ≤ q.keeping.faults

@@ -215,9 +215,9 @@ impl<K: Keeper> Desk<K> {
         reply_of(kept, answer)
     }
 
-    /// Expands the policy over the machines that are live, unless it is so already. Contracts see no
-    /// change. Out of memory is told by what needs it.
-    fn expand(&mut self, alloc: Global)
+    /// Expands the policy over the machines that are live at the moment, unless it is so already.
+    /// Contracts see no change. Out of memory is told by what needs it.
+    fn expand(&mut self, alloc: Global, moment: Moment)
         ensures same { self.new ≡ self.old }
     {
         let at = Snapshot {
@@ -225,10 +225,40 @@ impl<K: Keeper> Desk<K> {
             tables: &self.tables,
             policy: &self.policy,
             presence: &self.presence,
-            time: self.time,
+            time: self.time.or_later(moment),
         };
         if let Ok(live) = live_ids(alloc, &at) {
             let _kept = self.policy.expand(alloc, &self.tables, live.as_slice());
+        }
+    }
+
+    /// The same, where the ask is one for a map.
+    fn expand_for(&mut self, alloc: Global, ask: &Ask, moment: Moment)
+        ensures same { self.new ≡ self.old }
+    {
+        if is_map(ask) {
+            self.expand(alloc, moment);
+        }
+    }
+
+    fn asked(&mut self, alloc: Global, ask: &Ask, moment: Moment, words: Option<[u64; 4]>) -> Reply
+        requires short { IsShort ask.now }
+        ensures turn { IsTurn (point_of K.told K.faults K.calls self.old) (event.Ask ask.now moment words) result
+            (point_of K.told K.faults K.calls self.new) }
+    {
+        self.time = self.time.or_later(moment);
+        let at = Snapshot {
+            settings: &self.settings,
+            tables: &self.tables,
+            policy: &self.policy,
+            presence: &self.presence,
+            time: self.time,
+        };
+        keep_rules(&at);
+        match decide(alloc, &at, ask, words) {
+            Ok(decision) => self.carry(alloc, decision),
+            Err(Failure::Fault(refusal)) => Reply::Refused(refusal),
+            Err(Failure::NoMemory) => Reply::Lost(Loss::NoMemory),
         }
     }
 
@@ -245,23 +275,8 @@ impl<K: Keeper> Desk<K> {
         ensures turn { IsTurn (point_of K.told K.faults K.calls self.old) (event.Ask ask.now moment words) result
             (point_of K.told K.faults K.calls self.new) }
     {
-        self.time = self.time.or_later(moment);
-        if is_map(ask) {
-            self.expand(alloc);
-        }
-        let at = Snapshot {
-            settings: &self.settings,
-            tables: &self.tables,
-            policy: &self.policy,
-            presence: &self.presence,
-            time: self.time,
-        };
-        keep_rules(&at);
-        match decide(alloc, &at, ask, words) {
-            Ok(decision) => self.carry(alloc, decision),
-            Err(Failure::Fault(refusal)) => Reply::Refused(refusal),
-            Err(Failure::NoMemory) => Reply::Lost(Loss::NoMemory),
-        }
+        self.expand_for(alloc, ask, moment);
+        self.asked(alloc, ask, moment, words)
     }
 
     /// The tables, which keep their rules.

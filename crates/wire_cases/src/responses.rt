@@ -97,22 +97,36 @@ fn full(alloc: Global) -> Result<Response, Fail> {
 
 /// The text of that response, a member a line.
 const FULL: &str =
-    "{\"DNSConfig\":{\"Domains\":[\"tail.example\"],\"ExtraRecords\":[{\"Name\":\"nas.tail.example\",\"Type\":\"A\",\"Value\":\"100.64.0.9\"},{\"Name\":\"six.tail.example\",\"Type\":\"AAAA\",\"Value\":\"fd7a:115c:a1e0::9\"}],\"Proxied\":true,\"Resolvers\":[{\"Addr\":\"1.1.1.1\"},{\"Addr\":\"2606:4700:4700::1111\"}],\"Routes\":{\"corp.example\":[{\"Addr\":\"fd00::53\"}],\"example.net\":[{\"Addr\":\"10.0.0.55\"}],\"example.org\":[{\"Addr\":\"10.0.0.53\"}]}},\
-    \"Domain\":\"tail.example\",\
-    \"MapSessionHandle\":\"s1\",\
-    \"PacketFilter\":[{\"DstPorts\":[{\"IP\":\"fd7a:115c:a1e0::2\",\"Ports\":{\"First\":22,\"Last\":22}}],\"IPProto\":[6],\"SrcIPs\":[\"10.0.0.0/8\",\"100.64.0.1\"]}],\
-    \"PeersChanged\":[{\"Addresses\":[\"100.64.0.1/32\",\"fd7a:115c:a1e0::1/128\"],\"AllowedIPs\":[\"::/0\"],\"Created\":\"2001-09-09T01:46:40Z\",\"DiscoKey\":\"discokey:0000000000000000000000000000000000000000000000000000000000000000\",\"Endpoints\":[],\"HomeDERP\":0,\"Hostinfo\":{\"Hostname\":\"no\\\"de\"},\"ID\":5,\"Key\":\"nodekey:a5a5a5a5a5a5a5a5a5a5a5a5a5a5a5a5a5a5a5a5a5a5a5a5a5a5a5a5a5a5a5a5\",\"KeyExpiry\":\"0001-01-01T00:00:00Z\",\"Machine\":\"mkey:1111111111111111111111111111111111111111111111111111111111111111\",\"MachineAuthorized\":true,\"Name\":\"node.tail.example.\",\"Online\":false,\"StableID\":\"n5\",\"Tags\":[],\"User\":2147483647}],\
-    \"PeersChangedPatch\":[{\"DERPRegion\":3,\"Endpoints\":[\"192.0.2.7:41641\",\"[fd00::1]:5\"],\"NodeID\":2,\"Online\":false}],\
-    \"PeersRemoved\":[4,6],\
-    \"Seq\":7,\
-    \"UserProfiles\":[{\"DisplayName\":\"Tagged Devices\",\"ID\":2147483647,\"LoginName\":\"tagged-devices\"}]}";
+    r#"{"DNSConfig":{"Domains":["tail.example"],"ExtraRecords":[{"Name":"nas.tail.example","Type":"A","Value":"100.64.0.9"},{"Name":"six.tail.example","Type":"AAAA","Value":"fd7a:115c:a1e0::9"}],"Proxied":true,"Resolvers":[{"Addr":"1.1.1.1"},{"Addr":"2606:4700:4700::1111"}],"Routes":{"corp.example":[{"Addr":"fd00::53"}],"example.net":[{"Addr":"10.0.0.55"}],"example.org":[{"Addr":"10.0.0.53"}]}},
+"Domain":"tail.example",
+"MapSessionHandle":"s1",
+"PacketFilter":[{"DstPorts":[{"IP":"fd7a:115c:a1e0::2","Ports":{"First":22,"Last":22}}],"IPProto":[6],"SrcIPs":["10.0.0.0/8","100.64.0.1"]}],
+"PeersChanged":[{"Addresses":["100.64.0.1/32","fd7a:115c:a1e0::1/128"],"AllowedIPs":["::/0"],"Created":"2001-09-09T01:46:40Z","DiscoKey":"discokey:0000000000000000000000000000000000000000000000000000000000000000","Endpoints":[],"HomeDERP":0,"Hostinfo":{"Hostname":"no\"de"},"ID":5,"Key":"nodekey:a5a5a5a5a5a5a5a5a5a5a5a5a5a5a5a5a5a5a5a5a5a5a5a5a5a5a5a5a5a5a5a5","KeyExpiry":"0001-01-01T00:00:00Z","Machine":"mkey:1111111111111111111111111111111111111111111111111111111111111111","MachineAuthorized":true,"Name":"node.tail.example.","Online":false,"StableID":"n5","Tags":[],"User":2147483647}],
+"PeersChangedPatch":[{"DERPRegion":3,"Endpoints":["192.0.2.7:41641","[fd00::1]:5"],"NodeID":2,"Online":false}],
+"PeersRemoved":[4,6],
+"Seq":7,
+"UserProfiles":[{"DisplayName":"Tagged Devices","ID":2147483647,"LoginName":"tagged-devices"}]}"#;
+
+/// The lines of a text, one behind the other.
+fn joined(alloc: Global, text: &str) -> Result<String, Fail> {
+    let mut out = String::new(alloc);
+    for line in text.lines() {
+        out.push_str(line)?;
+    }
+    Ok(out)
+}
+
+fn full_text(alloc: Global) -> Result<Text, Fail> {
+    let full = full(alloc)?;
+    let text = response_text(alloc, &full)?;
+    Ok(text)
+}
 
 #[test]
 fn a_whole_response(rt: HostRuntime) -> Result<(), Fail> {
-    let alloc = rt.alloc();
-    let full = full(alloc)?;
-    let made = response_text(alloc, &full)?;
-    assert_eq!(rt; made.as_str(), FULL);
+    let made = full_text(rt.alloc())?;
+    let wanted = joined(rt.alloc(), FULL)?;
+    assert_eq!(rt; made.as_str(), wanted.as_str());
     Ok(())
 }
 

@@ -1,15 +1,15 @@
 use Rattle.std.proofs.Common.{ap}
 use Rattle.tailnet_desk.specs.Seated.{Seated}
 use Rattle.tailnet_desk.proofs.Decisions.{decision_in_force, decision_sound}
-use Rattle.tailnet_desk.proofs.TurnLemmas.{at_later, carried_at, each_holds, each_of, lent_decision, state_with}
-use Rattle.tailnet_desk.proofs.desk.Desk.ask.Goals as goal
+use Rattle.tailnet_desk.proofs.TurnLemmas.{at_later, carried_at, each_holds, each_of, state_with}
+use Rattle.tailnet_desk.proofs.desk.Desk.asked.Goals as goal
 
 pub carry-requires : goal.carry-requires
 carry-requires g c =
     let desk = c.self.inside in
     let now = c.or_later-self-inside.result in
     let s = state_with desk.settings desk.tables.rows desk.policy desk.presence.0 now in
-    let is = lent_decision desk.settings desk.tables.rows _ desk.policy desk.presence.0 now c.args.ask.now c.args.words _ c.as_ref.ensures.value c.in-Ok.ensures.value in
+    let is = c.in-Ok.ensures.value in
     record {
       sound = each_holds s.rows c.in-Ok.decision.change
           (each_of s.rows _ c.in-Ok.decision is (decision_sound s c.args.ask.now c.args.words c.keep_rules.ensures.settings c.keep_rules.ensures.tables c.requires.short));
@@ -22,7 +22,7 @@ returns-in-Ok g c =
     let desk = c.self.inside in
     let now = c.or_later-self-inside.result in
     let s = state_with desk.settings desk.tables.rows desk.policy desk.presence.0 now in
-    let is = lent_decision desk.settings desk.tables.rows _ desk.policy desk.presence.0 now c.args.ask.now c.args.words _ c.as_ref.ensures.value c.in-Ok.ensures.value in
+    let is = c.in-Ok.ensures.value in
     let later = at_later desk.settings desk.tables.rows desk.policy desk.presence.0 desk.time now c.args.moment c.args.self.now.state
     c.or_later-self-inside.ensures.value (ap (λ (d : Seated _). d.state) c.self.view_is) in
     record {
