@@ -13,7 +13,9 @@ from bodies import (
     read_register,
     read_tags_form,
 )
+from grants import Grants
 from heads import HeadFault, refuse_head, values_of
+from policies import PolicyFault
 from tailnet import Refusal
 from texts import ZERO_KEY, key_of, moment_text
 
@@ -24,6 +26,7 @@ STATUSES = {
     "KeyExpired": 401,
     "KeyUsed": 401,
     "NotLive": 401,
+    "TagNotOwned": 403,
     "TagUndefined": 403,
     "UnknownUser": 404,
     "PendingUnknown": 404,
@@ -35,6 +38,9 @@ STATUSES = {
     "Full": 507,
     "AddressesSpent": 507,
 }
+
+# whose machines in maps the tagged ones are
+TAGGED = 2147483647
 
 ROUTES = [
     ("/machine/register", {"POST": "register"}),
@@ -49,6 +55,7 @@ ROUTES = [
     ("/api/v1/node/{id}/rename", {"POST": "rename"}),
     ("/api/v1/node/{id}/tags", {"POST": "set_tags"}),
     ("/api/v1/register", {"GET": "waiting", "POST": "admit"}),
+    ("/api/v1/policy", {"GET": "policy", "PUT": "save_policy"}),
     ("/api/v1/sweep", {"POST": "sweep"}),
 ]
 SEGMENTS = {"{login}": "(?P<login>[^/]+)", "{id}": "(?P<id>[1-9][0-9]{0,9})"}
@@ -93,6 +100,8 @@ class Front:
             return fault.status, json.dumps(fault.answer, separators=(",", ":")).encode()
         except BodyFault as fault:
             return 400, json.dumps(fault.answer, separators=(",", ":")).encode()
+        except PolicyFault as fault:
+            return 422, text_of(fault.answer)
         except Refusal as refusal:
             # (a key or a machine that nobody knows: of the machine that asks, or of an operator's path)
             status = STATUSES.get(refusal.error) or (401 if request["path"].startswith("/machine/") else 404)
@@ -157,9 +166,11 @@ class Front:
         return [{"Addr": address} for address in addresses]
 
     def whole_map(self, row):
-        """Without a policy every live machine is a peer of every other, and all may send to it."""
-        peers = [other for other in self.tailnet.machines.values() if other is not row and self.tailnet.is_live(other)]
-        ports = {"First": 0, "Last": 65535}
+        """What the policy in force lets the machine see, and whom it lets in."""
+        tailnet = self.tailnet
+        live = [other for other in tailnet.machines.values() if tailnet.is_live(other)]
+        grants = Grants(tailnet.policy, live, lambda other: tailnet.users[other.user].login)
+        peers = [other for other in live if grants.sees(row, other)]
         routes = self.settings.get("dns.routes", {})
         whole = {
             "DNSConfig": {
@@ -171,14 +182,8 @@ class Front:
             },
             "Domain": self.settings["base_domain"],
             "Node": self.node(row),
-            "PacketFilter": [
-                {
-                    "DstPorts": [{"IP": str(address), "Ports": ports} for address in (row.v4, row.v6)],
-                    "IPProto": [1, 6, 17, 58],
-                    "SrcIPs": ["*"],
-                }
-            ],
-            "UserProfiles": [self.profile(user) for user in sorted({other.user for other in [row, *peers]})],
+            "PacketFilter": grants.filter_of(row),
+            "UserProfiles": [self.profile(user) for user in sorted({self.owner(other) for other in [row, *peers]})],
         }
         return {**whole, "Peers": [self.node(peer) for peer in peers]} if peers else whole
 
@@ -201,10 +206,16 @@ class Front:
             "Online": False,
             "StableID": f"n{row.id}",
             "Tags": row.tags,
-            "User": row.user,
+            "User": self.owner(row),
         }
 
+    def owner(self, row):
+        """In maps a tagged machine isn't its user's."""
+        return TAGGED if row.tags else row.user
+
     def profile(self, user):
+        if user == TAGGED:
+            return {"DisplayName": "Tagged Devices", "ID": TAGGED, "LoginName": "tagged-devices"}
         login = self.tailnet.users[user].login
         return {"DisplayName": login.partition("@")[0], "ID": user, "LoginName": login}
 
@@ -295,6 +306,17 @@ class Front:
     def admit(self, _, body):
         form = read_admit_form(body)
         return self.node_line(self.at_once().admit(form["text"], form["login"]))
+
+    def policy(self, _, body):
+        return self.at_once().policy_text or b"{}"
+
+    def save_policy(self, _, body):
+        try:
+            body.decode("utf-8")
+        except ValueError:
+            raise BodyFault("NotJson") from None
+        self.at_once().save_policy(body)
+        return {}
 
     def sweep(self, _, body):
         object_of(body)

@@ -3,6 +3,8 @@
 import ipaddress
 from dataclasses import dataclass, field
 
+from granting import first_failure
+from policies import PolicyFault, served_policy
 from texts import LAST_MOMENT, ZERO_KEY, clamped, is_label, label_of_host, login_of, numbered
 
 COUNTER_LIMIT = 2147483647
@@ -69,13 +71,15 @@ class Machine:
 
 
 class Tailnet:
-    """Rows by id, the time, and the settings. No machine is ever online, as there are no polls yet."""
+    """Rows by id, the policy, the time, and the settings. No machine is ever online, as there are no polls yet."""
 
     def __init__(self, settings, moment):
         self.settings = settings
         self.now = clamped(moment)
         self.users, self.keys, self.pending, self.machines = {}, {}, {}, {}
         self.next = dict.fromkeys(LIMITS, 1)
+        # the policy in force and its text, from the first save on
+        self.policy, self.policy_text = None, None
 
     def come_to(self, moment):
         self.now = max(self.now, clamped(moment))
@@ -196,6 +200,14 @@ class Tailnet:
         if any(row.node == node and row.machine != key for row in self.machines.values()):
             raise Refusal("NodeKeyTaken")
 
+    def refuse_tags(self, tags, user=None):
+        """Each tag has to be defined, and, where a user requests them, to be that user's."""
+        for tag in tags:
+            if self.policy is None or tag not in self.policy.tags:
+                raise Refusal("TagUndefined")
+            if user and not self.policy.owns(tag, user.login):
+                raise Refusal("TagNotOwned")
+
     def register_by_key(self, machine, form):
         key = next((key for key in self.keys.values() if key.text == form["auth"]), None)
         if key is None:
@@ -204,8 +216,7 @@ class Tailnet:
             raise Refusal("KeyExpired")
         if key.used and not key.reusable:
             raise Refusal("KeyUsed")
-        if form["tags"]:
-            raise Refusal("TagUndefined")
+        self.refuse_tags(form["tags"], self.users[key.user])
         row = self.enter(machine, key.user, form, key.tags + form["tags"], key.ephemeral or form["ephemeral"])
         key.used = True
         return self.users[row.user], row.expiry is not None and row.expiry <= self.now
@@ -261,13 +272,12 @@ class Tailnet:
 
     def add_key(self, form, words):
         user = self.user_named(form["login"])
-        if form["tags"]:
-            raise Refusal("TagUndefined")
+        self.refuse_tags(form["tags"])
         id = self.take_id("Key")
         if words is None:
             raise Refusal("EntropyFault")
         text = f"tnkey-{id}-" + "".join(f"{word:016x}" for word in words)
-        key = Key(id, text, user.id, form["reusable"], form["ephemeral"], form["expiry"])
+        key = Key(id, text, user.id, form["reusable"], form["ephemeral"], form["expiry"], tags=form["tags"])
         self.put("Key", self.keys, key)
         return key
 
@@ -284,8 +294,7 @@ class Tailnet:
             raise Refusal("PendingUnknown")
         user, form = self.user_named(login), entry.form
         self.refuse_taken(entry.machine, form["node"])
-        if form["tags"]:
-            raise Refusal("TagUndefined")
+        self.refuse_tags(form["tags"], user)
         return self.enter(entry.machine, user.id, form, form["tags"], form["ephemeral"])
 
     def expire_node(self, id, expiry):
@@ -304,10 +313,17 @@ class Tailnet:
 
     def set_tags(self, id, tags):
         row = self.machine_with(id)
-        if tags:
-            raise Refusal("TagUndefined")
-        row.tags = []
+        self.refuse_tags(tags)
+        row.tags = sorted(set(tags))
         return row
+
+    def save_policy(self, text):
+        policy = served_policy(text)
+        live = [row for row in self.machines.values() if self.is_live(row)]
+        failure = first_failure(policy, [((row.v4, row.v6), self.users[row.user].login, tuple(row.tags)) for row in live])
+        if failure:
+            raise PolicyFault(21, failure)
+        self.policy, self.policy_text = policy, text
 
     def drop_node(self, id):
         del self.machines[self.machine_with(id).id]

@@ -37,9 +37,35 @@ IDS = ["0", "01", "2147483647", "2147483648", "x", "-1", "1x", "99999999999", "+
 BODIES = [
     b"", b"[]", b"{", b"null", b'"x"', b'{"a":1}x', b"\xff", b'{"NodeKey":"\xff"}', b'{"name":"a","name":"dup"}', b'{"user":-0}',
 ]
+POLICIES = [
+    '{"tagOwners": {"tag:web": ["ann@", "seed@"], "tag:Db-1": ["group:dev"], "tag:a": []}, "groups": {"group:dev": ["ANN@", "bob@example.org"]}}',
+    '{"tagOwners": {"tag:web": ["group:all",]}, /* all */ "groups": {"group:all": ["ann@", "seed@", "bob@example.org"]}} // so far',
+    '{"tagOwners": {"tag:a": ["seed@"], "tag:web": ["seed@"], "tag:Db-1": ["seed@"]}}', "{}", '{"hosts": {"lab": "192.168.5.0/24"}}',
+    '{"tagOwners": {"tag:web": ["seed@"]}, "tests": [{"src": "ann@", "accept": ["tag:web:443", "seed@:22"], "deny": []}]}',
+]
+# whether these are kept depends on the machines that are live
+TESTED = [
+    '{"acls": [{"action": "accept", "src": ["seed@"], "dst": ["100.64.0.0/30:22"]}], "tests": [{"src": "seed@", "deny": ["seed@:22", "ann@:22"]}]}',
+    '{"acls": [{"action": "accept", "src": ["100.64.0.2"], "dst": ["*:*"]}], "tests": [{"src": "ann@", "proto": "icmp", "deny": ["100.64.0.1:1"]}]}',
+    '{"acls": [{"action": "accept", "src": ["*"], "dst": ["autogroup:self:*"]}], "tests": [{"src": "100.64.0.1", "accept": ["seed@:22"]}]}',
+    '{"tagOwners": {"tag:web": []}, "acls": [{"action": "accept", "src": ["seed@"], "dst": ["tag:web:80-90"]}], "tests": '
+    '[{"src": "seed@", "accept": ["tag:web:80"], "deny": ["tag:web:443"]}, {"src": "100.64.0.1", "deny": ["tag:web:85"]}]}',
+    '{"acls": [], "tests": [{"src": "ann@", "deny": ["seed@:22"], "accept": ["ann@:22"]}]}',
+]
+NO_POLICIES = [
+    "", "[,]", "/* open", '{"tagOwners": {"tag:1": []}}', '{"tagOwners": {"tag:a": ["group:x"]}}', '{"tests": [{"src": "*"}]}',
+    '{"autoApprovers": {"exitNode": ["ann@"]}}', '{"a\\"b": 1}', '{"groups": {"group:a": ["ann"]}}', "null", "\ufeff{}",
+]
+SOURCES = [
+    "*", "ann@", "BOB@example.org", "seed@", "eve@", "group:dev", "group:none", "tag:web", "tag:Db-1", "autogroup:member",
+    "autogroup:tagged", "100.64.0.0/10", "100.64.0.1", "100.64.0.2", "[fd7a:115c:a1e0::2]", "fd7a:115c:a1e0::/125", "lab", "one",
+    "10.0.0.0/8", "0.0.0.0/0", "::/0",
+]
+DESTS = SOURCES + ["autogroup:self", "autogroup:self", "autogroup:internet"]
+PORTS = ["*", "*", "22", "80-90,85-100", "443,22", "1-2,3-4,6", "0-65535"]
 STRAY = [
     ("GET", "/"), ("GET", "/machine/map"), ("PUT", "/machine/map"), ("POST", "/machine/map/"), ("GET", "/api/v1/node/1"),
-    ("GET", "/api/v1/policy"), ("POST", "/api/v1/node/1/routes"), ("GET", "/api/v1/dns"), ("DELETE", "/api/v1/user/"),
+    ("POST", "/api/v1/policy"), ("POST", "/api/v1/node/1/routes"), ("GET", "/api/v1/dns"), ("DELETE", "/api/v1/user/"),
     ("PATCH", "/api/v1/user"), ("GET", "/api/v1/user?x=1"), ("post", "/api/v1/sweep"), ("GET", "//api/v1/user"),
     ("GET", "/api/v1/user/"), ("DELETE", "/api/v1/node/0"), ("GET", "/api/v1/node/01"), ("GET", "/api/v1/node/1/"),
 ]
@@ -144,6 +170,13 @@ class Talk:
             machine, body["NodeKey"] = "mkey:" + held.machine, "nodekey:" + held.node
         return "POST", "/machine/map", machine, body
 
+    def whole_map(self):
+        """A sound request for a map, once there is a machine."""
+        held = self.one_of(self.tailnet.machines.values(), [] if self.tailnet.machines else [None])
+        if held is None:
+            return self.register()
+        return "POST", "/machine/map", "mkey:" + held.machine, {"NodeKey": "nodekey:" + held.node, "ReadOnly": True}
+
     def id(self, rows):
         return self.one_of(IDS if self.once_in(10) else [], [str(id) for id in rows], ["1"])
 
@@ -194,6 +227,33 @@ class Talk:
             ("POST", "/api/v1/sweep", None, {}),
         ])
 
+    def rule(self):
+        proto = self.one_of([None, None, None, "tcp", 17, "icmp", "132", 255])
+        ports = PORTS if proto in (None, "tcp", 17, "132") else ["*"]
+        return {
+            "action": "accept",
+            **({} if proto is None else {"proto": proto}),
+            "src": [self.one_of(SOURCES) for _ in range(self.one_of([0, 1, 1, 1, 2, 3]))],
+            "dst": [f"{self.one_of(DESTS)}:{self.one_of(ports)}" for _ in range(self.one_of([0, 1, 1, 1, 2, 3]))],
+        }
+
+    def rules(self):
+        """A policy with rules."""
+        return json.dumps({
+            "groups": {"group:dev": ["ann@", "bob@example.org"], "group:none": []},
+            "hosts": {"lab": "100.64.0.0/30", "one": "fd7a:115c:a1e0::1"},
+            "tagOwners": {"tag:web": ["group:dev", "seed@"], "tag:Db-1": ["seed@"], "tag:a": []},
+            "acls": [self.rule() for _ in range(self.one_of([0, 1, 1, 2, 3, 4]))],
+        })
+
+    def policy(self):
+        text = self.one_of(2 * POLICIES + TESTED, NO_POLICIES) if self.once_in(2) else self.rules()
+        return self.one_of([
+            ("GET", "/api/v1/policy", None, None),
+            ("PUT", "/api/v1/policy", None, text.encode()),
+            ("PUT", "/api/v1/policy", None, text.encode()),
+        ])
+
     def stray(self):
         method, path = self.one_of(STRAY)
         return method, path, self.key("mkey:", "12345"), {} if method in ("POST", "PUT") else None
@@ -241,10 +301,10 @@ class Talk:
         return fields
 
     def request(self):
-        draws = 10 * [self.register] + 5 * [self.map] + 3 * [self.node] + [self.user, self.pre_auth_key, self.waiting]
+        draws = 10 * [self.register] + 5 * [self.map] + 5 * [self.whole_map] + 3 * [self.node] + 2 * [self.policy] + [self.user, self.pre_auth_key, self.waiting]
         draw = self.stray if self.once_in(40) else self.random.choice(draws)
         method, path, machine, body = draw()
-        body = b"" if body is None else json.dumps(body, ensure_ascii=self.once_in(2)).encode()
+        body = b"" if body is None else body if isinstance(body, bytes) else json.dumps(body, ensure_ascii=self.once_in(2)).encode()
         if self.once_in(80) and method == "POST":
             body = self.one_of(BODIES, [body + b" "])
         return {

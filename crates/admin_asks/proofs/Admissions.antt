@@ -13,9 +13,10 @@ use Rattle.net_rows.specs.Sound.{AreSound}
 use Rattle.net_rows.specs.declared.pending.Pending.{Pending}
 use Rattle.net_rows.specs.declared.user.User.{User}
 use Rattle.net_rows.proofs.Members.{find_member}
-use Rattle.desk_state.specs.Decisions.{IsSound}
+use Rattle.desk_state.specs.Decisions.{IsPlain}
 use Rattle.desk_state.specs.State.{State, is_overdue}
-use Rattle.desk_state.specs.Users.{tags_granted, user_named}
+use Rattle.desk_state.specs.Tags.{tags_granted}
+use Rattle.desk_state.specs.Users.{user_named}
 use Rattle.desk_state.specs.declared.refusal.Refusal.TheVariants.{NodeKeyTaken, PendingUnknown}
 use Rattle.desk_state.proofs.Proper.{proper_bind, proper_refuse, proper_some}
 use Rattle.machine_rows.specs.Rows.{is_taken, machine_row, place_for, row_change}
@@ -45,7 +46,7 @@ entrant_keeps s p u sound inside user =
       tags = omega (arith, entry.tags, length-sorted_once (slice_cmp nat_cmp) p.tags);
     }
 
-pub admit_proper : (s : State) (pending login : List ℕ) → AreSettings s.settings → AreSound s.rows → IsSound s.rows (admit s pending login)
+pub admit_proper : (s : State) (pending login : List ℕ) → AreSettings s.settings → AreSound s.rows → IsPlain s.rows (admit s pending login)
 admit_proper s pending login hold sound =
     let t = s.rows in
     proper_bind t (timely_entry s pending) _ (λ (p : Pending) found.
@@ -57,7 +58,7 @@ admit_proper s pending login hold sound =
     proper_bind t (tags_granted s u.id p.tags) _ (λ _ _.
     proper_bind t (place_for s p.host held) _ (λ (place : Place) placed.
     let row = machine_row p.machine entrant place in
-    proper_some t (admission s p row place.next) (row_change t row place.next None (Some p)) refl
+    proper_some t (admission s p row place.next) (row_change t row place.next None (Some p)) refl refl refl
     (enter_change s p.machine entrant p.host held place None (Some p) hold sound refl free
     (entrant_keeps s p u sound inside (user_there t login u named)) placed tt
     (admitted_differs t row place.next None p sound inside)))))))

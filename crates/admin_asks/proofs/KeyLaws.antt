@@ -14,9 +14,10 @@ use Rattle.net_rows.specs.declared.rows.Rows.{Rows}
 use Rattle.net_rows.specs.declared.user.User.{User}
 use Rattle.net_rows.proofs.RowAt.{row_at_is}
 use Rattle.net_rows.proofs.SoundPut.{sound_key}
-use Rattle.desk_state.specs.Decisions.{IsSound}
+use Rattle.desk_state.specs.Decisions.{IsPlain}
 use Rattle.desk_state.specs.State.{State, is_ahead}
-use Rattle.desk_state.specs.Users.{user_named, tags_defined}
+use Rattle.desk_state.specs.Tags.{tags_defined}
+use Rattle.desk_state.specs.Users.{user_named}
 use Rattle.desk_state.specs.declared.key_form.KeyForm.{KeyForm}
 use Rattle.desk_state.specs.declared.refusal.Refusal.TheVariants.{Full, EntropyFault, KeyUnknown}
 use Rattle.desk_state.specs.declared.refusal.Scarce.TheVariants as scarce
@@ -47,7 +48,7 @@ key_added t form user words sound short inside room =
 added_differs : (t : Rows) (k : AuthKey) → after t (key_change t k) ≢ t
 added_differs t k e = let n : t.next.key + 1 ≡ t.next.key = ap (λ (u : Rows). u.next.key) e in absurd (omega (arith, n))
 
-pub add_key_proper : (s : State) (form : KeyForm) (words : Option (List ℕ)) → AreSound s.rows → length form.tags ≤ ASKED_TAG_LIMIT → IsSound s.rows (add_key s form words)
+pub add_key_proper : (s : State) (form : KeyForm) (words : Option (List ℕ)) → AreSound s.rows → length form.tags ≤ ASKED_TAG_LIMIT → IsPlain s.rows (add_key s form words)
 add_key_proper s form words sound short =
     let t = s.rows in
     proper_bind t (user_named t form.login) _ (λ (user : User) named.
@@ -55,7 +56,7 @@ add_key_proper s form words sound short =
     proper_refuse t (not (has_room t kind.Key)) (Full scarce.Key) _ (λ room.
     proper_or t EntropyFault words _ (λ (drawn : List ℕ) _.
     let key : AuthKey = new_key t form user.id drawn in
-    proper_some t (added_key t key) (key_change t key) refl
+    proper_some t (added_key t key) (key_change t key) refl refl refl
     (sound_change t _ (key_added t form user drawn sound short (user_there t form.login user named) (not-false _ room)) (added_differs t key)
     (record { user = omega arith; key = omega arith; pending = omega arith; machine = omega arith }))))))
 
@@ -85,12 +86,12 @@ expired_differs s k sound inside ahead e =
     let same : put ≡ k = cc in
     not_ahead s.now (subst (λ (x : Option ℤ). is_ahead s.now x ≡ true) (sym (ap (λ (x : AuthKey). x.expiry) same)) ahead)
 
-pub expire_key_proper : (s : State) (id : ℕ) → AreSound s.rows → IsSound s.rows (expire_key s id)
+pub expire_key_proper : (s : State) (id : ℕ) → AreSound s.rows → IsPlain s.rows (expire_key s id)
 expire_key_proper s id sound =
     let t = s.rows in
     proper_or t KeyUnknown (key_with t.keys id) _ (λ (key : AuthKey) found.
     let inside = row_there (λ (k : AuthKey). k.id) t.keys id key found in
     proper_choice t (is_ahead s.now key.expiry) _ _ (λ ahead.
-    proper_some t _ (expiry_change s key) refl
+    proper_some t _ (expiry_change s key) refl refl refl
     (sound_change t _ (key_expired s key sound inside) (expired_differs s key sound inside ahead) (same_counters t.next)))
-    (λ _. proper_none t _ refl))
+    (λ _. proper_none t _ refl refl))

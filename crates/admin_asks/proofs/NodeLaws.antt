@@ -19,9 +19,9 @@ use Rattle.net_rows.specs.declared.machine.Machine.{Machine}
 use Rattle.net_rows.specs.declared.rows.Rows.{Rows}
 use Rattle.net_rows.proofs.Members.{list_any_member}
 use Rattle.desk_state.specs.Changes.{machine_gone}
-use Rattle.desk_state.specs.Decisions.{IsSound}
+use Rattle.desk_state.specs.Decisions.{IsPlain}
 use Rattle.desk_state.specs.State.{State}
-use Rattle.desk_state.specs.Users.{tags_defined}
+use Rattle.desk_state.specs.Tags.{tags_defined}
 use Rattle.desk_state.specs.declared.refusal.Refusal.TheVariants.{UnknownMachine, BadName, NameTaken}
 use Rattle.desk_state.proofs.Proper.{proper_bind, proper_choice, proper_none, proper_or, proper_refuse, proper_some, same_counters, sound_change}
 use Rattle.machine_rows.specs.Rows.{row_replaced}
@@ -62,11 +62,11 @@ fits_with t m name tags expiry sound inside own short =
 -- a row that differs is put in a machine's place
 changed_proper : (s : State) (m : Machine) (name : List ℕ) (tags : List (List ℕ)) (expiry : Option ℤ) → AreSound s.rows → Contains s.rows.machines m
     → IsOwn (λ r. r.id) (λ r. r.name) s.rows.machines (row_with m name tags expiry) → length tags ≤ TAG_LIMIT
-    → row_with m name tags expiry ≢ m → IsSound s.rows (Ok (changed_node s (row_with m name tags expiry)))
+    → row_with m name tags expiry ≢ m → IsPlain s.rows (Ok (changed_node s (row_with m name tags expiry)))
 changed_proper s m name tags expiry sound inside own short apart =
     let t = s.rows in
     let r : Machine = row_with m name tags expiry in
-    proper_some t (changed_node s r) (row_replaced t r) refl
+    proper_some t (changed_node s r) (row_replaced t r) refl refl refl
     (sound_change t (row_replaced t r)
     (row_sound t r t.next.machine None None sound (fits_with t m name tags expiry sound inside own short)
     (sound.machines.ids m inside).1 (omega arith) sound.counters.machine.1 tt)
@@ -77,14 +77,14 @@ own_name : (t : Rows) (m : Machine) → AreSound t → Contains t.machines m →
 own_name t m sound inside a within e = sound.machines.names a m within inside e
 
 -- another expiry
-expired_proper : (s : State) (m : Machine) (end : ℤ) → AreSound s.rows → Contains s.rows.machines m → IsSound s.rows (Ok (expired_node s m end))
+expired_proper : (s : State) (m : Machine) (end : ℤ) → AreSound s.rows → Contains s.rows.machines m → IsPlain s.rows (Ok (expired_node s m end))
 expired_proper s m end sound inside =
-    proper_choice s.rows (ends_at m.expiry end) _ _ (λ _. proper_none s.rows (same_node s m) refl) (λ other.
+    proper_choice s.rows (ends_at m.expiry end) _ _ (λ _. proper_none s.rows (same_node s m) refl refl) (λ other.
     changed_proper s m m.name m.tags (Some end) sound inside (own_name s.rows m sound inside) (sound.machines.keeps m inside).tags (λ e.
     both_ways (ends_at m.expiry end) other
     (subst (λ (x : Option ℤ). ends_at x end ≡ true) (ap (λ (x : Machine). x.expiry) e) ((Decides-int_eq end end).1 refl))))
 
-pub expire_node_proper : (s : State) (id : ℕ) (expiry : Option ℤ) → AreSound s.rows → IsSound s.rows (expire_node s id expiry)
+pub expire_node_proper : (s : State) (id : ℕ) (expiry : Option ℤ) → AreSound s.rows → IsPlain s.rows (expire_node s id expiry)
 expire_node_proper s id expiry sound =
     proper_or s.rows UnknownMachine (machine_with s.rows.machines id) _ (λ (m : Machine) found.
     expired_proper s m (unwrap_or expiry s.now) sound (row_there (λ (x : Machine). x.id) s.rows.machines id m found))
@@ -102,13 +102,13 @@ name_free t m name free a within e =
 
 -- another name
 renamed_proper : (s : State) (m : Machine) (name : List ℕ) → AreSound s.rows → Contains s.rows.machines m → is_name_taken s.rows.machines m.id name ≡ false
-    → IsSound s.rows (Ok (renamed_node s m name))
+    → IsPlain s.rows (Ok (renamed_node s m name))
 renamed_proper s m name sound inside free =
-    proper_choice s.rows (bytes_eq m.name name) _ _ (λ _. proper_none s.rows (same_node s m) refl) (λ other.
+    proper_choice s.rows (bytes_eq m.name name) _ _ (λ _. proper_none s.rows (same_node s m) refl refl) (λ other.
     changed_proper s m name m.tags m.expiry sound inside (name_free s.rows m name free) (sound.machines.keeps m inside).tags (λ e.
     both_ways (bytes_eq m.name name) other (bytes_eq-from m.name name (sym (ap (λ (x : Machine). x.name) e)))))
 
-pub rename_proper : (s : State) (id : ℕ) (name : List ℕ) → AreSound s.rows → IsSound s.rows (rename s id name)
+pub rename_proper : (s : State) (id : ℕ) (name : List ℕ) → AreSound s.rows → IsPlain s.rows (rename s id name)
 rename_proper s id name sound =
     let t = s.rows in
     proper_or t UnknownMachine (machine_with t.machines id) _ (λ (m : Machine) found.
@@ -118,14 +118,14 @@ rename_proper s id name sound =
 
 -- other tags
 tagged_proper : (s : State) (m : Machine) (tags : List (List ℕ)) → AreSound s.rows → Contains s.rows.machines m → length tags ≤ TAG_LIMIT
-    → IsSound s.rows (Ok (tagged_node s m tags))
+    → IsPlain s.rows (Ok (tagged_node s m tags))
 tagged_proper s m tags sound inside short =
-    proper_choice s.rows (pointwise bytes_eq m.tags tags) _ _ (λ _. proper_none s.rows (same_node s m) refl) (λ other.
+    proper_choice s.rows (pointwise bytes_eq m.tags tags) _ _ (λ _. proper_none s.rows (same_node s m) refl refl) (λ other.
     changed_proper s m m.name tags m.expiry sound inside (own_name s.rows m sound inside) short (λ e.
     both_ways (pointwise bytes_eq m.tags tags) other
     ((slice_eq-Decides bytes_eq-Decides m.tags tags _ refl).1 (sym (ap (λ (x : Machine). x.tags) e)))))
 
-pub set_tags_proper : (s : State) (id : ℕ) (tags : List (List ℕ)) → AreSound s.rows → length tags ≤ TAG_LIMIT → IsSound s.rows (set_tags s id tags)
+pub set_tags_proper : (s : State) (id : ℕ) (tags : List (List ℕ)) → AreSound s.rows → length tags ≤ TAG_LIMIT → IsPlain s.rows (set_tags s id tags)
 set_tags_proper s id tags sound short =
     let t = s.rows in
     proper_or t UnknownMachine (machine_with t.machines id) _ (λ (m : Machine) found.
@@ -133,9 +133,9 @@ set_tags_proper s id tags sound short =
     tagged_proper s m (sorted_once (slice_cmp nat_cmp) tags) sound (row_there (λ (x : Machine). x.id) t.machines id m found)
     (omega (arith, short, length-sorted_once (slice_cmp nat_cmp) tags))))
 
-pub drop_node_proper : (s : State) (id : ℕ) → AreSound s.rows → IsSound s.rows (drop_node s id)
+pub drop_node_proper : (s : State) (id : ℕ) → AreSound s.rows → IsPlain s.rows (drop_node s id)
 drop_node_proper s id sound =
     let t = s.rows in
     proper_or t UnknownMachine (machine_with t.machines id) _ (λ (m : Machine) found.
-    proper_some t _ (machine_gone t m.id) refl
+    proper_some t _ (machine_gone t m.id) refl refl refl
     (gone_change t m sound (row_there (λ (x : Machine). x.id) t.machines id m found)))

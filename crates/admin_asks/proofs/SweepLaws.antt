@@ -15,7 +15,7 @@ use Rattle.net_rows.proofs.Members.{cut_member, no_member}
 use Rattle.net_rows.proofs.RemoveLemmas.{without_member}
 use Rattle.net_rows.proofs.SoundGone.{is_unnamed, sound_take_all_out, take_all_out-append}
 use Rattle.net_rows.proofs.Sounds.{sound_of}
-use Rattle.desk_state.specs.Decisions.{IsSound}
+use Rattle.desk_state.specs.Decisions.{IsPlain}
 use Rattle.desk_state.specs.State.{State, is_overdue}
 use Rattle.desk_state.proofs.Proper.{proper_choice, proper_none, proper_some, same_counters, sound_change}
 use Rattle.admin_asks.specs.Sweep.{is_lost, lost_machines, overdue_entries, sweep_change, sweep}
@@ -93,13 +93,13 @@ swept_differs s some e =
       ]
     ]
 
-pub sweep_proper : (s : State) → AreSound s.rows → IsSound s.rows (sweep s)
+pub sweep_proper : (s : State) → AreSound s.rows → IsPlain s.rows (sweep s)
 sweep_proper s sound =
     let t = s.rows in
     let ms = lost_machines s t.machines in
     let ps = overdue_entries s t.pending in
-    proper_choice t (length ms + length ps == 0) _ _ (λ _. proper_none t _ refl) (λ some.
-    proper_some t _ (sweep_change t ms ps) refl
+    proper_choice t (length ms + length ps == 0) _ _ (λ _. proper_none t _ refl refl) (λ some.
+    proper_some t _ (sweep_change t ms ps) refl refl refl
     (sound_change t _ (both_gone t ms ps (chosen_unnamed (is_lost s) (λ (m : Machine). key.Machine m.id) (λ m. refl) t.machines)
     (chosen_unnamed (is_overdue s) (λ (p : Pending). key.Pending p.id) (λ p. refl) t.pending) sound)
     (swept_differs s some) (same_counters t.next)))

@@ -21,7 +21,7 @@ use Rattle.net_rows.proofs.RemoveLemmas.{without_member}
 use Rattle.net_rows.proofs.SoundGone.{sound_take_all_out, take_all_out-append, key_left, machine_left}
 use Rattle.net_rows.proofs.SoundPut.{sound_user}
 use Rattle.net_rows.proofs.SoundRemove.{sound_without_user}
-use Rattle.desk_state.specs.Decisions.{IsSound}
+use Rattle.desk_state.specs.Decisions.{IsPlain}
 use Rattle.desk_state.specs.State.{State}
 use Rattle.desk_state.specs.Users.{user_named}
 use Rattle.desk_state.specs.declared.refusal.Refusal.TheVariants.{BadName, NameTaken, Full, UserHasMachines}
@@ -45,13 +45,13 @@ user_added t login sound free room =
 added_differs : (t : Rows) (u : User) → after t (user_change t u) ≢ t
 added_differs t u e = let n : t.next.user + 1 ≡ t.next.user = ap (λ (r : Rows). r.next.user) e in absurd (omega (arith, n))
 
-pub add_user_proper : (s : State) (name : List ℕ) → AreSound s.rows → IsSound s.rows (add_user s name)
+pub add_user_proper : (s : State) (name : List ℕ) → AreSound s.rows → IsPlain s.rows (add_user s name)
 add_user_proper s name sound =
     let t = s.rows in
     proper_or t BadName (login_of (with_at name)) _ (λ (login : List ℕ) _.
     proper_refuse t (is_login_taken t.users login) NameTaken _ (λ free.
     proper_refuse t (not (has_room t kind.User)) (Full scarce.User) _ (λ room.
-    proper_some t (added_user t login) (user_change t (new_user t login)) refl
+    proper_some t (added_user t login) (user_change t (new_user t login)) refl refl refl
     (sound_change t _ (user_added t login sound free (not-false _ room)) (added_differs t (new_user t login))
     (record { user = omega arith; key = omega arith; pending = omega arith; machine = omega arith })))))
 
@@ -83,10 +83,10 @@ dropped_differs t u there e =
     let users : without (λ (x : User). x.id) (take_all_out t ks).users u.id ≡ t.users = sym (ap (λ (r : Rows). r.users) split) ∙ ap (λ (r : Rows). r.users) e in
     (without_member (λ (x : User). x.id) (take_all_out t ks).users u.id u (subst (λ (us : List User). Contains us u) (sym users) there)).1 refl
 
-pub drop_user_proper : (s : State) (login : List ℕ) → AreSound s.rows → IsSound s.rows (drop_user s login)
+pub drop_user_proper : (s : State) (login : List ℕ) → AreSound s.rows → IsPlain s.rows (drop_user s login)
 drop_user_proper s login sound =
     let t = s.rows in
     proper_bind t (user_named t login) _ (λ (user : User) named.
     proper_refuse t (has_machine t.machines user.id) UserHasMachines _ (λ idle.
-    proper_some t _ (user_gone t user) refl
+    proper_some t _ (user_gone t user) refl refl refl
     (sound_change t _ (user_dropped t user sound idle) (dropped_differs t user (user_there t login user named)) (same_counters t.next))))

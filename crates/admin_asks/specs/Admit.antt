@@ -9,7 +9,8 @@ use Rattle.net_rows.specs.declared.machine.Machine.{Machine}
 use Rattle.net_rows.specs.declared.pending.Pending.{Pending}
 use Rattle.desk_state.specs.Lines.{offline_line}
 use Rattle.desk_state.specs.State.{State, is_overdue}
-use Rattle.desk_state.specs.Users.{tags_granted, user_named}
+use Rattle.desk_state.specs.Tags.{tags_granted}
+use Rattle.desk_state.specs.Users.{user_named}
 use Rattle.desk_state.specs.declared.decision.Decision.{Decision}
 use Rattle.desk_state.specs.declared.refusal.Refusal.{Refusal}
 use Rattle.desk_state.specs.declared.refusal.Refusal.TheVariants.{NodeKeyTaken, PendingUnknown}
@@ -41,6 +42,7 @@ entrant_of_entry s p user = record {
 abbrev pub admission : State → Pending → Machine → ℕ → Decision OperatorAnswer
 admission s p m next = record {
   change = Some (row_change s.rows m next None (Some p));
+  policy = None;
   offline = m.id ∷ [];
   ended = [];
   answer = answer.Node (offline_line s m);

@@ -12,7 +12,8 @@ use Rattle.desk_state.specs.Decisions.{only, changing}
 use Rattle.desk_state.specs.Lines.{key_line}
 use Rattle.desk_state.specs.State.{State, is_ahead}
 use Rattle.desk_state.specs.Texts.{row_text}
-use Rattle.desk_state.specs.Users.{user_named, tags_defined}
+use Rattle.desk_state.specs.Tags.{tags_defined}
+use Rattle.desk_state.specs.Users.{user_named}
 use Rattle.desk_state.specs.declared.key_form.KeyForm.{KeyForm}
 use Rattle.desk_state.specs.declared.decision.Decision.{Decision}
 use Rattle.desk_state.specs.declared.lines.KeyLine.{KeyLine}

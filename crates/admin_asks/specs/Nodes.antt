@@ -13,7 +13,7 @@ use Rattle.desk_state.specs.Changes.{machine_gone}
 use Rattle.desk_state.specs.Decisions.{only, changing}
 use Rattle.desk_state.specs.Lines.{node_line}
 use Rattle.desk_state.specs.State.{State}
-use Rattle.desk_state.specs.Users.{tags_defined}
+use Rattle.desk_state.specs.Tags.{tags_defined}
 use Rattle.desk_state.specs.declared.decision.Decision.{Decision}
 use Rattle.desk_state.specs.declared.lines.NodeLine.{NodeLine}
 use Rattle.desk_state.specs.declared.refusal.Refusal.{Refusal}

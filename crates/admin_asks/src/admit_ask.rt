@@ -57,6 +57,7 @@ fn admission(
     let line = offline_line(alloc, at, row.copy(alloc)?)?;
     Ok(Decision {
         change: Some(row_change(alloc, at.tables, row, next, None, Some(entry))?),
+        policy: None,
         offline,
         ended: Items::new(alloc),
         answer: OperatorAnswer::Node(line),

@@ -4,6 +4,7 @@
 mod forms;
 mod keys;
 mod nodes;
+mod refused;
 mod row_form;
 mod swept;
 mod users;
@@ -16,6 +17,7 @@ pub use forms::{
 };
 pub use keys::{key_text, keys_text};
 pub use nodes::{node_text, nodes_text};
+pub use refused::refused_text;
 pub use swept::swept_text;
 pub use users::{user_text, users_text};
 pub use waiting::waiting_text;

@@ -1,19 +1,22 @@
 //! What a connection's contract comes to. None of these functions does anything: each states a law.
 ghost use Rattle.connections.specs.Connection.{IsBrokenOff, IsExtra};
-ghost use Rattle.connections.specs.Exchanges.{Exchange};
+ghost use Rattle.connections.specs.Exchanges.{AreUnbroken, Exchange, answers_of};
 ghost use Rattle.run_ends.specs.Pieces.{IsPrefix};
 ghost use Rattle.run_ends.specs.declared.closed.Closed.{Closed};
-ghost use Rattle.std.specs.Prelude.{◌≡◌, ℕ, List, [], ◌∷◌, Some};
+ghost use Rattle.std.specs.Prelude.{◌≡◌, ℕ, List, [], ◌∷◌, ◌++◌, Some};
 
 /// Where a connection broke off, each answer but the last was written whole: after a failed write no
 /// request is taken, and behind the last answer no refusal is begun.
 pub fn answers_are_heard()
-    ensures whole { (x y : Exchange) (ys : List Exchange) (extra written : List ℕ)
-        → IsBrokenOff (x ∷ y ∷ ys) extra written → IsPrefix x.bytes written }
-    ensures before_refusal { (x : Exchange) (b : ℕ) (bs written : List ℕ)
-        → IsBrokenOff (x ∷ []) (b ∷ bs) written → IsPrefix x.bytes written }
-    ensures nothing { (x y : Exchange) (ys : List Exchange) (extra : List ℕ)
-        → IsBrokenOff (x ∷ y ∷ ys) extra [] → x.bytes ≡ [] }
+    ensures whole { (xs : List Exchange) (y : Exchange) (ys : List Exchange)
+        (extra written : List ℕ) → IsBrokenOff (xs ++ y ∷ ys) extra written
+        → IsPrefix (answers_of xs) written }
+    ensures unbroken { (xs : List Exchange) (y : Exchange) (ys : List Exchange)
+        (extra written : List ℕ) → IsBrokenOff (xs ++ y ∷ ys) extra written → AreUnbroken xs }
+    ensures before_refusal { (xs : List Exchange) (b : ℕ) (bs written : List ℕ)
+        → IsBrokenOff xs (b ∷ bs) written → IsPrefix (answers_of xs) written }
+    ensures nothing { (xs : List Exchange) (y : Exchange) (ys : List Exchange)
+        (extra : List ℕ) → IsBrokenOff (xs ++ y ∷ ys) extra [] → answers_of xs ≡ [] }
 {}
 
 /// Behind a request that ended the connection nothing is answered.

@@ -33,4 +33,7 @@ action_of route.NodeTags method = if_method method (codes "POST") (Operator oper
 action_of route.Waiting method =
     option_or (if_method method (codes "GET") (Operator operator.Waiting))
     (if_method method (codes "POST") (Operator operator.Admit))
+action_of route.Policy method =
+    option_or (if_method method (codes "GET") (Operator operator.Policy))
+    (if_method method (codes "PUT") (Operator operator.SavePolicy))
 action_of route.Sweep method = if_method method (codes "POST") (Operator operator.Sweep)

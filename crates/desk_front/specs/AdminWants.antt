@@ -6,8 +6,11 @@ use Rattle.admin_wire.specs.declared.forms.AdmitForm.{AdmitForm}
 use Rattle.path_routes.specs.Finds.{text_of}
 use Rattle.admin_asks.specs.declared.operator_ask.OperatorAsk.{OperatorAsk}
 use Rattle.admin_asks.specs.declared.operator_ask.OperatorAsk.TheVariants as ask
-use Rattle.tailnet_desk.specs.declared.ask.Ask.TheVariants.{Operator}
-use Rattle.desk_front.specs.Faults.{fault_answer, unless_faulty}
+use Rattle.policy_asks.specs.declared.ask.PolicyAsk.{PolicyAsk}
+use Rattle.policy_asks.specs.declared.ask.PolicyAsk.TheVariants as policy
+use Rattle.tailnet_desk.specs.declared.ask.Ask.TheVariants.{Operator, Policy}
+use Rattle.wire_json.specs.declared.fault.WireFault.TheVariants as fault
+use Rattle.desk_front.specs.Faults.{body_answer, fault_answer, unless_faulty}
 use Rattle.desk_front.specs.declared.action.OperatorAction.{OperatorAction}
 use Rattle.desk_front.specs.declared.action.OperatorAction.TheVariants as action
 use Rattle.desk_front.specs.declared.want.Wanted.{Wanted}
@@ -23,6 +26,10 @@ is_authorized token (Some given) =
 -- an operator's ask
 abbrev pub operator_ask : OperatorAsk → Wanted
 operator_ask x = wants.Ask (Operator x)
+
+-- an operator's ask on the policy
+abbrev pub policy_ask : PolicyAsk → Wanted
+policy_ask x = wants.Ask (Policy x)
 
 abbrev pub add_user_wants : List ℕ → Wanted
 add_user_wants body =
@@ -59,6 +66,14 @@ admit_wants body =
 abbrev pub sweep_wants : List ℕ → Wanted
 sweep_wants body = unless_faulty (λ _. operator_ask ask.Sweep) (empty_form_of_body body)
 
+abbrev pub save_policy : Option (List ℕ) → Wanted
+save_policy (Some text) = policy_ask (policy.SavePolicy text)
+save_policy None = body_answer fault.NotJson
+
+-- the body is the text of the policy, if it is UTF-8
+abbrev pub save_policy_wants : List ℕ → Wanted
+save_policy_wants body = save_policy (text_of body)
+
 -- what an operator wants, with the id in the path and the segment that names a row
 abbrev pub admin_wants : OperatorAction → ℕ → List ℕ → List ℕ → Wanted
 admin_wants action.Users id owner body = operator_ask ask.Users
@@ -74,4 +89,6 @@ admin_wants action.Rename id owner body = rename_wants id body
 admin_wants action.SetTags id owner body = set_tags_wants id body
 admin_wants action.Waiting id owner body = operator_ask ask.Waiting
 admin_wants action.Admit id owner body = admit_wants body
+admin_wants action.Policy id owner body = policy_ask policy.Policy
+admin_wants action.SavePolicy id owner body = save_policy_wants body
 admin_wants action.Sweep id owner body = sweep_wants body

@@ -1,5 +1,5 @@
 -- The bodies of answers.
-use Rattle.std.specs.Prelude.{ℕ, List, [], None, codes}
+use Rattle.std.specs.Prelude.{ℕ, List, [], None, Some, codes}
 use Rattle.admin_asks.specs.declared.operator_answer.OperatorAnswer.{OperatorAnswer}
 use Rattle.admin_asks.specs.declared.operator_answer.OperatorAnswer.TheVariants as operator
 use Rattle.admin_wire.specs.Keys.{key_text, keys_text}
@@ -9,10 +9,12 @@ use Rattle.admin_wire.specs.Users.{user_text, users_text}
 use Rattle.admin_wire.specs.Waiting.{waiting_text}
 use Rattle.machine_asks.specs.declared.answer.MachineAnswer.{MachineAnswer}
 use Rattle.machine_asks.specs.declared.answer.MachineAnswer.TheVariants as machine
-use Rattle.map_delta.specs.Frames.{frame_of}
-use Rattle.map_delta.specs.Responses.{first_response}
+use Rattle.fresh_maps.specs.Frames.{frame_of}
+use Rattle.fresh_maps.specs.Responses.{first_response}
+use Rattle.policy_asks.specs.declared.answer.PolicyAnswer.{PolicyAnswer}
+use Rattle.policy_asks.specs.declared.answer.PolicyAnswer.TheVariants as policy
 use Rattle.tailnet_desk.specs.declared.reply.Answer.{Answer}
-use Rattle.tailnet_desk.specs.declared.reply.Answer.TheVariants.{Machine, Operator, Seeded}
+use Rattle.tailnet_desk.specs.declared.reply.Answer.TheVariants.{Machine, Operator, Policy, Seeded}
 use Rattle.wire_text.specs.Registered.{registered_text, login_at_text}
 
 -- what a machine is answered, with the URL at which the server is reached
@@ -34,8 +36,15 @@ operator_body (operator.Node node) = node_text node
 operator_body (operator.Swept machines pending) = swept_text machines pending
 operator_body operator.Gone = codes "{}"
 
+-- what an operator is answered on the policy: its text, as it was saved
+abbrev pub policy_body : PolicyAnswer → List ℕ
+policy_body (policy.PolicyText (Some text)) = text
+policy_body (policy.PolicyText None) = codes "{}"
+policy_body policy.Saved = codes "{}"
+
 -- the body of an answer
 abbrev pub answer_body : List ℕ → Answer → List ℕ
 answer_body url Seeded = codes "{}"
 answer_body url (Machine a) = machine_body url a
 answer_body url (Operator a) = operator_body a
+answer_body url (Policy a) = policy_body a

@@ -1,7 +1,8 @@
 -- The answers to refusals, and to asks that were lost.
 use Rattle.std.specs.Prelude.{ℕ, List, ◌++◌, Bool, codes, decimal, if◌then◌else◌}
+use Rattle.admin_wire.specs.Refused.{refused_text}
 use Rattle.desk_state.specs.declared.refusal.Refusal.{Refusal}
-use Rattle.desk_state.specs.declared.refusal.Refusal.TheVariants.{UnknownUser, NameTaken, BadName, UnknownMachine, KeyUnknown, KeyExpired, KeyUsed, TagUndefined, NodeKeyTaken, NotLive, Full, AddressesSpent, UserHasMachines, PendingUnknown, EntropyFault}
+use Rattle.desk_state.specs.declared.refusal.Refusal.TheVariants.{UnknownUser, NameTaken, BadName, UnknownMachine, KeyUnknown, KeyExpired, KeyUsed, TagNotOwned, TagUndefined, NodeKeyTaken, PolicyRefused, NotLive, Full, AddressesSpent, UserHasMachines, PendingUnknown, EntropyFault}
 use Rattle.desk_state.specs.declared.refusal.Scarce.{Scarce}
 use Rattle.desk_state.specs.declared.refusal.Scarce.TheVariants as scarce
 use Rattle.tailnet_desk.specs.declared.reply.Loss.{Loss}
@@ -25,6 +26,7 @@ refusal_status is_machine KeyUnknown = missing_status is_machine
 refusal_status is_machine KeyExpired = 401
 refusal_status is_machine KeyUsed = 401
 refusal_status is_machine NotLive = 401
+refusal_status is_machine TagNotOwned = 403
 refusal_status is_machine TagUndefined = 403
 refusal_status is_machine UnknownUser = 404
 refusal_status is_machine PendingUnknown = 404
@@ -32,6 +34,7 @@ refusal_status is_machine NameTaken = 409
 refusal_status is_machine BadName = 409
 refusal_status is_machine NodeKeyTaken = 409
 refusal_status is_machine UserHasMachines = 409
+refusal_status is_machine (PolicyRefused code place) = 422
 refusal_status is_machine EntropyFault = 500
 refusal_status is_machine (Full kind) = 507
 refusal_status is_machine (AddressesSpent family) = 507
@@ -45,8 +48,10 @@ refusal_body UnknownMachine = error_body (codes "UnknownMachine")
 refusal_body KeyUnknown = error_body (codes "KeyUnknown")
 refusal_body KeyExpired = error_body (codes "KeyExpired")
 refusal_body KeyUsed = error_body (codes "KeyUsed")
+refusal_body TagNotOwned = error_body (codes "TagNotOwned")
 refusal_body TagUndefined = error_body (codes "TagUndefined")
 refusal_body NodeKeyTaken = error_body (codes "NodeKeyTaken")
+refusal_body (PolicyRefused code place) = refused_text code place
 refusal_body NotLive = error_body (codes "NotLive")
 refusal_body (Full kind) =
     codes "{\"error\":\"Full\",\"what\":\"" ++ scarce_name kind ++ codes "\"}"

@@ -14,6 +14,7 @@ abbrev pub is_machine_ask : Ask → Bool
 is_machine_ask (ask.Seed text) = false
 is_machine_ask (ask.Machine x) = true
 is_machine_ask (ask.Operator x) = false
+is_machine_ask (ask.Policy x) = false
 
 abbrev pub reply_status : Bool → Reply → ℕ
 reply_status is_machine (Done a) = 200

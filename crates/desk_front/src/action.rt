@@ -29,6 +29,8 @@ pub enum OperatorAction {
     SetTags,
     Waiting,
     Admit,
+    Policy,
+    SavePolicy,
     Sweep,
 }
 
@@ -90,6 +92,11 @@ pub(crate) fn action_of(route: Route, method: &Method) -> Option<Action>
             method,
             "POST",
             OperatorAction::Admit,
+        )),
+        Route::Policy => if_operator(method, "GET", OperatorAction::Policy).or(if_operator(
+            method,
+            "PUT",
+            OperatorAction::SavePolicy,
         )),
         Route::Sweep => if_operator(method, "POST", OperatorAction::Sweep),
     }

@@ -14,9 +14,11 @@ use admin_wire::{
 };
 use http::StatusCode;
 use path_routes::text_of;
+use policy_asks::PolicyAsk;
 use std::alloc::Global;
 use tail_base::{Bytes, NoMemory, Text};
 use tailnet_desk::Ask;
+use wire_json::WireFault;
 
 /// Whether the value of the first `Authorization` line is `Bearer`, a space and the token.
 pub(crate) fn is_authorized(token: &Text, given: &Option<Bytes>) -> bool
@@ -36,6 +38,13 @@ fn operator_ask(ask: OperatorAsk) -> Wanted
     ensures value { result ≡ spec.operator_ask ask }
 {
     Wanted::Ask(Ask::Operator(ask))
+}
+
+/// An operator's ask on the policy.
+fn policy_ask(ask: PolicyAsk) -> Wanted
+    ensures value { result ≡ spec.policy_ask ask }
+{
+    Wanted::Ask(Ask::Policy(ask))
 }
 
 #[tactic(auto, using(crate::proofs::FaultLemmas::faulty))]
@@ -127,6 +136,18 @@ fn sweep_wants(alloc: Global, body: &[u8]) -> Result<Wanted, NoMemory>
     }
 }
 
+fn save_policy_wants(alloc: Global, body: &[u8]) -> Result<Wanted, NoMemory>
+    ensures value { IfOk result (λ w. w ≡ spec.save_policy_wants body.now) }
+    ensures sound { IfOk result IsSound }
+{
+    match text_of(body) {
+        Some(text) => Ok(policy_ask(PolicyAsk::SavePolicy {
+            text: Text::from_str(alloc, text)?,
+        })),
+        None => body_answer(alloc, WireFault::NotJson),
+    }
+}
+
 /// What an operator wants, with the id in the path and the segment that names a row.
 pub(crate) fn admin_wants(
     alloc: Global,
@@ -152,6 +173,8 @@ pub(crate) fn admin_wants(
         OperatorAction::SetTags => set_tags_wants(alloc, id, body),
         OperatorAction::Waiting => Ok(operator_ask(OperatorAsk::Waiting)),
         OperatorAction::Admit => admit_wants(alloc, body),
+        OperatorAction::Policy => Ok(policy_ask(PolicyAsk::Policy)),
+        OperatorAction::SavePolicy => save_policy_wants(alloc, body),
         OperatorAction::Sweep => sweep_wants(alloc, body),
     }
 }

@@ -1,13 +1,14 @@
 //! The bodies of answers.
 ghost use Rattle.std.specs.Prelude.{◌≡◌, IfOk, codes};
-ghost use Rattle.desk_front.specs.Bodies.{answer_body, machine_body, operator_body};
+ghost use Rattle.desk_front.specs.Bodies.{answer_body, machine_body, operator_body, policy_body};
 
 use admin_asks::OperatorAnswer;
 use admin_wire::{
     key_text, keys_text, node_text, nodes_text, swept_text, user_text, users_text, waiting_text,
 };
+use fresh_maps::first_frame;
 use machine_asks::MachineAnswer;
-use map_delta::first_frame;
+use policy_asks::PolicyAnswer;
 use std::alloc::Global;
 use tail_base::{NoMemory, Text};
 use tailnet_desk::Answer;
@@ -64,6 +65,19 @@ fn operator_text(alloc: Global, answer: &OperatorAnswer) -> Result<Text, NoMemor
     }
 }
 
+/// What an operator is answered on the policy: its text, as it was saved, or the object without
+/// members.
+fn policy_body(alloc: Global, answer: &PolicyAnswer) -> Result<Vec<u8>, NoMemory>
+    ensures value { IfOk result (λ made. made.items ≡ policy_body answer.now) }
+{
+    match answer {
+        PolicyAnswer::PolicyText(Some(text)) => bytes_of(alloc, text),
+        PolicyAnswer::PolicyText(None) | PolicyAnswer::Saved => {
+            bytes_of(alloc, &empty_object(alloc)?)
+        }
+    }
+}
+
 /// The body of an answer, with the URL at which the server is reached.
 pub(crate) fn answer_body(
     alloc: Global,
@@ -76,5 +90,6 @@ pub(crate) fn answer_body(
         Answer::Seeded => bytes_of(alloc, &empty_object(alloc)?),
         Answer::Machine(answer) => machine_body(alloc, server_url, answer),
         Answer::Operator(answer) => bytes_of(alloc, &operator_text(alloc, answer)?),
+        Answer::Policy(answer) => policy_body(alloc, answer),
     }
 }

@@ -4,6 +4,7 @@ ghost use Rattle.desk_state.specs.declared.refusal.Refusal.{Refusal};
 ghost use Rattle.desk_front.specs.Refusals as spec;
 
 use crate::faults::error_body;
+use admin_wire::refused_text;
 use desk_state::{Refusal, Scarce};
 use http::StatusCode;
 use std::alloc::Global;
@@ -52,8 +53,10 @@ pub(crate) fn refusal_body(alloc: Global, refusal: &Refusal) -> Result<Text, NoM
         Refusal::KeyUnknown => error_body(alloc, "KeyUnknown"),
         Refusal::KeyExpired => error_body(alloc, "KeyExpired"),
         Refusal::KeyUsed => error_body(alloc, "KeyUsed"),
+        Refusal::TagNotOwned => error_body(alloc, "TagNotOwned"),
         Refusal::TagUndefined => error_body(alloc, "TagUndefined"),
         Refusal::NodeKeyTaken => error_body(alloc, "NodeKeyTaken"),
+        Refusal::PolicyRefused { code, place } => refused_text(alloc, *code, place),
         Refusal::NotLive => error_body(alloc, "NotLive"),
         Refusal::Full(kind) => full_body(alloc, *kind),
         Refusal::AddressesSpent { family } => spent_body(alloc, *family),
@@ -84,6 +87,7 @@ pub(crate) fn refusal_status(is_machine: bool, refusal: &Refusal) -> StatusCode
         Refusal::KeyExpired => StatusCode::UNAUTHORIZED,
         Refusal::KeyUsed => StatusCode::UNAUTHORIZED,
         Refusal::NotLive => StatusCode::UNAUTHORIZED,
+        Refusal::TagNotOwned => StatusCode::FORBIDDEN,
         Refusal::TagUndefined => StatusCode::FORBIDDEN,
         Refusal::UnknownUser => StatusCode::NOT_FOUND,
         Refusal::PendingUnknown => StatusCode::NOT_FOUND,
@@ -91,6 +95,7 @@ pub(crate) fn refusal_status(is_machine: bool, refusal: &Refusal) -> StatusCode
         Refusal::BadName => StatusCode::CONFLICT,
         Refusal::NodeKeyTaken => StatusCode::CONFLICT,
         Refusal::UserHasMachines => StatusCode::CONFLICT,
+        Refusal::PolicyRefused { .. } => StatusCode::UNPROCESSABLE_ENTITY,
         Refusal::EntropyFault => StatusCode::INTERNAL_SERVER_ERROR,
         Refusal::Full(_) => StatusCode::INSUFFICIENT_STORAGE,
         Refusal::AddressesSpent { .. } => StatusCode::INSUFFICIENT_STORAGE,

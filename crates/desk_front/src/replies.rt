@@ -16,9 +16,8 @@ fn is_machine_ask(ask: &Ask) -> bool
     ensures value { result ≡ is_machine_ask ask.now }
 {
     match ask {
-        Ask::Seed { .. } => false,
+        Ask::Seed { .. } | Ask::Operator(_) | Ask::Policy(_) => false,
         Ask::Machine(_) => true,
-        Ask::Operator(_) => false,
     }
 }
 

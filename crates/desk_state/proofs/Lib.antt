@@ -1,2 +1,4 @@
-pub mod TextLemmas
+pub mod GatheredLive
+pub mod Kept
 pub mod Proper
+pub mod TextLemmas

@@ -10,15 +10,21 @@ use Rattle.desk_state.specs.declared.refusal.Refusal.{Refusal}
 
 -- an answer alone
 abbrev pub only : {A : Type 0} → A → Decision A
-only answer = record { change = None; offline = []; ended = []; answer = answer }
+only answer = record { change = None; policy = None; offline = []; ended = []; answer = answer }
 
 -- a change of rows and an answer
 abbrev pub changing : {A : Type 0} → Change → A → Decision A
-changing change answer = record { change = Some change; offline = []; ended = []; answer = answer }
+changing change answer = record { change = Some change; policy = None; offline = []; ended = []; answer = answer }
 
 -- the same decision with the answer as another layer has it
 abbrev pub answered : {A B : Type 0} → (A → B) → Decision A → Decision B
-answered view d = record { change = d.change; offline = d.offline; ended = d.ended; answer = view d.answer }
+answered view d = record {
+  change = d.change;
+  policy = d.policy;
+  offline = d.offline;
+  ended = d.ended;
+  answer = view d.answer;
+}
 
 -- the rows after a change, or as they are
 abbrev pub rows_after : Rows → Option Change → Rows
@@ -38,6 +44,17 @@ pub record IsSoundChange (rows : Rows) (change : Change) : Type 0 where
   pub differs : after rows change ≢ rows
   pub rises : IsNoLess rows.next change.next
 
--- the change that is decided, if any, is a sound one
+-- A decision is sound on these rows: its change, if any, is a sound one, and unless it puts a policy in
+-- force, the text of the policy stays.
+pub record IsSoundDecision {A : Type 0} (rows : Rows) (d : Decision A) : Type 0 where
+  pub change : (change : Change) → d.change ≡ Some change → IsSoundChange rows change
+  pub text : d.policy ≡ None → (rows_after rows d.change).policy ≡ rows.policy
+
+-- what is decided, if it isn't refused, is sound
 abbrev pub IsSound : {A : Type 0} → Rows → Result (Decision A) Refusal → Type 0
-IsSound {A} rows decided = (d : Decision A) (change : Change) → decided ≡ Ok d → d.change ≡ Some change → IsSoundChange rows change
+IsSound {A} rows decided = (d : Decision A) → decided ≡ Ok d → IsSoundDecision rows d
+
+-- What is decided, if it isn't refused, is sound and leaves the policy in force.
+pub record IsPlain {A : Type 0} (rows : Rows) (decided : Result (Decision A) Refusal) : Type 0 where
+  pub sound : IsSound rows decided
+  pub policy : (d : Decision A) → decided ≡ Ok d → d.policy ≡ None

@@ -2,5 +2,6 @@ pub mod Changes
 pub mod Decisions
 pub mod Lines
 pub mod State
+pub mod Tags
 pub mod Texts
 pub mod Users

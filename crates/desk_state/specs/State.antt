@@ -1,5 +1,5 @@
 -- The state of a tailnet.
-use Rattle.std.specs.Prelude.{ℕ, ℤ, pos, ◌+ℤ◌, int_lt, Bool, true, false, List, [], ◌∷◌, map, Option, Some, None, if◌then◌else◌, not, ◌&&◌, ◌||◌}
+use Rattle.std.specs.Prelude.{ℕ, ℤ, pos, ◌+ℤ◌, int_lt, Bool, true, false, List, [], ◌∷◌, Option, Some, None, filter, map, if◌then◌else◌, not, ◌&&◌, ◌||◌}
 use Rattle.std.specs.Int.{int_min}
 use Rattle.std.specs.Option.{option_map}
 use Rattle.moments.specs.Moments.{later_of, last_moment}
@@ -9,15 +9,17 @@ use Rattle.net_rows.specs.declared.change.RowKey.{RowKey}
 use Rattle.net_rows.specs.declared.change.RowKey.TheVariants as gone
 use Rattle.net_rows.specs.declared.machine.Machine.{Machine}
 use Rattle.net_rows.specs.declared.pending.Pending.{Pending}
+use Rattle.policy_rows.specs.declared.policy.Policy.{Policy}
 use Rattle.settings.specs.declared.fields.SettingsFields.{SettingsFields}
 use Rattle.desk_state.specs.declared.presence.Presence.{Presence}
 use Rattle.desk_state.specs.declared.presence.Presence.TheVariants.{Online, OfflineSince}
 use Rattle.desk_state.specs.declared.presence.MachinePresence.{MachinePresence}
 
--- settings, tables, the presence of each machine, and the time
+-- settings, tables, the policy in force, the presence of each machine, and the time
 pub record State : Type 0 where
   pub settings : SettingsFields
   pub rows : Rows
+  pub policy : Option Policy
   pub presence : List MachinePresence
   pub now : ℤ
 
@@ -63,6 +65,10 @@ is_live_with s presence m = is_ahead s.now m.expiry && (not m.ephemeral || stays
 abbrev pub is_live : State → Machine → Bool
 is_live s m = is_live_with s (presence_of s.presence m.id) m
 
+-- the ids of the machines that are live
+abbrev pub live_ids : State → List ℕ
+live_ids s = map (λ (m : Machine). m.id) (filter (is_live s) s.rows.machines)
+
 -- the machine is offline from this moment on
 abbrev pub offline_at : ℤ → ℕ → MachinePresence
 offline_at moment id = record { id = id; presence = OfflineSince moment }
@@ -85,15 +91,6 @@ forgotten presence (gone.Machine id ∷ keys) = forgotten (without (λ p. p.id) 
 forgotten presence (gone.User id ∷ keys) = forgotten presence keys
 forgotten presence (gone.Key id ∷ keys) = forgotten presence keys
 forgotten presence (gone.Pending id ∷ keys) = forgotten presence keys
-
--- the state of tables when they are opened: no machine is online
-abbrev pub opening : SettingsFields → Rows → ℤ → State
-opening settings rows moment = record {
-  settings = settings;
-  rows = rows;
-  presence = map (λ (m : Machine). offline_at moment m.id) rows.machines;
-  now = moment;
-}
 
 -- the state at an event's moment: time never falls
 abbrev pub at_moment : State → ℤ → State

@@ -3,15 +3,18 @@ ghost use Rattle.std.specs.Prelude.{◌≡◌};
 ghost use Rattle.desk_state.specs.Decisions.{answered, changing, only};
 
 use net_rows::Change;
+use policy_rows::Policy;
 use std::alloc::Global;
 use tail_base::Items;
 
-/// What an ask that isn't refused results in: a change of rows or none, the machines that it touches,
-/// also if no row changes, and the answer.
+/// What an ask that isn't refused results in: a change of rows or none, the policy that it puts in
+/// force, the machines that it touches, also if no row changes, and the answer.
 #[derive(Drop)]
 pub struct Decision<A> {
     /// The change; None if each row stays as it is.
     pub change: Option<Change>,
+    /// The policy that is in force from now on; None if the one that is in force stays.
+    pub policy: Option<Policy>,
     /// The machines that are offline from now on in any case: those made or renewed.
     pub offline: Items<u32>,
     /// The machines that are offline from now on if they were online: those that log out or take
@@ -27,18 +30,20 @@ impl<A> Decision<A> {
     {
         Decision {
             change: None,
+            policy: None,
             offline: Items::new(alloc),
             ended: Items::new(alloc),
             answer,
         }
     }
 
-    /// A change of rows and an answer, and no machine that goes offline.
+    /// A change of rows and an answer. The policy in force stays, and no machine goes offline.
     pub fn changing(alloc: Global, change: Change, answer: A) -> Self
         ensures value { result ≡ changing change answer }
     {
         Decision {
             change: Some(change),
+            policy: None,
             offline: Items::new(alloc),
             ended: Items::new(alloc),
             answer,

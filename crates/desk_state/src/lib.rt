@@ -1,4 +1,5 @@
-//! What all asks speak of: the state of a tailnet, decisions, and why an ask is refused.
+//! What all asks speak of: the state of a tailnet with its policy in force, decisions, and why an
+//! ask is refused.
 #![tactic(auto)]
 
 mod changes;
@@ -9,16 +10,20 @@ mod lines;
 mod presence;
 mod refusal;
 mod rules;
+mod tags;
 mod texts;
 mod users;
 
 pub use changes::machine_gone;
 pub use decision::Decision;
 pub use key_form::KeyForm;
-pub use life::{Snapshot, is_ahead, is_live, is_live_with, is_online, is_overdue, presence_of};
+pub use life::{
+    Snapshot, is_ahead, is_live, is_live_with, is_online, is_overdue, live_ids, presence_of,
+};
 pub use lines::{KeyLine, NodeLine, key_line, login_of, node_line, offline_line};
 pub use presence::{MachinePresence, Presence};
 pub use refusal::{Refusal, Scarce};
 pub use rules::keep_rules;
+pub use tags::{tags_defined, tags_granted};
 pub use texts::row_text;
-pub use users::{tags_defined, tags_granted, user_named};
+pub use users::user_named;

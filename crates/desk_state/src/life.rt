@@ -1,18 +1,23 @@
 //! What an event sees of the state, and which machines are live in it.
-ghost use Rattle.std.specs.Prelude.{◌≡◌, Some};
-ghost use Rattle.desk_state.specs.State.{State, is_ahead, is_live, is_live_with, is_online, is_overdue, is_past, presence_of, stays, stays_with};
+ghost use Rattle.std.specs.Prelude.{◌≡◌, ◌∷◌, ◌++◌, [], IfOk, OnOk, Some, if◌then◌else◌};
+ghost use Rattle.desk_state.specs.State.{State, is_ahead, is_live, is_live_with, is_online, is_overdue, is_past, live_ids, presence_of, stays, stays_with};
 
 use crate::presence::{MachinePresence, Presence};
 use moments::Moment;
 use net_rows::{Machine, Pending, Shelf, Tables};
+use policy_eval::InForce;
 use settings::{Settings, SettingsFields};
+use std::alloc::Global;
 use std::marker::Model;
+use tail_base::{Items, NoMemory};
 
 /// The state at an event's moment, as its decision sees it.
 #[derive(Drop)]
 pub struct Snapshot<'a> {
     pub settings: &'a Settings,
     pub tables: &'a Tables,
+    /// The policy in force.
+    pub policy: &'a InForce,
     pub presence: &'a Shelf<MachinePresence>,
     pub time: Moment,
 }
@@ -22,7 +27,7 @@ impl<'a> Model for Snapshot<'a> {
 
     ghost Value = { State };
 
-    ghost view = { λ a. record { settings = a.settings.now; rows = a.tables.now.rows; presence = a.presence.now.0; now = a.time } };
+    ghost view = { λ a. record { settings = a.settings.now; rows = a.tables.now.rows; policy = a.policy.now; presence = a.presence.now.0; now = a.time } };
 }
 
 /// Whether there is no end, or it is still to come.
@@ -87,6 +92,29 @@ pub fn is_live(at: &Snapshot<'_>, machine: &Machine) -> bool
     ensures value { result ≡ is_live at.now machine.now }
 {
     is_live_with(at, presence_of(at.presence, machine.id), machine)
+}
+
+/// Adds the machine's id, if it is live.
+fn add_live(at: &Snapshot<'_>, ids: &mut Items<u32>, machine: &Machine) -> Result<(), NoMemory>
+    ensures ok { OnOk result (ids.new
+        ≡ ids.old ++ (if is_live at.now machine.now then machine.now.id ∷ [] else [])) }
+{
+    if is_live(at, machine) {
+        ids.push(machine.id)
+    } else {
+        Ok(())
+    }
+}
+
+/// The ids of the machines that are live.
+pub fn live_ids(alloc: Global, at: &Snapshot<'_>) -> Result<Items<u32>, NoMemory>
+    ensures value { IfOk result (λ ids. ids ≡ live_ids at.now) }
+{
+    let mut ids = Items::new(alloc);
+    for machine in at.tables.machines() {
+        add_live(at, &mut ids, machine)?;
+    }
+    Ok(ids)
 }
 
 /// Whether a machine of this presence is online.

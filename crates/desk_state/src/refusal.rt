@@ -1,4 +1,6 @@
 //! Why the desk refuses.
+use policy_rows::PolicyCode;
+use tail_base::Text;
 
 /// What there may be no room for.
 #[derive(Clone, Copy, Debug, PartialEq, Eq, Drop)]
@@ -11,7 +13,7 @@ pub enum Scarce {
 
 /// The rule by which an ask is refused. A refusal changes nothing but the time. Running out of memory
 /// and a fault of the keeper are no rules, and so no refusals.
-#[derive(Clone, Copy, Debug, PartialEq, Eq, Drop)]
+#[derive(Drop)]
 pub enum Refusal {
     /// No user has that login.
     UnknownUser,
@@ -27,10 +29,14 @@ pub enum Refusal {
     KeyExpired,
     /// The pre-auth key was used, and may be used only once.
     KeyUsed,
-    /// No policy defines the tag.
+    /// The owners of the tag don't name the user.
+    TagNotOwned,
+    /// There is no policy, or it doesn't define the tag.
     TagUndefined,
     /// Another machine has that node key.
     NodeKeyTaken,
+    /// The text is no policy that may be kept: its first fault.
+    PolicyRefused { code: PolicyCode, place: Text },
     /// The machine isn't live any more.
     NotLive,
     /// There are as many rows of that kind as there may be.

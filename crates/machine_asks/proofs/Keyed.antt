@@ -3,6 +3,7 @@ use Rattle.std.proofs.Common.{◌≡◌, ◌≢◌, ◌++◌, ℕ, Bool, true, f
 use Rattle.std.specs.Cmp.Lexicographic.{slice_cmp}
 use Rattle.std.specs.Ordering.{nat_cmp}
 use Rattle.std.proofs.Common.{length-append}
+use Rattle.std.specs.List.{list_all}
 use Rattle.std.specs.Prelude.{Contains}
 use Rattle.std.specs.Str.{bytes_eq}
 use Rattle.std.proofs.lemmas.Bool.{cases_Bool}
@@ -21,11 +22,12 @@ use Rattle.net_rows.specs.declared.rows.Rows.{Rows}
 use Rattle.net_rows.proofs.Members.{find_member}
 use Rattle.tailcfg.specs.Short.{IsShortForm}
 use Rattle.tailcfg.specs.declared.register.Register.{Register}
-use Rattle.desk_state.specs.Decisions.{IsSound, IsSoundChange}
+use Rattle.desk_state.specs.Decisions.{IsPlain, IsSoundChange}
 use Rattle.desk_state.specs.State.{State, is_ahead}
-use Rattle.desk_state.specs.Users.{tags_granted}
+use Rattle.desk_state.specs.Tags.{tags_granted}
 use Rattle.desk_state.specs.declared.decision.Decision.{Decision}
 use Rattle.desk_state.specs.declared.refusal.Refusal.TheVariants.{KeyUnknown, KeyExpired, KeyUsed}
+use Rattle.desk_state.proofs.Kept.{is_no_policy}
 use Rattle.desk_state.proofs.Proper.{proper_bind, proper_none, proper_some}
 use Rattle.machine_rows.specs.Rows.{is_taken, kept_place, machine_row, place_for, row_change}
 use Rattle.machine_rows.specs.Same.{same_row}
@@ -88,12 +90,13 @@ entry_apart s mk e host (Some m) p k None sound found waits key placed some =
     without_true false h = refl
 
 -- a change that is made unless a test passes
-change_proper : {A : Type 0} (rows : Rows) (d : Decision A) (b : Bool) (c : Change) → d.change ≡ (if b then None else Some c) → (b ≡ false → IsSoundChange rows c) → IsSound rows (Ok d)
-change_proper rows d true c is h = proper_none rows d is
-change_proper rows d false c is h = proper_some rows d c is (h refl)
+change_proper : {A : Type 0} (rows : Rows) (d : Decision A) (b : Bool) (c : Change) → d.change ≡ (if b then None else Some c) → d.policy ≡ None → list_all is_no_policy c.puts ≡ true
+    → (b ≡ false → IsSoundChange rows c) → IsPlain rows (Ok d)
+change_proper rows d true c is none plain h = proper_none rows d is none
+change_proper rows d false c is none plain h = proper_some rows d c is none plain (h refl)
 
 pub by_key_proper : (s : State) (mk : MachineKey) (form : Register) (held : Option Machine) → AreSettings s.settings → AreSound s.rows → IsShortForm form
-    → machine_of s.rows.machines mk.0 ≡ held → is_taken s.rows.machines mk form.node ≡ false → IsSound s.rows (by_key s mk form held)
+    → machine_of s.rows.machines mk.0 ≡ held → is_taken s.rows.machines mk form.node ≡ false → IsPlain s.rows (by_key s mk form held)
 by_key_proper s mk form held hold sound short found free =
     proper_bind s.rows (usable_key s form.auth) _ (λ (k : AuthKey) is.
     let inside = usable_is s form.auth k is in
@@ -102,6 +105,6 @@ by_key_proper s mk form held hold sound short found free =
     proper_bind s.rows (tags_granted s k.user form.tags) _ (λ _ _.
     proper_bind s.rows (place_for s form.host held) _ (λ (p : Place) placed.
     change_proper s.rows (admitted_by_key s held (machine_row mk e p) p.next k) (changes_nothing held (machine_row mk e p) k pending)
-    (row_change s.rows (machine_row mk e p) p.next (Some k) pending) refl (λ some.
+    (row_change s.rows (machine_row mk e p) p.next (Some k) pending) refl refl refl (λ some.
     enter_change s mk e form.host held p (Some k) pending hold sound found free (entrant_keeps s form k sound short inside) placed inside
     (entry_apart s mk e form.host held p k pending sound found refl inside placed some)))))

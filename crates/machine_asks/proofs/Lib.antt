@@ -1,5 +1,6 @@
 pub mod DecisionLaws
 mod Keyed
+mod Lives
 mod Registrations
 mod Repeats
 mod Seeds

@@ -14,7 +14,7 @@ use Rattle.net_rows.specs.declared.rows.Rows.{Rows}
 use Rattle.tailcfg.specs.Short.{IsShortForm}
 use Rattle.tailcfg.specs.declared.register.Register.{Register}
 use Rattle.desk_state.specs.Changes.{machine_gone}
-use Rattle.desk_state.specs.Decisions.{IsSound, IsSoundChange}
+use Rattle.desk_state.specs.Decisions.{IsPlain, IsSoundChange}
 use Rattle.desk_state.specs.State.{State, is_ahead, is_live}
 use Rattle.desk_state.specs.declared.decision.Decision.{Decision}
 use Rattle.desk_state.specs.declared.refusal.Refusal.{Refusal}
@@ -76,19 +76,19 @@ node_change s mk node m sound found free other =
     absurd (cc))
 
 logout_proper : (s : State) (mk : MachineKey) (node : NodeKey) (held : Option Machine) → AreSound s.rows → machine_of s.rows.machines mk.0 ≡ held
-    → IsSound s.rows (logout s node held)
+    → IsPlain s.rows (logout s node held)
 logout_proper s mk node None sound found = proper_err s.rows UnknownMachine
 logout_proper s mk node (Some m) sound found =
     let inside = (machine_found s.rows.machines mk m found).0 in
     proper_if s.rows (not (bytes_eq m.node.0 node.0)) _ _ (λ _. proper_err s.rows UnknownMachine) (λ _.
-    proper_if s.rows m.ephemeral _ _ (λ _. proper_some s.rows (machine_removed s m) (machine_gone s.rows m.id) refl (gone_change s.rows m sound inside)) (λ _.
-    proper_if s.rows (not (is_ahead s.now m.expiry)) _ _ (λ _. proper_none s.rows (logout_again s m) refl) (λ lives.
-    proper_some s.rows (logout_now s m) (row_replaced s.rows (expired_row s m)) refl (expired_change s m sound inside (not-false _ lives)))))
+    proper_if s.rows m.ephemeral _ _ (λ _. proper_some s.rows (machine_removed s m) (machine_gone s.rows m.id) refl refl refl (gone_change s.rows m sound inside)) (λ _.
+    proper_if s.rows (not (is_ahead s.now m.expiry)) _ _ (λ _. proper_none s.rows (logout_again s m) refl refl) (λ lives.
+    proper_some s.rows (logout_now s m) (row_replaced s.rows (expired_row s m)) refl refl refl (expired_change s m sound inside (not-false _ lives)))))
 
 -- a rule for the machine's row, and the later rules for a row that it doesn't fit
 of_row_proper : (rows : Rows) (held : Option Machine) (fits : Machine → Bool) (decides : Machine → Decision MachineAnswer) (later : Result (Decision MachineAnswer) Refusal)
-    → ((m : Machine) → held ≡ Some m → fits m ≡ true → IsSound rows (Ok (decides m)))
-    → (((m : Machine) → held ≡ Some m → fits m ≡ false) → IsSound rows later) → IsSound rows (of_row held fits decides later)
+    → ((m : Machine) → held ≡ Some m → fits m ≡ true → IsPlain rows (Ok (decides m)))
+    → (((m : Machine) → held ≡ Some m → fits m ≡ false) → IsPlain rows later) → IsPlain rows (of_row held fits decides later)
 of_row_proper rows None fits decides later h k = k (λ m e. absurd (cc))
 of_row_proper rows (Some m) fits decides later h k =
     proper_if rows (fits m) (Ok (decides m)) later (h m refl)
@@ -99,15 +99,15 @@ other_node : (live same : Bool) → (live && same) ≡ false → live ≡ true �
 other_node true same h l = h
 other_node false same h l = absurd (cc)
 
-pub register_proper : (s : State) (mk : MachineKey) (form : Register) (words : Option (List ℕ)) → AreSettings s.settings → AreSound s.rows → IsShortForm form → IsSound s.rows (register s mk form words)
+pub register_proper : (s : State) (mk : MachineKey) (form : Register) (words : Option (List ℕ)) → AreSettings s.settings → AreSound s.rows → IsShortForm form → IsPlain s.rows (register s mk form words)
 register_proper s mk form words hold sound short =
     let held = machine_of s.rows.machines mk.0 in
     proper_if s.rows (is_logout s form.expiry) _ _ (λ _. logout_proper s mk form.node held sound refl) (λ _.
-    of_row_proper s.rows held (repeats s form.node) (registered_again s) _ (λ m found _. proper_none s.rows (registered_again s m) refl) (λ new.
+    of_row_proper s.rows held (repeats s form.node) (registered_again s) _ (λ m found _. proper_none s.rows (registered_again s m) refl refl) (λ new.
     proper_if s.rows (is_taken s.rows.machines mk form.node) _ _ (λ _. proper_err s.rows NodeKeyTaken) (λ free.
     proper_if s.rows (nat_lt 0 (length form.auth)) _ _ (λ _. by_key_proper s mk form held hold sound short refl free) (λ _.
     of_row_proper s.rows held (rotates s form.old) (node_key_replaced s form.node) _ (λ m found fits.
     let live = (and_parts (is_live s m) (is_old form.old m.node) fits).0 in
     let other = other_node (is_live s m) (bytes_eq m.node.0 form.node.0) (new m found) live in
-    proper_some s.rows (node_key_replaced s form.node m) (row_replaced s.rows (record m { node = form.node })) refl (node_change s mk form.node m sound found free other))
+    proper_some s.rows (node_key_replaced s form.node m) (row_replaced s.rows (record m { node = form.node })) refl refl refl (node_change s mk form.node m sound found free other))
     (λ _. wait_proper s mk form words sound short)))))

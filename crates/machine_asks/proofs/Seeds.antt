@@ -16,7 +16,7 @@ use Rattle.std.proofs.lemmas.Bool.{and_parts, not-false, ltb-true}
 use Rattle.net_rows.proofs.Members.{no_member}
 use Rattle.net_rows.proofs.PutLemmas.{put_there}
 use Rattle.net_rows.proofs.SoundPut.{sound_user, sound_key}
-use Rattle.desk_state.specs.Decisions.{IsNoLess, IsSound, changing, only}
+use Rattle.desk_state.specs.Decisions.{IsNoLess, IsPlain, changing, only}
 use Rattle.desk_state.specs.State.{State}
 use Rattle.desk_state.specs.declared.refusal.Refusal.TheVariants.{Full}
 use Rattle.desk_state.specs.declared.refusal.Scarce.TheVariants as scarce
@@ -68,10 +68,10 @@ seeded_differs t text e = let n : t.next.user + 1 ≡ t.next.user = ap (λ (u : 
 counters_rise : (next : Counters) → IsNoLess next (record next { user = next.user + 1; key = next.key + 1 })
 counters_rise next = record { user = omega arith; key = omega arith; pending = omega arith; machine = omega arith }
 
-pub seed_proper : (s : State) (text : List ℕ) → AreSound s.rows → IsSound s.rows (seed s text)
+pub seed_proper : (s : State) (text : List ℕ) → AreSound s.rows → IsPlain s.rows (seed s text)
 seed_proper s text sound =
-    proper_if s.rows (is_past_seed s.rows text) _ _ (λ _. proper_none s.rows (only tt) refl) (λ first.
+    proper_if s.rows (is_past_seed s.rows text) _ _ (λ _. proper_none s.rows (only tt) refl refl) (λ first.
     proper_refuse s.rows (not (has_room s.rows kind.User)) (Full scarce.User) _ (λ user.
     proper_refuse s.rows (not (has_room s.rows kind.Key)) (Full scarce.Key) _ (λ key.
-    proper_some s.rows (changing (seed_change s.rows text) tt) (seed_change s.rows text) refl
+    proper_some s.rows (changing (seed_change s.rows text) tt) (seed_change s.rows text) refl refl refl
     (sound_change s.rows (seed_change s.rows text) (seeded s.rows text sound first (not-false _ user) (not-false _ key)) (seeded_differs s.rows text) (counters_rise s.rows.next)))))

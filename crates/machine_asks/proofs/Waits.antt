@@ -17,7 +17,7 @@ use Rattle.net_rows.proofs.SoundPut.{sound_pending}
 use Rattle.net_rows.proofs.SoundRemove.{sound_without_pending}
 use Rattle.tailcfg.specs.Short.{IsShortForm}
 use Rattle.tailcfg.specs.declared.register.Register.{Register}
-use Rattle.desk_state.specs.Decisions.{IsNoLess, IsSound}
+use Rattle.desk_state.specs.Decisions.{IsNoLess, IsPlain}
 use Rattle.desk_state.specs.State.{State}
 use Rattle.desk_state.specs.declared.refusal.Refusal.TheVariants.{EntropyFault, Full}
 use Rattle.desk_state.specs.declared.refusal.Scarce.TheVariants as scarce
@@ -78,24 +78,24 @@ entries_rise : (next : Counters) → IsNoLess next (record next { pending = next
 entries_rise next = record { user = omega arith; key = omega arith; pending = omega arith; machine = omega arith }
 
 anew_proper : (s : State) (mk : MachineKey) (form : Register) (words : Option (List ℕ)) (old : Option Pending) → AreSound s.rows → IsShortForm form
-    → pending_of s.rows.pending mk.0 ≡ old → IsSound s.rows (wait_anew s mk form words old)
+    → pending_of s.rows.pending mk.0 ≡ old → IsPlain s.rows (wait_anew s mk form words old)
 anew_proper s mk form words old sound short found =
     proper_refuse s.rows (not (has_place s.rows old)) (Full scarce.Pending) _ (λ free.
     let place = not-false (has_place s.rows old) free in
     let room = and_parts (nat_lt (length (pending_left s.rows.pending old)) PENDING_LIMIT) (nat_lt s.rows.next.pending COUNTER_LIMIT) place in
     proper_or s.rows EntropyFault words _ (λ (drawn : List ℕ) _.
     let p = new_entry s mk form drawn in
-    proper_some s.rows (waiting_entered s.rows p old) (entry_change s.rows p old) refl
+    proper_some s.rows (waiting_entered s.rows p old) (entry_change s.rows p old) refl refl refl
     (sound_change s.rows (entry_change s.rows p old)
     (entry_sound s.rows p old sound (fits_entry s mk form drawn old sound short found place) refl (ltb-true _ _ room.1))
     (entry_differs s.rows p old) (entries_rise s.rows.next))))
 
 as_proper : (s : State) (mk : MachineKey) (form : Register) (words : Option (List ℕ)) (old : Option Pending) → AreSound s.rows → IsShortForm form
-    → pending_of s.rows.pending mk.0 ≡ old → IsSound s.rows (wait_as s mk form words old)
+    → pending_of s.rows.pending mk.0 ≡ old → IsPlain s.rows (wait_as s mk form words old)
 as_proper s mk form words None sound short found = anew_proper s mk form words None sound short found
 as_proper s mk form words (Some p) sound short found =
     proper_if s.rows (waits s form.node p) (Ok (waits_on p)) (wait_anew s mk form words (Some p))
-    (λ _. proper_none s.rows (waits_on p) refl) (λ _. anew_proper s mk form words (Some p) sound short found)
+    (λ _. proper_none s.rows (waits_on p) refl refl) (λ _. anew_proper s mk form words (Some p) sound short found)
 
-pub wait_proper : (s : State) (mk : MachineKey) (form : Register) (words : Option (List ℕ)) → AreSound s.rows → IsShortForm form → IsSound s.rows (wait s mk form words)
+pub wait_proper : (s : State) (mk : MachineKey) (form : Register) (words : Option (List ℕ)) → AreSound s.rows → IsShortForm form → IsPlain s.rows (wait s mk form words)
 wait_proper s mk form words sound short = as_proper s mk form words (pending_of s.rows.pending mk.0) sound short refl

@@ -12,9 +12,9 @@ use Rattle.net_rows.specs.declared.key.AuthKey.{AuthKey}
 use Rattle.net_rows.specs.declared.machine.Machine.{Machine}
 use Rattle.net_rows.specs.declared.pending.Pending.{Pending}
 use Rattle.tailcfg.specs.declared.register.Register.{Register}
-use Rattle.map_delta.specs.Profiles.{profile_of}
+use Rattle.fresh_maps.specs.Profiles.{profile_of}
 use Rattle.desk_state.specs.State.{State, is_ahead}
-use Rattle.desk_state.specs.Users.{tags_granted}
+use Rattle.desk_state.specs.Tags.{tags_granted}
 use Rattle.desk_state.specs.declared.decision.Decision.{Decision}
 use Rattle.desk_state.specs.declared.refusal.Refusal.{Refusal}
 use Rattle.desk_state.specs.declared.refusal.Refusal.TheVariants.{KeyUnknown, KeyExpired, KeyUsed}
@@ -67,6 +67,7 @@ registered s user expiry = Registered (profile_of s.rows.users user) (not (is_ah
 abbrev pub admitted_by_key : State → Option Machine → Machine → ℕ → AuthKey → Decision MachineAnswer
 admitted_by_key s held r next key = record {
   change = change_by_key s held r next key;
+  policy = None;
   offline = r.id ∷ [];
   ended = [];
   answer = registered s r.user r.expiry;

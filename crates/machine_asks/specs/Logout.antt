@@ -4,7 +4,7 @@ use Rattle.std.specs.Str.{bytes_eq}
 use Rattle.tail_base.specs.declared.key.NodeKey.{NodeKey}
 use Rattle.net_rows.specs.declared.change.Change.{Change}
 use Rattle.net_rows.specs.declared.machine.Machine.{Machine}
-use Rattle.map_delta.specs.Profiles.{profile_of}
+use Rattle.fresh_maps.specs.Profiles.{profile_of}
 use Rattle.desk_state.specs.Changes.{machine_gone}
 use Rattle.desk_state.specs.Decisions.{changing}
 use Rattle.desk_state.specs.State.{State, is_ahead, is_live}
@@ -21,7 +21,7 @@ is_logout s expiry = not (is_ahead s.now expiry)
 
 -- the machine is offline from now on if it was online, and this changes of its row
 abbrev pub session_ended : Machine → Option Change → MachineAnswer → Decision MachineAnswer
-session_ended m change answer = record { change = change; offline = []; ended = m.id ∷ []; answer = answer }
+session_ended m change answer = record { change = change; policy = None; offline = []; ended = m.id ∷ []; answer = answer }
 
 -- the row expires now
 abbrev pub expired_row : State → Machine → Machine

@@ -1,5 +1,5 @@
 -- A machine asks for its map, and may tell of itself.
-use Rattle.std.specs.Prelude.{ℕ, List, Option, Some, None, Result, Ok, map, filter, if◌then◌else◌}
+use Rattle.std.specs.Prelude.{◌≡◌, ℕ, true, List, Option, Some, None, Result, Ok, Contains, map, filter, if◌then◌else◌}
 use Rattle.tail_base.specs.declared.key.MachineKey.{MachineKey}
 use Rattle.tail_base.specs.declared.key.NodeKey.{NodeKey}
 use Rattle.tail_base.specs.Steps.{◌>>=◌}
@@ -7,11 +7,14 @@ use Rattle.net_rows.specs.Rows.{after}
 use Rattle.net_rows.specs.declared.change.Change.{Change}
 use Rattle.net_rows.specs.declared.machine.Machine.{Machine}
 use Rattle.tailcfg.specs.declared.update.Update.{Update}
-use Rattle.map_delta.specs.Fresh.{fresh}
+use Rattle.fresh_maps.specs.Fresh.{fresh}
 use Rattle.desk_state.specs.Decisions.{changing, only}
-use Rattle.desk_state.specs.State.{State, is_live}
+use Rattle.desk_state.specs.State.{State, is_live, is_online, live_ids}
 use Rattle.desk_state.specs.declared.decision.Decision.{Decision}
+use Rattle.desk_state.specs.declared.presence.MachinePresence.{MachinePresence}
 use Rattle.desk_state.specs.declared.refusal.Refusal.{Refusal}
+use Rattle.peer_view.specs.Seen.{Node, Seen, live_node, seen_of}
+use Rattle.fresh_maps.specs.declared.view.View.{View}
 use Rattle.machine_rows.specs.Rows.{row_replaced}
 use Rattle.machine_rows.specs.Same.{same_told}
 use Rattle.machine_asks.specs.Asking.{asking}
@@ -19,13 +22,30 @@ use Rattle.machine_asks.specs.Update.{told_row}
 use Rattle.machine_asks.specs.declared.answer.MachineAnswer.{MachineAnswer}
 use Rattle.machine_asks.specs.declared.answer.MachineAnswer.TheVariants.{Map}
 
--- the ids of the machines that are live
-abbrev pub live_ids : State → List ℕ
-live_ids s = map (λ (m : Machine). m.id) (filter (is_live s) s.rows.machines)
+-- the ids of the machines that are online
+abbrev pub online_ids : List MachinePresence → List ℕ
+online_ids presence = map (λ (p : MachinePresence). p.id) (filter (λ (p : MachinePresence). is_online (Some p.presence)) presence)
 
--- the whole map of a machine
+-- what is seen of the state
+abbrev pub world_of : State → Seen
+world_of s = seen_of s.settings s.policy s.rows (live_ids s) (online_ids s.presence)
+
+-- a machine of the state, as it is seen
+abbrev pub node_in : State → Machine → Node
+node_in s m = live_node s.rows.users (online_ids s.presence) m
+
+-- the map of a machine, computed afresh
+abbrev pub fresh_for : State → Machine → View
+fresh_for s m = fresh (world_of s) (node_in s m)
+
+-- the answer that is the whole map of a machine
 abbrev pub map_for : State → Machine → MachineAnswer
-map_for s m = Map (fresh s.settings s.rows (live_ids s) m)
+map_for s m = Map (fresh_for s m)
+
+-- The machine has a row, and is live.
+pub record IsLiveRow (s : State) (m : Machine) : Type 0 where
+  pub inside : Contains s.rows.machines m
+  pub live : is_live s m ≡ true
 
 -- the state after a change of rows
 abbrev pub after_change : State → Change → State

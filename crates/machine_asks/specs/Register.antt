@@ -6,7 +6,7 @@ use Rattle.tail_base.specs.declared.key.NodeKey.{NodeKey}
 use Rattle.net_rows.specs.Rows.{machine_of}
 use Rattle.net_rows.specs.declared.machine.Machine.{Machine}
 use Rattle.tailcfg.specs.declared.register.Register.{Register}
-use Rattle.map_delta.specs.Profiles.{profile_of}
+use Rattle.fresh_maps.specs.Profiles.{profile_of}
 use Rattle.desk_state.specs.Decisions.{only}
 use Rattle.desk_state.specs.State.{State, is_live}
 use Rattle.desk_state.specs.declared.decision.Decision.{Decision}

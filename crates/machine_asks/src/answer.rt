@@ -1,5 +1,5 @@
 //! What a machine is answered.
-use map_delta::View;
+use fresh_maps::View;
 use tail_base::Text;
 use tailcfg::Profile;
 

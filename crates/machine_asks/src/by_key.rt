@@ -6,8 +6,8 @@ ghost use Rattle.machine_asks.specs.ByKey as spec;
 
 use crate::answer::MachineAnswer;
 use desk_state::{Decision, Refusal, Snapshot, is_ahead, tags_granted};
+use fresh_maps::profile_of;
 use machine_rows::{Entrant, expiry_of, joined, machine_row, place_for, row_change, same_row};
-use map_delta::profile_of;
 use moments::Moment;
 use net_rows::{AuthKey, Change, Machine, Pending};
 use std::alloc::Global;
@@ -123,6 +123,7 @@ fn admitted_by_key(
     let answer = registered(alloc, at, row.user, row.expiry)?;
     Ok(Decision {
         change: change_by_key(alloc, at, was, row, next, key)?,
+        policy: None,
         offline,
         ended: Items::new(alloc),
         answer,

@@ -6,8 +6,8 @@ ghost use Rattle.net_rows.specs.Damage.{damage};
 ghost use Rattle.net_rows.specs.declared.machine.Machine.{Machine};
 ghost use Rattle.tailcfg.specs.declared.register.Register as form;
 ghost use Rattle.tailcfg.specs.declared.update.Update as update;
-ghost use Rattle.map_delta.specs.Profiles.{profile_of};
-ghost use Rattle.desk_state.specs.Decisions.{IsSound, only, rows_after};
+ghost use Rattle.fresh_maps.specs.Profiles.{profile_of};
+ghost use Rattle.desk_state.specs.Decisions.{IsPlain, only, rows_after};
 ghost use Rattle.desk_state.specs.State.{State};
 ghost use Rattle.desk_state.specs.declared.decision.Decision.{Decision};
 ghost use Rattle.machine_rows.specs.Same.{KeepsPlace, KeepsRegistration};
@@ -22,17 +22,17 @@ ghost use Rattle.machine_asks.specs.declared.ask.MachineAsk.{MachineAsk};
 ghost use Rattle.machine_asks.specs.declared.ask.MachineAsk.TheVariants.{Register};
 
 /// What is decided of a machine's ask has no change, or one that changes rows, lets no counter fall,
-/// and keeps the rules of the tables.
+/// and keeps the rules of the tables. The policy in force stays, and its text.
 pub fn machine_decisions_are_sound()
     ensures decided { (s : State) (x : MachineAsk) (words : Option (List ℕ))
         → AreSettings s.settings → damage s.rows ≡ None → IsShortMachineAsk x
-        → IsSound s.rows (decision s x words) }
+        → IsPlain s.rows (decision s x words) }
 {}
 
 /// And so with a seed.
 pub fn seeds_are_sound()
     ensures seeded { (s : State) (text : List ℕ) → damage s.rows ≡ None
-        → IsSound s.rows (seed s text) }
+        → IsPlain s.rows (seed s text) }
 {}
 
 /// A live machine that registers again with the node key that it has is answered for its user, and

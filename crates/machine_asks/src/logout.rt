@@ -6,8 +6,8 @@ ghost use Rattle.machine_asks.specs.Logout as spec;
 
 use crate::answer::MachineAnswer;
 use desk_state::{Decision, Refusal, Snapshot, is_ahead, is_live, machine_gone};
+use fresh_maps::profile_of;
 use machine_rows::row_replaced;
-use map_delta::profile_of;
 use moments::Moment;
 use net_rows::{Change, Machine};
 use std::alloc::Global;
@@ -33,6 +33,7 @@ fn session_ended(
     ended.push(row.id)?;
     Ok(Decision {
         change,
+        policy: None,
         offline: Items::new(alloc),
         ended,
         answer,

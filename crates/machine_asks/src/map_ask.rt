@@ -1,54 +1,103 @@
 //! A machine asks for its map, and may tell of itself.
-ghost use Rattle.std.specs.Prelude.{◌≡◌, ◌∷◌, ◌++◌, [], IfOk, IfSome, Contains, None, OnOk, if◌then◌else◌};
+ghost use Rattle.std.specs.Prelude.{◌≡◌, ◌∷◌, ◌++◌, [], IfOk, IfSome, None, OnOk, Some, if◌then◌else◌};
 ghost use Rattle.std.specs.Option.{option_copied};
-ghost use Rattle.desk_state.specs.State.{is_live};
+ghost use Rattle.desk_state.specs.State.{is_online, live_ids};
+ghost use Rattle.policy_eval.specs.Expansion.{expansion_of};
 ghost use Rattle.tail_base.specs.Steps.{Gives};
 ghost use Rattle.net_rows.specs.Damage.{damage};
 ghost use Rattle.net_rows.specs.Rows.{after};
 ghost use Rattle.tailcfg.specs.Short.{IsShortUpdate};
 ghost use Rattle.machine_asks.specs.OneMap as spec;
+ghost use Rattle.machine_asks.specs.OneMap.{IsLiveRow};
 ghost use Rattle.machine_rows.specs.Rows.{row_replaced};
 
 use crate::answer::MachineAnswer;
 use crate::told::told_row;
 use crate::who_asks::asking;
-use desk_state::{Decision, Refusal, Snapshot, is_live, keep_rules};
+use desk_state::{Decision, MachinePresence, Refusal, Snapshot, is_online, keep_rules, live_ids};
+use fresh_maps::{View, fresh_map};
 use machine_rows::{row_replaced, same_told};
-use map_delta::plain_map;
 use net_rows::{Change, Machine, Tables};
+use peer_view::World;
+use policy_eval::Expanded;
 use std::alloc::Global;
 use tail_base::{Duplicate, Failure, Items, MachineKey, NoMemory, NodeKey};
 use tailcfg::Update;
 
-/// Adds the machine's id, if it is live.
-fn add_live(at: &Snapshot<'_>, ids: &mut Items<u32>, machine: &Machine) -> Result<(), NoMemory>
+/// Adds the id, if that machine is online.
+fn add_online(ids: &mut Items<u32>, held: &MachinePresence) -> Result<(), NoMemory>
     ensures ok { OnOk result (ids.new
-        ≡ ids.old ++ (if is_live at.now machine.now then machine.now.id ∷ [] else [])) }
+        ≡ ids.old ++ (if is_online (Some held.now.presence) then held.now.id ∷ [] else [])) }
 {
-    if is_live(at, machine) {
-        ids.push(machine.id)
+    if is_online(Some(held.presence)) {
+        ids.push(held.id)
     } else {
         Ok(())
     }
 }
 
-/// The ids of the machines that are live.
-fn live_ids(alloc: Global, at: &Snapshot<'_>) -> Result<Items<u32>, NoMemory>
-    ensures value { IfOk result (λ ids. ids ≡ spec.live_ids at.now) }
+/// The ids of the machines that are online.
+fn online_ids(alloc: Global, presence: &[MachinePresence]) -> Result<Items<u32>, NoMemory>
+    ensures value { IfOk result (λ ids. ids ≡ spec.online_ids presence.now) }
 {
     let mut ids = Items::new(alloc);
-    for machine in at.tables.machines() {
-        add_live(at, &mut ids, machine)?;
+    for held in presence {
+        add_online(&mut ids, held)?;
     }
     Ok(ids)
 }
 
-/// The whole map of a machine, computed afresh.
+/// The whole map of a live machine of these ids, by what was expanded.
+fn map_over(
+    alloc: Global,
+    at: &Snapshot<'_>,
+    expanded: &Expanded,
+    live: &[u32],
+    online: &[u32],
+    row: &Machine,
+) -> Result<View, NoMemory>
+    requires live { IsLiveRow at.now row.now }
+    requires live_ids { live.now ≡ live_ids at.now }
+    requires online_ids { online.now ≡ spec.online_ids at.now.presence }
+    requires fits { expanded.now ≡ expansion_of at.now.policy at.now.rows live.now }
+    ensures value { IfOk result (λ view. view ≡ spec.fresh_for at.now row.now) }
+{
+    keep_rules(at);
+    let policy = at.policy.policy();
+    let world = World::new(at.settings, at.tables, policy, expanded, live, online);
+    let view = fresh_map(alloc, &world, row.id)?;
+    Ok(view)
+}
+
+/// The whole map of a live machine of these ids. What was expanded last is taken if it is the policy over
+/// these machines; else the policy is expanded.
+fn map_among(
+    alloc: Global,
+    at: &Snapshot<'_>,
+    live: &[u32],
+    online: &[u32],
+    row: &Machine,
+) -> Result<View, NoMemory>
+    requires live { IsLiveRow at.now row.now }
+    requires live_ids { live.now ≡ live_ids at.now }
+    requires online_ids { online.now ≡ spec.online_ids at.now.presence }
+    ensures value { IfOk result (λ view. view ≡ spec.fresh_for at.now row.now) }
+{
+    if let Some(expanded) = at.policy.expanded_over(at.tables, live) {
+        return map_over(alloc, at, expanded, live, online, row);
+    }
+    let expanded = Expanded::of(alloc, at.policy.policy(), at.tables, live)?;
+    map_over(alloc, at, &expanded, live, online, row)
+}
+
+/// The whole map of a live machine, computed afresh.
 fn map_for(alloc: Global, at: &Snapshot<'_>, row: &Machine) -> Result<MachineAnswer, NoMemory>
+    requires live { IsLiveRow at.now row.now }
     ensures value { IfOk result (λ a. a ≡ spec.map_for at.now row.now) }
 {
     let live = live_ids(alloc, at)?;
-    let view = plain_map(alloc, at.settings, at.tables, live.as_slice(), row)?;
+    let online = online_ids(alloc, at.presence.as_slice())?;
+    let view = map_among(alloc, at, live.as_slice(), online.as_slice(), row)?;
     Ok(MachineAnswer::Map(view))
 }
 
@@ -59,12 +108,14 @@ fn map_in(
     tables: &Tables,
     row: &Machine,
 ) -> Result<MachineAnswer, NoMemory>
+    requires live { IsLiveRow (record at.now { rows = tables.now.rows }) row.now }
     ensures value { IfOk result (λ a. a
         ≡ spec.map_for (record at.now { rows = tables.now.rows }) row.now) }
 {
     let changed = Snapshot {
         settings: at.settings,
         tables,
+        policy: at.policy,
         presence: at.presence,
         time: at.time,
     };
@@ -79,6 +130,7 @@ fn changed_map(
     row: &Machine,
 ) -> Result<MachineAnswer, NoMemory>
     requires sound { damage (after at.now.rows change.now) ≡ None }
+    requires live { IsLiveRow (spec.after_change at.now change.now) row.now }
     ensures value { IfOk result (λ a. a
         ≡ spec.map_for (spec.after_change at.now change.now) row.now) }
 {
@@ -93,6 +145,8 @@ fn map_after_update(
     told: Machine,
 ) -> Result<Decision<MachineAnswer>, NoMemory>
     requires sound { damage (after at.now.rows (row_replaced at.now.rows told)) ≡ None }
+    requires was { IsLiveRow at.now was.now }
+    requires told { IsLiveRow (spec.after_change at.now (row_replaced at.now.rows told)) told }
     ensures value { IfOk result (λ d. d ≡ spec.map_after_update at.now was.now told) }
 {
     if same_told(was, &told) {
@@ -109,7 +163,7 @@ fn map_decision(
     row: &Machine,
     update: Option<&Update>,
 ) -> Result<Decision<MachineAnswer>, NoMemory>
-    requires inside { Contains at.now.rows.machines row.now }
+    requires live { IsLiveRow at.now row.now }
     requires short { IfSome (option_copied update) IsShortUpdate }
     ensures value { IfOk result (λ d. d
         ≡ spec.map_decision at.now row.now (option_copied update.entry)) }

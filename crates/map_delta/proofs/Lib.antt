@@ -1,3 +1,9 @@
-pub mod ListedLemmas
-pub mod NodeLemmas
-pub mod ShownLemmas
+pub mod IdLaws
+pub mod PlaceLemmas
+pub mod PatchLemmas
+pub mod PeerLemmas
+pub mod ProfileLemmas
+pub mod DeltaLaws
+pub mod FirstLaws
+pub mod SessionLaws
+pub mod ListedLaws

@@ -1,6 +1,4 @@
-pub mod Nodes
-pub mod Filters
-pub mod Profiles
-pub mod Fresh
-pub mod Responses
-pub mod Frames
+pub mod Puts
+pub mod Fold
+pub mod Delta
+pub mod Listed

@@ -1,18 +1,12 @@
-//! What a machine is told of the tailnet: its map, computed afresh, and the responses and frames
-//! that carry it.
+//! The responses that bring a client's map to a newer one, and the map that a client has after them.
 #![tactic(auto)]
 
-mod filter;
-mod frame;
-mod fresh;
-mod listed;
-mod node;
-mod profile;
-mod response;
-mod view;
+mod laws;
+mod patch;
+mod patching;
+mod puts;
 
-pub use frame::{first_frame, frame_bytes};
-pub use fresh::plain_map;
-pub use profile::profile_of;
-pub use response::first_response;
-pub use view::View;
+pub use laws::{
+    changes_stand_at_listed_ids, deltas_bring_new_maps, first_responses_are_whole_maps,
+    greetings_change_nothing, sessions_have_their_maps,
+};

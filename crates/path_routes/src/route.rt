@@ -15,5 +15,6 @@ pub enum Route {
     NodeRename,
     NodeTags,
     Waiting,
+    Policy,
     Sweep,
 }

@@ -4,4 +4,5 @@ pub mod LiveLaws
 pub mod OpenLaws
 pub mod ReachLaws
 pub mod SightLaws
+pub mod WayLemmas
 pub mod WorldLaws

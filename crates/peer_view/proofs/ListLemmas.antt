@@ -1,5 +1,5 @@
 -- Lists mapped and filtered, and what is found in them.
-use Rattle.std.proofs.Common.{◌≡◌, ◌<◌, ℕ, Bool, List, [], ◌∷◌, arith, refl, ap, sym, ◌∙◌, inl, inr}
+use Rattle.std.proofs.Common.{◌≡◌, ◌<◌, ℕ, Bool, true, false, List, [], ◌∷◌, arith, refl, ap, sym, ◌∙◌, inl, inr}
 use Rattle.std.specs.Prelude.{Contains, filter, map}
 use Rattle.std.specs.List.{find}
 use Rattle.std.specs.Option.{option_map}
@@ -44,6 +44,32 @@ filter_member {A} test (x ∷ xs) a m =
         | inr r ↦ rest_member x xs a (filter_member test xs a r)
       ]
       | inr fails ↦ rest_member x xs a (filter_member test xs a (rw fails at m))
+    ]
+
+-- what a filtered list has passes the test, and what passes it has
+pub filtered_passes : {A : Type 0} (test : A → Bool) (xs : List A) (a : A) → Contains (filter test xs) a → test a ≡ true
+filtered_passes test [] a m = absurd (no_member a m)
+filtered_passes {A} test (x ∷ xs) a m =
+    elim (cases_Bool (test x)) [
+      | inl passes ↦ elim (cut_member x (filter test xs) a (rw passes at m)) [
+        | inl e ↦ ap test e ∙ passes
+        | inr r ↦ filtered_passes test xs a r
+      ]
+      | inr fails ↦ filtered_passes test xs a (rw fails at m)
+    ]
+
+pub filtered_member : {A : Type 0} (test : A → Bool) (xs : List A) (a : A) → Contains xs a → test a ≡ true → Contains (filter test xs) a
+filtered_member test [] a m h = absurd (no_member a m)
+filtered_member {A} test (x ∷ xs) a m h =
+    elim (cases_Bool (test x)) [
+      | inl passes ↦ elim (cut_member x xs a m) [
+        | inl e ↦ rw (passes, e) (first_member x (filter test xs))
+        | inr r ↦ rw passes (rest_member x (filter test xs) a (filtered_member test xs a r h))
+      ]
+      | inr fails ↦ elim (cut_member x xs a m) [
+        | inl e ↦ let clash : false ≡ true = sym fails ∙ ap test (sym e) ∙ h in absurd (cc)
+        | inr r ↦ rw fails (filtered_member test xs a r h)
+      ]
     ]
 
 pub ascending_map : {A B : Type 0} (id : A → ℕ) (f : A → B) (id' : B → ℕ) → ((a : A) → id' (f a) ≡ id a) → (xs : List A) → IsAscending id xs → IsAscending id' (map f xs)

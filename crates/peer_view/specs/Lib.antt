@@ -1,3 +1,6 @@
+pub mod Nodes
 pub mod Reaches
 pub mod Seen
+pub mod Shown
 pub mod Worlds
+pub mod Ways

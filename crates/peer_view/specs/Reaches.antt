@@ -1,5 +1,5 @@
 -- Which machines reach which.
-use Rattle.std.specs.Prelude.{◌<◌, ◌==◌, ℕ, ◌&&◌, ◌||◌, Bool, true, false, List, [], ◌∷◌, Option, Some}
+use Rattle.std.specs.Prelude.{◌<◌, ◌==◌, ℕ, ◌&&◌, ◌||◌, Bool, false, List, [], ◌∷◌, Option, Some}
 use Rattle.std.specs.List.{find, list_any}
 use Rattle.std.specs.Option.{option_map_or}
 use Rattle.net_addr.specs.Bits.{Address, family_size}
@@ -7,7 +7,6 @@ use Rattle.policy_rows.specs.declared.group.Group.{Group}
 use Rattle.policy_rows.specs.declared.policy.Policy.{Policy}
 use Rattle.policy_rows.specs.declared.rule.Rule.{Rule}
 use Rattle.policy_rows.specs.declared.selector.Selector.{Selector}
-use Rattle.policy_rows.specs.declared.selector.Selector.TheVariants as sel
 use Rattle.policy_eval.specs.Covers.{covers, is_own, is_own_devices}
 use Rattle.policy_eval.specs.Ends.{end_at, holder_of}
 use Rattle.policy_eval.specs.Reach.{reaches_into}

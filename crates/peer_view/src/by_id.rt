@@ -18,7 +18,7 @@ fn site_place(sites: &[Site], id: u32) -> Result<usize, usize>
 }
 
 /// The site of the id, among sites by ascending id.
-fn site_with(sites: &[Site], id: u32) -> Option<&Site>
+pub(crate) fn site_with(sites: &[Site], id: u32) -> Option<&Site>
     requires ascending { IsAscending (λ site. site.id) sites.now }
     ensures value { option_copied result ≡ site_with sites.now id }
 {

@@ -1,14 +1,22 @@
-//! Which machines of a tailnet reach and see one another under a policy.
+//! Which machines of a tailnet reach and see one another under a policy, and how they are shown.
 #![tactic(auto)]
 
 mod by_id;
 mod laws;
+mod machine;
+mod node;
 mod pair;
+mod shown_rows;
 mod site_rules;
 mod steps;
+mod way;
 mod world;
 
 pub use laws::{all_see_all_without_policy, reach_is_local, sight_is_mutual_and_by_rules};
-pub use pair::{pair_test, sees};
+pub use machine::LiveMachine;
+pub use node::TAGGED_OWNER;
+pub use pair::{pair_test, sees, sees_machine};
+pub use shown_rows::{own_row, shown};
 pub use steps::Steps;
+pub use way::{Way, ways_of};
 pub use world::World;

@@ -1,9 +1,12 @@
 //! Who reaches and who sees whom.
-ghost use Rattle.std.specs.Prelude.{◌≡◌, ◌≤◌, ◌+◌};
+ghost use Rattle.std.specs.Prelude.{◌≡◌, ◌≤◌, ◌+◌, Contains};
 ghost use Rattle.peer_view.specs.Seen.{node_reaches, of_ids, sees};
+ghost use Rattle.peer_view.specs.Ways.{ways_of};
 
 use crate::by_id::id_reaches;
+use crate::machine::LiveMachine;
 use crate::steps::Steps;
+use crate::way::{Way, some_way_joins};
 use crate::world::World;
 use std::sync::ledger::Ledger;
 
@@ -34,4 +37,26 @@ pub fn sees<L: Ledger>(world: &World<'_>, viewer: u32, peer: u32, steps: &mut St
         return true;
     }
     pair_test(world, peer, viewer, steps)
+}
+
+/// Whether one live machine, of which the rules say this, sees the other. It takes no memory, and looks
+/// up no ids.
+pub fn sees_machine(
+    world: &World<'_>,
+    viewer: &LiveMachine<'_>,
+    ways: &[Way<'_>],
+    peer: &LiveMachine<'_>,
+) -> bool
+    requires viewer { Contains world.now.nodes viewer.now }
+    requires ways { ways.now ≡ ways_of world.now viewer.now }
+    requires peer { Contains world.now.nodes peer.now }
+    ensures value { result ≡ sees world.now viewer.now peer.now }
+{
+    if viewer.row.id == peer.row.id {
+        return false;
+    }
+    let expanded = world.expanded;
+    // For what it promises, that rules are sound.
+    let _rules = expanded.rules();
+    some_way_joins(expanded.groups(), ways, viewer.site, peer.site)
 }

@@ -32,7 +32,7 @@ fn covers_site(groups: &[Group], site: &Site, selector: &Selector) -> bool
 }
 
 /// Whether the machine may send by the rule.
-fn sends(groups: &[Group], rule: &Rule, site: &Site) -> bool
+pub(crate) fn sends(groups: &[Group], rule: &Rule, site: &Site) -> bool
     ensures value { result ≡ sends groups.now rule.now site.now }
 {
     let sources = rule.sources.as_slice();
@@ -42,7 +42,7 @@ fn sends(groups: &[Group], rule: &Rule, site: &Site) -> bool
 }
 
 /// Whether the rule lets through to the machine whoever may send by it.
-fn takes(groups: &[Group], rule: &Rule, site: &Site) -> bool
+pub(crate) fn takes(groups: &[Group], rule: &Rule, site: &Site) -> bool
     ensures value { result ≡ takes groups.now rule.now site.now }
 {
     let entries = rule.dests.as_slice();
@@ -52,7 +52,7 @@ fn takes(groups: &[Group], rule: &Rule, site: &Site) -> bool
 }
 
 /// Whether the rule has `autogroup:self` as a destination.
-fn has_own_devices(entries: &[Dest]) -> bool
+pub(crate) fn has_own_devices(entries: &[Dest]) -> bool
     ensures value { result ≡ list_any (λ entry. is_own_devices entry.to) entries.now }
 {
     entries.iter().any(|entry| is_own_devices(&entry.to))

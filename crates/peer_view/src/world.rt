@@ -1,25 +1,28 @@
 //! What is known of the live machines of a tailnet.
-ghost use Rattle.std.specs.Prelude.{◌≡◌};
+ghost use Rattle.std.specs.Prelude.{◌≡◌, Contains};
 ghost use Rattle.std.specs.Option.{option_copied};
 ghost use Rattle.policy_eval.specs.Expansion.{expansion_of};
-ghost use Rattle.peer_view.specs.Seen.{seen_of};
+ghost use Rattle.peer_view.specs.Seen.{IsSoundSeen, expansion_seen, node_with, seen_of, sites_seen};
 
-use net_rows::Tables;
-use policy_eval::Expanded;
+use crate::by_id::site_with;
+use crate::machine::LiveMachine;
+use net_rows::{Tables, User};
+use policy_eval::{Expanded, IdList, Site};
 use policy_rows::Policy;
-use settings::Settings;
+use settings::{Settings, SettingsFields};
 use std::marker::Model;
+use tailcfg::DnsExtra;
 
 /// Settings, tables, the policy in force with its expansion over the live machines, the ids of these,
 /// and the ids of those that are online. Contracts see all that maps depend on.
 #[derive(Drop)]
 pub struct World<'a> {
-    pub settings: &'a Settings,
-    pub tables: &'a Tables,
-    pub policy: Option<&'a Policy>,
-    pub expanded: &'a Expanded,
-    pub live: &'a [u32],
-    pub online: &'a [u32],
+    pub(crate) settings: &'a Settings,
+    pub(crate) tables: &'a Tables,
+    pub(crate) policy: Option<&'a Policy>,
+    pub(crate) expanded: &'a Expanded,
+    pub(crate) live: &'a [u32],
+    pub(crate) online: IdList<'a>,
 }
 
 impl<'a> Model for World<'a> {
@@ -30,7 +33,7 @@ impl<'a> Model for World<'a> {
     ghost Value = { Seen };
 
     ghost view = { λ w. seen_of w.settings.now (option_copied w.policy) w.tables.now.rows
-        w.live.now w.online.now };
+        w.live.now w.online };
 
     ghost invariant = { λ w. IsWorld w.expanded.now (option_copied w.policy) w.tables.now.rows
         w.live.now };
@@ -59,7 +62,61 @@ impl<'a> World<'a> {
             policy,
             expanded,
             live,
-            online,
+            online: IdList::of(online),
+        }
+    }
+
+    /// The settings.
+    pub fn fields(&self) -> &SettingsFields
+        ensures value { result.now ≡ self.now.settings }
+    {
+        self.settings.fields()
+    }
+
+    /// The users by id. What is seen of the tables keeps their rules.
+    pub fn users(&self) -> &[User]
+        ensures value { result.now ≡ self.now.users }
+        ensures sound { IsSoundSeen self.now }
+    {
+        self.tables.users()
+    }
+
+    /// The extra DNS records.
+    pub fn extras(&self) -> &[DnsExtra]
+        ensures value { result.now ≡ self.now.extras }
+    {
+        self.tables.extras()
+    }
+
+    /// The policy, expanded over the live machines.
+    pub fn expanded(&self) -> &Expanded
+        ensures value { result.now ≡ expansion_seen self.now }
+    {
+        self.expanded
+    }
+
+    /// The live machine of a site.
+    pub fn machine_at<'b>(&'b self, site: &'b Site) -> Option<LiveMachine<'b>>
+        requires among { Contains (sites_seen self.now) site.now }
+        ensures value { result ≡ node_with self.now site.now.id }
+    {
+        match self.tables.machine(site.id) {
+            None => None,
+            Some(row) => Some(LiveMachine {
+                row,
+                site,
+                online: self.online.has(site.id),
+            }),
+        }
+    }
+
+    /// The live machine of an id.
+    pub fn machine(&self, id: u32) -> Option<LiveMachine<'_>>
+        ensures value { result ≡ node_with self.now id }
+    {
+        match site_with(self.expanded.sites(), id) {
+            None => None,
+            Some(site) => self.machine_at(site),
         }
     }
 }

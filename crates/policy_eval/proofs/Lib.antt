@@ -1,6 +1,9 @@
 pub mod EndLemmas
 pub mod FitLemmas
+pub mod FittingLemmas
+pub mod IdLemmas
 pub mod MatchLemmas
+pub mod NetLemmas
 pub mod ReachLemmas
 pub mod SetLemmas
 pub mod SiteLemmas

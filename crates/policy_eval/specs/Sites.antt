@@ -25,9 +25,13 @@ site_of users m = record {
   tags = m.tags;
 }
 
+-- the id is one of the listed
+abbrev pub is_listed : List ℕ → ℕ → Bool
+is_listed ids id = list_any (λ other. other == id) ids
+
 -- the machine is one of the live ones, whose ids these are
 abbrev pub is_among : List ℕ → Machine → Bool
-is_among live m = list_any (λ id. id == m.id) live
+is_among live m = is_listed live m.id
 
 -- the sites of the live machines, by id, which is the tables' order
 abbrev pub sites_of : Rows → List ℕ → List Site

@@ -9,8 +9,10 @@ ghost use Rattle.range_sets.specs.Sets.{some_holds};
 ghost use Rattle.policy_eval.specs.Covers.{covers};
 ghost use Rattle.policy_eval.specs.Ends.{end_at};
 ghost use Rattle.policy_eval.specs.Expansion.{site_named};
+ghost use Rattle.policy_eval.specs.Named.{AreNets};
 ghost use Rattle.policy_eval.specs.Sites.{AreDistinct, site_has};
 
+use crate::group_nets::{GroupNets, add_group};
 use crate::site::Site;
 use net_addr::{Addr, Prefix};
 use policy_rows::{Group, Selector, internet_nets, is_named, not_internet};
@@ -29,7 +31,7 @@ fn add_one(out: &mut Items<Prefix>, net: Prefix) -> Result<(), NoMemory>
 
 /// Adds prefixes.
 #[tactic(auto, using(crate::proofs::SetLemmas::set_steps))]
-fn add_all(out: &mut Items<Prefix>, more: &[Prefix]) -> Result<(), NoMemory>
+pub(crate) fn add_all(out: &mut Items<Prefix>, more: &[Prefix]) -> Result<(), NoMemory>
     ensures held { OnOk result ((addr : Address)
         → some_holds out.new addr ≡ (some_holds out.old addr || some_holds more.now addr)) }
 {
@@ -105,7 +107,7 @@ fn add_named(
 
 /// Adds the addresses of the sites whose holders the selector names.
 #[tactic(auto, using(crate::proofs::SetLemmas::set_steps))]
-fn add_sites(
+pub(crate) fn add_sites(
     out: &mut Items<Prefix>,
     groups: &[Group],
     selector: &Selector,
@@ -121,16 +123,18 @@ fn add_sites(
     Ok(())
 }
 
-/// Adds the addresses that the selector covers.
+/// Adds the addresses that the selector covers, with those of groups at hand.
 #[tactic(auto, using(crate::proofs::SetLemmas::set_steps))]
 pub(crate) fn add_covered(
     alloc: Global,
     out: &mut Items<Prefix>,
     groups: &[Group],
+    named: &[GroupNets],
     selector: &Selector,
     sites: &[Site],
 ) -> Result<(), NoMemory>
     requires distinct { AreDistinct sites.now }
+    requires named { AreNets groups.now sites.now named.now }
     ensures held { OnOk result ((addr : Address) → addr.bits < family_size addr.v6
         → some_holds out.new addr
         ≡ (some_holds out.old addr || covers groups.now selector.now (end_at sites.now addr))) }
@@ -140,10 +144,8 @@ pub(crate) fn add_covered(
         Selector::Net(net) => out.push(*net),
         Selector::Internet => add_internet(alloc, out),
         Selector::OwnDevices => Ok(()),
-        Selector::User(_)
-        | Selector::Group(_)
-        | Selector::Tagged(_)
-        | Selector::Member
-        | Selector::AllTagged => add_sites(out, groups, selector, sites),
+        Selector::Group(name) => add_group(out, groups, named, selector, name, sites),
+        Selector::User(_) | Selector::Tagged(_) | Selector::Member | Selector::AllTagged =>
+            add_sites(out, groups, selector, sites),
     }
 }

@@ -3,9 +3,11 @@ ghost use Rattle.std.specs.Prelude.{◌≡◌, ◌<◌, IfOk, length, slice_inde
 ghost use Rattle.net_addr.specs.Bits.{Address, family_size};
 ghost use Rattle.range_sets.specs.Sets.{Ranges, some_holds};
 ghost use Rattle.policy_eval.specs.Expansion.{AreMatched, EntryFits, IsSetOf, RuleFits, entry_covers, source_covers};
+ghost use Rattle.policy_eval.specs.Named.{AreNets};
 ghost use Rattle.policy_eval.specs.Sites.{AreDistinct};
 ghost use Rattle.policy_eval.specs.declared.rule_sets.RuleSets.{RuleSets};
 
+use crate::group_nets::{GroupNets, nets_of_groups};
 use crate::listing::add_covered;
 use crate::site::Site;
 use net_addr::Prefix;
@@ -25,16 +27,18 @@ pub(crate) struct RuleSets {
 fn source_prefixes(
     alloc: Global,
     groups: &[Group],
+    named: &[GroupNets],
     sites: &[Site],
     rule: &Rule,
 ) -> Result<Items<Prefix>, NoMemory>
     requires distinct { AreDistinct sites.now }
+    requires named { AreNets groups.now sites.now named.now }
     ensures held { IfOk result (λ nets. (addr : Address) → addr.bits < family_size addr.v6
         → some_holds nets addr ≡ source_covers groups.now sites.now rule.now addr) }
 {
     let mut out = Items::new(alloc);
     for selector in rule.sources.as_slice() {
-        add_covered(alloc, &mut out, groups, selector, sites)?;
+        add_covered(alloc, &mut out, groups, named, selector, sites)?;
     }
     Ok(out)
 }
@@ -42,42 +46,48 @@ fn source_prefixes(
 fn source_set(
     alloc: Global,
     groups: &[Group],
+    named: &[GroupNets],
     sites: &[Site],
     rule: &Rule,
 ) -> Result<RangeSet, NoMemory>
     requires distinct { AreDistinct sites.now }
+    requires named { AreNets groups.now sites.now named.now }
     ensures held { IfOk result (λ set. IsSetOf set (source_covers groups.now sites.now rule.now)) }
 {
-    let nets = source_prefixes(alloc, groups, sites, rule)?;
+    let nets = source_prefixes(alloc, groups, named, sites, rule)?;
     RangeSet::of_prefixes(alloc, nets.as_slice())
 }
 
 fn entry_set(
     alloc: Global,
     groups: &[Group],
+    named: &[GroupNets],
     sites: &[Site],
     entry: &Dest,
 ) -> Result<RangeSet, NoMemory>
     requires distinct { AreDistinct sites.now }
+    requires named { AreNets groups.now sites.now named.now }
     ensures held { IfOk result (EntryFits groups.now sites.now entry.now) }
 {
     let mut nets = Items::new(alloc);
-    add_covered(alloc, &mut nets, groups, &entry.to, sites)?;
+    add_covered(alloc, &mut nets, groups, named, &entry.to, sites)?;
     RangeSet::of_prefixes(alloc, nets.as_slice())
 }
 
 fn entry_sets(
     alloc: Global,
     groups: &[Group],
+    named: &[GroupNets],
     sites: &[Site],
     entries: &[Dest],
 ) -> Result<Items<RangeSet>, NoMemory>
     requires distinct { AreDistinct sites.now }
+    requires named { AreNets groups.now sites.now named.now }
     ensures matched { IfOk result (AreMatched (EntryFits groups.now sites.now) entries.now) }
 {
     let mut sets = Items::new(alloc);
     for entry in entries {
-        let set = entry_set(alloc, groups, sites, entry)?;
+        let set = entry_set(alloc, groups, named, sites, entry)?;
         sets.push(set)?;
     }
     Ok(sets)
@@ -86,14 +96,16 @@ fn entry_sets(
 fn rule_sets(
     alloc: Global,
     groups: &[Group],
+    named: &[GroupNets],
     sites: &[Site],
     rule: &Rule,
 ) -> Result<RuleSets, NoMemory>
     requires distinct { AreDistinct sites.now }
+    requires named { AreNets groups.now sites.now named.now }
     ensures fits { IfOk result (RuleFits groups.now sites.now rule.now) }
 {
-    let sources = source_set(alloc, groups, sites, rule)?;
-    let dests = entry_sets(alloc, groups, sites, rule.dests.as_slice())?;
+    let sources = source_set(alloc, groups, named, sites, rule)?;
+    let dests = entry_sets(alloc, groups, named, sites, rule.dests.as_slice())?;
     Ok(RuleSets { sources, dests })
 }
 
@@ -107,9 +119,10 @@ pub(crate) fn sets_of_rules(
     requires distinct { AreDistinct sites.now }
     ensures matched { IfOk result (AreMatched (RuleFits groups.now sites.now) rules.now) }
 {
+    let named = nets_of_groups(alloc, groups, sites)?;
     let mut made = Items::new(alloc);
     for rule in rules {
-        let sets = rule_sets(alloc, groups, sites, rule)?;
+        let sets = rule_sets(alloc, groups, named.as_slice(), sites, rule)?;
         made.push(sets)?;
     }
     Ok(made)

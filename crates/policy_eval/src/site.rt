@@ -5,6 +5,7 @@ ghost use Rattle.policy_eval.specs.Covers.{is_own};
 ghost use Rattle.policy_eval.specs.Ends.{holder_of};
 ghost use Rattle.policy_eval.specs.Sites.{AreDistinct, is_among, owner_login, site_of, sites_of};
 
+use crate::id_list::IdList;
 use net_addr::Addr;
 use net_rows::{Machine, Tables, User};
 use std::alloc::Global;
@@ -52,10 +53,10 @@ fn site_of(alloc: Global, tables: &Tables, machine: &Machine) -> Result<Site, No
     })
 }
 
-fn is_among(live: &[u32], machine: &Machine) -> bool
+pub(crate) fn is_among(live: &IdList<'_>, machine: &Machine) -> bool
     ensures value { result ≡ is_among live.now machine.now }
 {
-    live.iter().any(|id| *id == machine.id)
+    live.has(machine.id)
 }
 
 /// Adds the machine's site, where the machine is live.
@@ -63,7 +64,7 @@ fn add_site(
     alloc: Global,
     sites: &mut Items<Site>,
     tables: &Tables,
-    live: &[u32],
+    live: &IdList<'_>,
     machine: &Machine,
 ) -> Result<(), NoMemory>
     ensures ok { OnOk result (sites.new ≡ sites.old ++ (if is_among live.now machine.now
@@ -81,7 +82,7 @@ fn sites_among(
     alloc: Global,
     tables: &Tables,
     machines: &[Machine],
-    live: &[u32],
+    live: &IdList<'_>,
 ) -> Result<Items<Site>, NoMemory>
     ensures value { IfOk result (λ sites. sites
         ≡ map (site_of tables.now.rows.users) (filter (is_among live.now) machines.now)) }
@@ -99,6 +100,7 @@ pub fn sites_of(alloc: Global, tables: &Tables, live: &[u32]) -> Result<Items<Si
     ensures distinct { IfOk result AreDistinct }
 {
     let machines = tables.machines();
-    let sites = sites_among(alloc, tables, machines, live)?;
+    let listed = IdList::of(live);
+    let sites = sites_among(alloc, tables, machines, &listed)?;
     Ok(sites)
 }

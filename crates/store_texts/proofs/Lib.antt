@@ -1,3 +1,9 @@
+pub mod Lists
+pub mod Clearing
+pub mod Running
+pub mod Writes
+pub mod Puts
+pub mod Places
 pub mod Deletes
 pub mod Inserts
 pub mod Meanings

@@ -2,3 +2,4 @@ pub mod Commands
 pub mod Means
 pub mod Schema
 pub mod Texts
+pub mod Ran

@@ -10,9 +10,10 @@ use Rattle.net_rows.proofs.Sounds.{sound_of}
 use Rattle.settings.specs.Settings.{AreSettings}
 use Rattle.settings.specs.declared.fields.SettingsFields.{SettingsFields}
 use Rattle.tailnet_desk.specs.Chains.{Chain, IsHistory, Turned}
+use Rattle.tailnet_desk.specs.Opening.{opening}
 use Rattle.tailnet_desk.specs.Seated.{Keeping, Point}
 use Rattle.tailnet_desk.specs.Turns.{IsTurn}
-use Rattle.desk_state.specs.State.{State, opening}
+use Rattle.desk_state.specs.State.{State}
 use Rattle.tailnet_desk.specs.declared.desk.OpenFault.{OpenFault}
 use Rattle.tailnet_desk.specs.declared.desk.OpenFault.TheVariants as fault
 use Rattle.tailnet_desk.proofs.Histories.{Chain-append, history_of}

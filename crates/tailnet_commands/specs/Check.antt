@@ -1,25 +1,22 @@
 -- What the command `policy-check` comes to.
-use Rattle.std.specs.Prelude.{◌≡◌, ◌≤◌, ℕ, Bool, Option, List, [], ◌++◌, length, codes, Result, Ok, Err, IfSome, IsSomeAnd, ◌==◌, if◌then◌else◌}
+use Rattle.std.specs.Prelude.{◌≡◌, ◌≤◌, ℕ, Bool, Option, List, [], ◌++◌, length, codes, Result, Ok, Err, IfSome, IsSomeAnd, if◌then◌else◌}
 use Rattle.io_edge.specs.Edge.{Rose}
 use Rattle.policy_doc.specs.Document.{policy_of_text}
-use Rattle.tail_base.specs.Steps.{◌>>=◌, refuse_unless}
-use Rattle.policy_rows.specs.Faults.{fault_at, fault_text}
-use Rattle.policy_rows.specs.declared.code.PolicyCode.TheVariants as code
+use Rattle.tail_base.specs.Steps.{◌>>=◌}
+use Rattle.policy_rows.specs.Faults.{fault_text}
 use Rattle.policy_rows.specs.declared.fault.PolicyFault.{PolicyFault}
-use Rattle.policy_rows.specs.declared.policy.Policy.{Policy}
+use Rattle.policy_tests.specs.Tests.{tested}
 use Rattle.run_ends.specs.Pieces.{Wrote}
 use Rattle.tailnet_commands.specs.Pipe.{IsTooLarge}
 use Rattle.tailnet_commands.specs.declared.limits.TheConstants.{FILE_LIMIT}
 use Rattle.run_ends.specs.declared.status.Status.{Status}
 use Rattle.run_ends.specs.declared.status.Status.TheVariants as status
 
--- tests aren't run yet: a policy with tests has a fault there
-abbrev pub untested : Policy → Result (Unit {0}) PolicyFault
-untested policy = refuse_unless (length policy.tests == 0) (fault_at code.Unsupported (codes "tests"))
-
--- the verdict on a text: it is a policy, or this is its first fault
+-- the verdict on a text: it is a policy that passes its tests over no machines, or else its first fault
 unfoldable pub verdict_of : List ℕ → Result (Unit {0}) PolicyFault
-verdict_of text = policy_of_text text >>= untested
+verdict_of text = do
+  policy ← policy_of_text text
+  tested policy []
 
 -- the line of a verdict
 abbrev pub verdict_line : Result (Unit {0}) PolicyFault → List ℕ

@@ -9,10 +9,9 @@ use Rattle.net_rows.specs.declared.change.Kind.{Kind}
 use Rattle.net_rows.specs.declared.rows.Rows.{Rows}
 use Rattle.settings.specs.declared.fields.SettingsFields.{SettingsFields}
 use Rattle.tailnet_desk.specs.Chains.{Chain, Turned, IsHistory}
-use Rattle.tailnet_desk.specs.Opening.{unserved}
+use Rattle.tailnet_desk.specs.Opening.{opening, unserved}
 use Rattle.tailnet_desk.specs.Seated.{Keeping, Point}
 use Rattle.tailnet_desk.specs.Turns.{IsTurn}
-use Rattle.desk_state.specs.State.{opening}
 use Rattle.tailnet_desk.specs.declared.desk.OpenFault.{OpenFault}
 use Rattle.tailnet_desk.specs.declared.desk.OpenFault.TheVariants as fault
 use Rattle.desk_front.specs.Wanted.{front_settings}

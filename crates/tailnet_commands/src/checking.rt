@@ -2,34 +2,26 @@
 ghost use Rattle.std.specs.Prelude.{◌≡◌, ◌++◌, IfOk, false, codes};
 ghost use Rattle.tail_base.specs.Steps.{Gives};
 ghost use Rattle.policy_rows.specs.Faults.{fault_text};
-ghost use Rattle.tailnet_commands.specs.Check.{Checked, Said, check_line, untested, verdict_line, verdict_of, verdict_status};
+ghost use Rattle.tailnet_commands.specs.Check.{Checked, Said, check_line, verdict_line, verdict_of, verdict_status};
 ghost use Rattle.run_ends.specs.Lines.{Noted};
 
 use crate::limits::FILE_LIMIT;
 use io_edge::{FileFault, Files, Sink};
+use net_rows::Tables;
 use policy_doc::read_policy;
-use policy_rows::{Policy, PolicyCode, PolicyFault, fault_text, refused};
+use policy_rows::{PolicyFault, fault_text};
+use policy_tests::tested;
 use run_ends::{Status, note_line, write_all};
 use std::alloc::Global;
 use tail_base::{Failure, NoMemory, Text};
 
-/// Refuses a policy with tests, which aren't run yet.
-fn untested(alloc: Global, policy: &Policy) -> Result<(), Failure<PolicyFault>>
-    ensures value { Gives (λ x. x) result (untested policy.now) }
-{
-    if policy.tests.len() > 0 {
-        return refused(alloc, PolicyCode::Unsupported, "tests");
-    }
-    Ok(())
-}
-
-/// Whether the text is a policy, or else its first fault.
+/// Whether the text is a policy that passes its tests over no machines, or else its first fault.
 #[tactic(auto, unfolding(crate::specs::Check::verdict_of))]
 fn verdict_of(alloc: Global, text: &[u8]) -> Result<(), Failure<PolicyFault>>
     ensures value { Gives (λ x. x) result (verdict_of text.now) }
 {
     let policy = read_policy(alloc, text)?;
-    untested(alloc, &policy)
+    tested(alloc, &policy, &Tables::empty(alloc), &[])
 }
 
 /// What is said of a policy.

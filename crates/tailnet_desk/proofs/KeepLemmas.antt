@@ -4,6 +4,7 @@ use Rattle.io_edge.specs.Edge.{Rose}
 use Rattle.io_edge.specs.declared.faults.EdgeFault.{EdgeFault}
 use Rattle.io_edge.specs.declared.faults.EdgeFault.TheVariants as edge
 use Rattle.net_rows.specs.declared.change.Change.{Change}
+use Rattle.policy_rows.specs.declared.policy.Policy.{Policy}
 use Rattle.row_keeper.specs.Calls.{one_more}
 use Rattle.desk_state.specs.State.{State}
 use Rattle.desk_state.specs.declared.decision.Decision.{Decision}
@@ -16,17 +17,17 @@ still_perhaps None k l same = same
 still_perhaps (Some c) k l same = inl (ap (λ (x : Keeping). x.calls) same)
 
 -- memory ran out before a commit
-pub no_room : (s t : State) (change : Option Change) (ended offline : List ℕ) (k l : Keeping) → t ≡ s → l ≡ k → Kept s change ended offline (Err edge.NoMemory) t k l
-no_room s t change ended offline k l same still = (same, still_perhaps change k l still)
+pub no_room : (s t : State) (change : Option Change) (policy : Option Policy) (ended offline : List ℕ) (k l : Keeping) → t ≡ s → l ≡ k → Kept s change policy ended offline (Err edge.NoMemory) t k l
+no_room s t change policy ended offline k l same still = (same, still_perhaps change k l still)
 
 -- a commit failed
-pub not_committed : (s t : State) (c : Change) (ended offline : List ℕ) (e : EdgeFault) (k l : Keeping)
-    → t ≡ s → l.calls ≡ one_more k.calls → (e ≡ edge.Failed → Rose k.faults l.faults) → Kept s (Some c) ended offline (Err e) t k l
-not_committed s t c ended offline edge.NoMemory k l same calls cause = (same, inr calls)
-not_committed s t c ended offline edge.Failed k l same calls cause = (same, (calls, cause refl))
+pub not_committed : (s t : State) (c : Change) (policy : Option Policy) (ended offline : List ℕ) (e : EdgeFault) (k l : Keeping)
+    → t ≡ s → l.calls ≡ one_more k.calls → (e ≡ edge.Failed → Rose k.faults l.faults) → Kept s (Some c) policy ended offline (Err e) t k l
+not_committed s t c policy ended offline edge.NoMemory k l same calls cause = (same, inr calls)
+not_committed s t c policy ended offline edge.Failed k l same calls cause = (same, (calls, cause refl))
 
 pub carried_of : (s t : State) (d : Decision Answer) (kept : Result (Unit {0}) EdgeFault) (k l : Keeping)
-    → Kept s d.change d.ended d.offline kept t k l → Carried s d (reply_of kept d.answer) t k l
+    → Kept s d.change d.policy d.ended d.offline kept t k l → Carried s d (reply_of kept d.answer) t k l
 carried_of s t d (Ok done) k l h = (refl, h.0, h.1)
 carried_of s t d (Err edge.NoMemory) k l h = h
 carried_of s t d (Err edge.Failed) k l h = h

@@ -7,6 +7,7 @@ use Rattle.net_rows.specs.Damage.{damage}
 use Rattle.net_rows.specs.Rows.{after}
 use Rattle.net_rows.specs.declared.change.Change.{Change}
 use Rattle.net_rows.specs.declared.rows.Rows.{Rows}
+use Rattle.policy_rows.specs.declared.policy.Policy.{Policy}
 use Rattle.row_keeper.specs.Calls.{one_more}
 use Rattle.settings.specs.declared.fields.SettingsFields.{SettingsFields}
 use Rattle.desk_state.specs.Decisions.{IsSound, IsSoundChange, rows_after}
@@ -52,27 +53,27 @@ failed_parts None rows k l sound h = absurd h
 failed_parts (Some c) rows k l sound h = ((sound c refl).differs, h.0, h.1)
 
 pub each_of : (rows : Rows) (r : Result (Decision Answer) Refusal) (d : Decision Answer) → r ≡ Ok d → IsSound rows r → EachSound rows d.change
-each_of rows r d is sound = λ c some. sound d c is some
+each_of rows r d is sound = (sound d is).change
 
 pub each_holds : (rows : Rows) (change : Option Change) → EachSound rows change → IfSome change (λ c. damage (after rows c) ≡ None)
 each_holds rows None each = tt
 each_holds rows (Some c) each = (each c refl).sound
 
 -- a state in its parts
-abbrev pub state_with : SettingsFields → Rows → List MachinePresence → ℤ → State
-state_with f t p n = record { settings = f; rows = t; presence = p; now = n }
+abbrev pub state_with : SettingsFields → Rows → Option Policy → List MachinePresence → ℤ → State
+state_with f t policy p n = record { settings = f; rows = t; policy = policy; presence = p; now = n }
 
 -- its time is brought forward
-pub at_later : (f : SettingsFields) (t : Rows) (p : List MachinePresence) (was now m : ℤ) (s : State)
-    → now ≡ later_of was m → state_with f t p was ≡ s → state_with f t p now ≡ at_moment s m
-at_later f t p was now m s later same = ap (λ n. state_with f t p n) later ∙ ap (λ (u : State). at_moment u m) same
+pub at_later : (f : SettingsFields) (t : Rows) (policy : Option Policy) (p : List MachinePresence) (was now m : ℤ) (s : State)
+    → now ≡ later_of was m → state_with f t policy p was ≡ s → state_with f t policy p now ≡ at_moment s m
+at_later f t policy p was now m s later same = ap (λ n. state_with f t policy p n) later ∙ ap (λ (u : State). at_moment u m) same
 
 pub carried_turn : (p q : Point) (x : Ask) (m : ℤ) (words : Option (List ℕ)) (d : Decision Answer) (reply : Reply)
     → IsShort x → decision (at_moment p.state m) x words ≡ Ok d → EachSound p.state.rows d.change
     → Carried (at_moment p.state m) d reply q.state p.keeping q.keeping → p.keeping.faults ≤ q.keeping.faults
     → IsWhereTold q.state.rows q.keeping.told → IsTurn p (event.Ask x m words) reply q
 carried_turn p q x m words d (Done a) short is sound c later kept =
-    let state_is : (step p.state (event.Ask x m words)).state ≡ settled (at_moment p.state m) d.change d.ended d.offline =
+    let state_is : (step p.state (event.Ask x m words)).state ≡ settled (at_moment p.state m) d.change d.policy d.ended d.offline =
     ap (λ r. (outcome (at_moment p.state m) r).state) is in
     let reply_is : (step p.state (event.Ask x m words)).reply ≡ Done d.answer = ap (λ r. (outcome (at_moment p.state m) r).reply) is in
     let rows_are : (step p.state (event.Ask x m words)).state.rows ≡ rows_after p.state.rows d.change = ap (λ (t : State). t.rows) state_is in
@@ -84,7 +85,7 @@ carried_turn p q x m words d (Done a) short is sound c later kept =
     }
 carried_turn p q x m words d (Refused r) short is sound c later kept = absurd c
 carried_turn p q x m words d (Lost NoMemory) short is sound c later kept =
-    let state_is : (step p.state (event.Ask x m words)).state ≡ settled (at_moment p.state m) d.change d.ended d.offline =
+    let state_is : (step p.state (event.Ask x m words)).state ≡ settled (at_moment p.state m) d.change d.policy d.ended d.offline =
     ap (λ r. (outcome (at_moment p.state m) r).state) is in
     let rows_are : (step p.state (event.Ask x m words)).state.rows ≡ rows_after p.state.rows d.change = ap (λ (t : State). t.rows) state_is in
     record {
@@ -94,7 +95,7 @@ carried_turn p q x m words d (Lost NoMemory) short is sound c later kept =
       idle = λ same. perhaps_idle d.change p.state.rows p.keeping q.keeping sound c.1 (sym rows_are ∙ same);
     }
 carried_turn p q x m words d (Lost KeeperFault) short is sound c later kept =
-    let state_is : (step p.state (event.Ask x m words)).state ≡ settled (at_moment p.state m) d.change d.ended d.offline =
+    let state_is : (step p.state (event.Ask x m words)).state ≡ settled (at_moment p.state m) d.change d.policy d.ended d.offline =
     ap (λ r. (outcome (at_moment p.state m) r).state) is in
     let rows_are : (step p.state (event.Ask x m words)).state.rows ≡ rows_after p.state.rows d.change = ap (λ (t : State). t.rows) state_is in
     let failed = failed_parts d.change p.state.rows p.keeping q.keeping sound c.1 in

@@ -9,17 +9,19 @@ use Rattle.tailnet_desk.specs.declared.ask.Ask.TheVariants as ask
 use Rattle.tailnet_desk.specs.declared.entry.Event.{Event}
 use Rattle.tailnet_desk.specs.declared.entry.Event.TheVariants as event
 
--- its lists and texts are within the limits of rows
+-- its lists and texts are within the limits of rows; the text of a policy may be of any length
 abbrev pub IsShort : Ask → Type 0
 IsShort (ask.Seed text) = Unit {0}
 IsShort (ask.Machine x) = IsShortMachineAsk x
 IsShort (ask.Operator x) = IsShortOperatorAsk x
+IsShort (ask.Policy x) = Unit {0}
 
 -- fresh random words are drawn for it
 abbrev pub draws : Ask → Bool
 draws (ask.Seed text) = false
 draws (ask.Machine x) = machine.draws x
 draws (ask.Operator x) = operator.draws x
+draws (ask.Policy x) = false
 
 -- the event may happen: what it asks is short
 abbrev pub IsShortEvent : Event → Type 0

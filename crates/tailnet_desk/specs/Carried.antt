@@ -4,6 +4,7 @@ use Rattle.io_edge.specs.Edge.{Rose}
 use Rattle.io_edge.specs.declared.faults.EdgeFault.{EdgeFault}
 use Rattle.io_edge.specs.declared.faults.EdgeFault.TheVariants as edge
 use Rattle.net_rows.specs.declared.change.Change.{Change}
+use Rattle.policy_rows.specs.declared.policy.Policy.{Policy}
 use Rattle.row_keeper.specs.Calls.{one_more}
 use Rattle.desk_state.specs.State.{State}
 use Rattle.desk_state.specs.declared.decision.Decision.{Decision}
@@ -30,10 +31,10 @@ Failed None k l = ⊥
 Failed (Some change) k l = (l.calls ≡ one_more k.calls) × Rose k.faults l.faults
 
 -- the state after the decision; or the state as it was
-abbrev pub Kept : State → Option Change → List ℕ → List ℕ → Result (Unit {0}) EdgeFault → State → Keeping → Keeping → Type 0
-Kept s change ended offline (Ok done) t k l = (t ≡ settled s change ended offline) × Committed change k l
-Kept s change ended offline (Err edge.NoMemory) t k l = (t ≡ s) × Perhaps change k l
-Kept s change ended offline (Err edge.Failed) t k l = (t ≡ s) × Failed change k l
+abbrev pub Kept : State → Option Change → Option Policy → List ℕ → List ℕ → Result (Unit {0}) EdgeFault → State → Keeping → Keeping → Type 0
+Kept s change policy ended offline (Ok done) t k l = (t ≡ settled s change policy ended offline) × Committed change k l
+Kept s change policy ended offline (Err edge.NoMemory) t k l = (t ≡ s) × Perhaps change k l
+Kept s change policy ended offline (Err edge.Failed) t k l = (t ≡ s) × Failed change k l
 
 -- what is replied, if this answer was to be given
 abbrev pub reply_of : Result (Unit {0}) EdgeFault → Answer → Reply
@@ -43,7 +44,7 @@ reply_of (Err edge.Failed) answer = Lost KeeperFault
 
 -- the same by what is replied
 abbrev pub Carried : State → Decision Answer → Reply → State → Keeping → Keeping → Type 0
-Carried s d (Done answer) t k l = (answer ≡ d.answer) × (t ≡ settled s d.change d.ended d.offline) × Committed d.change k l
+Carried s d (Done answer) t k l = (answer ≡ d.answer) × (t ≡ settled s d.change d.policy d.ended d.offline) × Committed d.change k l
 Carried s d (Refused refusal) t k l = ⊥
 Carried s d (Lost NoMemory) t k l = (t ≡ s) × Perhaps d.change k l
 Carried s d (Lost KeeperFault) t k l = (t ≡ s) × Failed d.change k l

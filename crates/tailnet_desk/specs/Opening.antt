@@ -1,11 +1,16 @@
--- Which tables a desk opens.
-use Rattle.std.specs.Prelude.{Bool, List, length, nat_lt, Option, None, Some, is_some, if◌then◌else◌}
+-- Which tables a desk opens, and the state in which it does.
+use Rattle.std.specs.Prelude.{◌≡◌, ℤ, Bool, List, length, map, nat_lt, Option, None, Some, if◌then◌else◌}
 use Rattle.std.specs.List.{find}
 use Rattle.std.specs.Option.{option_map, option_or}
 use Rattle.net_rows.specs.declared.rows.Rows.{Rows}
 use Rattle.net_rows.specs.declared.machine.Machine.{Machine}
 use Rattle.net_rows.specs.declared.change.Damage.{Damage}
 use Rattle.net_rows.specs.declared.change.Kind.TheVariants as kind
+use Rattle.settings.specs.declared.fields.SettingsFields.{SettingsFields}
+use Rattle.desk_state.specs.State.{State, offline_at}
+use Rattle.policy_asks.specs.Served.{is_unread, policy_in}
+use Rattle.tailnet_desk.specs.declared.desk.OpenFault.{OpenFault}
+use Rattle.tailnet_desk.specs.declared.desk.OpenFault.TheVariants as fault
 
 -- damage of what has no id, where the test passes
 abbrev pub damage_if : Bool → Damage → Option Damage
@@ -15,9 +20,29 @@ damage_if broken damage = if broken then Some damage else None
 abbrev pub approved_machine : List Machine → Option Damage
 approved_machine machines = option_map (λ (m : Machine). record { kind = kind.Machine; id = m.id }) (find (λ m. nat_lt 0 (length m.approved)) machines)
 
--- the first form of rows that isn't served yet: approved routes, extra records, a policy
+-- the first form of rows that isn't served yet: approved routes, extra records
+abbrev pub unserved_rows : Rows → Option Damage
+unserved_rows rows =
+    option_or (approved_machine rows.machines)
+    (damage_if (nat_lt 0 (length rows.extras)) (record { kind = kind.Extras; id = 0 }))
+
+-- the first of the rows that aren't opened: those of a form that isn't served yet, and then a policy whose text has a
+-- fault or such a form
 abbrev pub unserved : Rows → Option Damage
-unserved rows =
-    option_or (option_or (approved_machine rows.machines)
-    (damage_if (nat_lt 0 (length rows.extras)) (record { kind = kind.Extras; id = 0 })))
-    (damage_if (is_some rows.policy) (record { kind = kind.Policy; id = 0 }))
+unserved rows = option_or (unserved_rows rows) (damage_if (is_unread rows.policy) (record { kind = kind.Policy; id = 0 }))
+
+-- Why tables aren't opened: a row isn't served, or memory ran out.
+abbrev pub IsOpenFault : Rows → OpenFault → Type 0
+IsOpenFault rows fault.KeeperFault = ⊥
+IsOpenFault rows (fault.Damaged kind id) = unserved rows ≡ Some (record { kind = kind; id = id })
+IsOpenFault rows fault.NoMemory = Unit {0}
+
+-- the state of tables when they are opened: the policy that they keep is in force, and no machine is online
+abbrev pub opening : SettingsFields → Rows → ℤ → State
+opening settings rows moment = record {
+  settings = settings;
+  rows = rows;
+  policy = policy_in rows;
+  presence = map (λ (m : Machine). offline_at moment m.id) rows.machines;
+  now = moment;
+}

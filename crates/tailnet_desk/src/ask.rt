@@ -4,6 +4,7 @@ ghost use Rattle.tailnet_desk.specs.Asks.{draws};
 
 use admin_asks::OperatorAsk;
 use machine_asks::MachineAsk;
+use policy_asks::PolicyAsk;
 use tail_base::Text;
 
 /// One thing that is asked of the desk.
@@ -14,6 +15,8 @@ pub enum Ask {
     Seed { text: Text },
     Machine(MachineAsk),
     Operator(OperatorAsk),
+    /// An operator asks of the policy.
+    Policy(PolicyAsk),
 }
 
 impl Ask {
@@ -22,7 +25,7 @@ impl Ask {
         ensures value { result ≡ draws self.now }
     {
         match self {
-            Ask::Seed { .. } => false,
+            Ask::Seed { .. } | Ask::Policy(_) => false,
             Ask::Machine(ask) => machine_asks::draws(ask),
             Ask::Operator(ask) => admin_asks::draws(ask),
         }

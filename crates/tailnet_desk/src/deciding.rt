@@ -11,6 +11,7 @@ use crate::reply::Answer;
 use admin_asks::OperatorAnswer;
 use desk_state::{Decision, Refusal, Snapshot};
 use machine_asks::MachineAnswer;
+use policy_asks::PolicyAnswer;
 use std::alloc::Global;
 use tail_base::Failure;
 
@@ -19,12 +20,14 @@ fn of_seed(decision: Decision<()>) -> Decision<Answer>
 {
     let Decision {
         change,
+        policy,
         offline,
         ended,
         answer: (),
     } = decision;
     Decision {
         change,
+        policy,
         offline,
         ended,
         answer: Answer::Seeded,
@@ -36,12 +39,14 @@ fn of_machine(decision: Decision<MachineAnswer>) -> Decision<Answer>
 {
     let Decision {
         change,
+        policy,
         offline,
         ended,
         answer,
     } = decision;
     Decision {
         change,
+        policy,
         offline,
         ended,
         answer: Answer::Machine(answer),
@@ -53,15 +58,36 @@ fn of_operator(decision: Decision<OperatorAnswer>) -> Decision<Answer>
 {
     let Decision {
         change,
+        policy,
         offline,
         ended,
         answer,
     } = decision;
     Decision {
         change,
+        policy,
         offline,
         ended,
         answer: Answer::Operator(answer),
+    }
+}
+
+fn of_policy(decision: Decision<PolicyAnswer>) -> Decision<Answer>
+    ensures value { result ≡ answered answer.Policy decision }
+{
+    let Decision {
+        change,
+        policy,
+        offline,
+        ended,
+        answer,
+    } = decision;
+    Decision {
+        change,
+        policy,
+        offline,
+        ended,
+        answer: Answer::Policy(answer),
     }
 }
 
@@ -79,5 +105,6 @@ pub(crate) fn decide(
         Ask::Seed { text } => Ok(of_seed(machine_asks::seed(alloc, at, text)?)),
         Ask::Machine(ask) => Ok(of_machine(machine_asks::decide(alloc, at, ask, words)?)),
         Ask::Operator(ask) => Ok(of_operator(admin_asks::decide(alloc, at, ask, words)?)),
+        Ask::Policy(ask) => Ok(of_policy(policy_asks::decide(alloc, at, ask)?)),
     }
 }

@@ -4,25 +4,27 @@ ghost use Rattle.io_edge.specs.Edge.{IsWhereTold, Rose, StillTells};
 ghost use Rattle.net_rows.specs.Damage.{damage};
 ghost use Rattle.net_rows.specs.Held.{Suffices};
 ghost use Rattle.net_rows.specs.Rows.{after};
-ghost use Rattle.desk_state.specs.Decisions.{IsSoundChange};
-ghost use Rattle.desk_state.specs.State.{opening};
+ghost use Rattle.std.specs.Option.{option_or};
+ghost use Rattle.desk_state.specs.Decisions.{rows_after};
 ghost use Rattle.tailnet_desk.specs.Asks.{IsShort};
 ghost use Rattle.tailnet_desk.specs.Carried.{Carried, Kept, reply_of};
-ghost use Rattle.tailnet_desk.specs.Opening.{unserved};
-ghost use Rattle.tailnet_desk.specs.Seated.{keeping_of, point_of};
-ghost use Rattle.tailnet_desk.specs.Step.{settled};
+ghost use Rattle.tailnet_desk.specs.Opening.{opening, unserved};
+ghost use Rattle.tailnet_desk.specs.Seated.{IsInForce, keeping_of, point_of};
 ghost use Rattle.tailnet_desk.specs.Turns.{IsTurn};
 ghost use Rattle.tailnet_desk.specs.declared.entry.Event.TheVariants as event;
 
 use crate::ask::Ask;
 use crate::deciding::decide;
-use crate::opening::{all_offline_of, unserved};
+use crate::opening::{Beginning, beginning_of};
 use crate::reply::{Answer, Loss, Reply};
-use crate::settling::{end_presence, forget, go_offline};
-use desk_state::{Decision, MachinePresence, Snapshot, keep_rules};
+use crate::settling::{end_presence, forget, go_offline, put_in_force};
+use desk_state::{Decision, MachinePresence, Snapshot, keep_rules, live_ids};
 use io_edge::EdgeFault;
+use machine_asks::MachineAsk;
 use moments::Moment;
-use net_rows::{Change, Damage, Kind, Shelf, Tables};
+use net_rows::{Change, Kind, Shelf, Tables};
+use policy_eval::InForce;
+use policy_rows::Policy;
 use row_keeper::{Keeper, LoadFault};
 use settings::Settings;
 use std::alloc::Global;
@@ -30,26 +32,26 @@ use std::marker::Model;
 use tail_base::{Failure, Items, NoMemory};
 
 /// The Tailnet machine over a keeper. Contracts see it as its state and its keeper, which has the
-/// state's rows, where it tells them.
+/// state's rows, where it tells them. The policy in force is that of the rows.
 #[derive(Drop)]
 pub struct Desk<K: Keeper> {
     settings: Settings,
     tables: Tables,
+    policy: InForce,
     presence: Shelf<MachinePresence>,
     time: Moment,
     keeper: K,
 }
 
 impl<K: Keeper> Model for Desk<K> {
-    ghost use Rattle.io_edge.specs.Edge.{IsWhereTold};
     ghost use Rattle.desk_state.specs.State.{State};
-    ghost use Rattle.tailnet_desk.specs.Seated.{Seated};
+    ghost use Rattle.tailnet_desk.specs.Seated.{IsHeld, Seated};
 
     ghost Value = { Seated K };
 
-    ghost view = { λ d. record { state = record { settings = d.settings; rows = d.tables.rows; presence = d.presence.0; now = d.time }; keeper = d.keeper } };
+    ghost view = { λ d. record { state = record { settings = d.settings; rows = d.tables.rows; policy = d.policy; presence = d.presence.0; now = d.time }; keeper = d.keeper } };
 
-    ghost invariant = { λ d. IsWhereTold d.tables.rows (K.told d.keeper) };
+    ghost invariant = { λ d. IsHeld d.tables.rows d.policy (K.told d.keeper) };
 }
 
 /// Why a desk didn't open.
@@ -57,8 +59,8 @@ impl<K: Keeper> Model for Desk<K> {
 pub enum OpenFault {
     /// The keeper failed.
     KeeperFault,
-    /// The tables break a rule, or have a form that isn't served: approved routes, extra records or
-    /// a policy.
+    /// The tables break a rule, have a form that isn't served yet, which are approved routes and extra
+    /// records, or keep a policy whose text has a fault or such a form.
     Damaged { kind: Kind, id: u32 },
     /// Memory was refused.
     NoMemory,
@@ -82,6 +84,17 @@ fn make_room(
     presence.reserve(offline)
 }
 
+/// Whether the ask is one for a map.
+fn is_map(ask: &Ask) -> bool {
+    match ask {
+        Ask::Machine(MachineAsk::OneMap { .. }) => true,
+        Ask::Machine(MachineAsk::Register { .. } | MachineAsk::Update { .. })
+        | Ask::Seed { .. }
+        | Ask::Operator(_)
+        | Ask::Policy(_) => false,
+    }
+}
+
 /// An answer that isn't given is let go here.
 fn let_go(_answer: Answer) {}
 
@@ -103,7 +116,7 @@ fn reply_of(kept: Result<(), EdgeFault>, answer: Answer) -> Reply
 }
 
 impl<K: Keeper> Desk<K> {
-    /// A desk over the keeper's tables, in which no machine is online.
+    /// A desk over the keeper's tables, whose policy is in force, and in which no machine is online.
     ///
     /// Where it doesn't open, the keeper comes back.
     pub fn open(
@@ -131,18 +144,16 @@ impl<K: Keeper> Desk<K> {
             }
             Err(LoadFault::NoMemory) => return Err((OpenFault::NoMemory, keeper)),
         };
-        if let Some(Damage { kind, id }) = unserved(&tables) {
-            return Err((OpenFault::Damaged { kind, id }, keeper));
-        }
-        match all_offline_of(alloc, &tables, moment) {
-            Ok(presence) => Ok(Desk {
+        match beginning_of(alloc, &tables, moment) {
+            Ok(Beginning { policy, presence }) => Ok(Desk {
                 settings,
                 tables,
+                policy: InForce::new(policy),
                 presence,
                 time: moment,
                 keeper,
             }),
-            Err(NoMemory) => Err((OpenFault::NoMemory, keeper)),
+            Err(fault) => Err((fault, keeper)),
         }
     }
 
@@ -151,11 +162,14 @@ impl<K: Keeper> Desk<K> {
         &mut self,
         alloc: Global,
         change: Option<Change>,
+        policy: Option<Policy>,
         ended: &[u32],
         offline: &[u32],
     ) -> Result<(), EdgeFault>
         requires sound { IfSome change (λ c. damage (after self.old.state.rows c) ≡ None) }
-        ensures kept { Kept self.old.state change ended.now offline.now result self.new.state
+        requires policy { IsInForce (rows_after self.old.state.rows change)
+            (option_or policy self.old.state.policy) }
+        ensures kept { Kept self.old.state change policy ended.now offline.now result self.new.state
             (keeping_of K.told K.faults K.calls self.old.keeper) (keeping_of K.told K.faults K.calls self.new.keeper) }
         ensures later { K.faults self.old.keeper ≤ K.faults self.new.keeper }
         ensures told { IsWhereTold self.new.state.rows (K.told self.new.keeper) }
@@ -174,6 +188,7 @@ impl<K: Keeper> Desk<K> {
             forget(&mut self.presence, change.gone.as_slice());
             self.tables.apply(change);
         }
+        put_in_force(&mut self.policy, policy);
         end_presence(&mut self.presence, ended, self.time);
         go_offline(&mut self.presence, offline, self.time);
         Ok(())
@@ -182,6 +197,8 @@ impl<K: Keeper> Desk<K> {
     /// Carries out a decision, and replies.
     fn carry(&mut self, alloc: Global, decision: Decision<Answer>) -> Reply
         requires sound { IfSome decision.change (λ c. damage (after self.old.state.rows c) ≡ None) }
+        requires policy { IsInForce (rows_after self.old.state.rows decision.change)
+            (option_or decision.policy self.old.state.policy) }
         ensures carried { Carried self.old.state decision result self.new.state
             (keeping_of K.told K.faults K.calls self.old.keeper) (keeping_of K.told K.faults K.calls self.new.keeper) }
         ensures later { K.faults self.old.keeper ≤ K.faults self.new.keeper }
@@ -189,12 +206,60 @@ impl<K: Keeper> Desk<K> {
     {
         let Decision {
             change,
+            policy,
             offline,
             ended,
             answer,
         } = decision;
-        let kept = self.keep(alloc, change, ended.as_slice(), offline.as_slice());
+        let kept = self.keep(alloc, change, policy, ended.as_slice(), offline.as_slice());
         reply_of(kept, answer)
+    }
+
+    /// Expands the policy over the machines that are live at the moment, unless it is so already.
+    /// Contracts see no change. Out of memory is told by what needs it.
+    fn expand(&mut self, alloc: Global, moment: Moment)
+        ensures same { self.new ≡ self.old }
+    {
+        let at = Snapshot {
+            settings: &self.settings,
+            tables: &self.tables,
+            policy: &self.policy,
+            presence: &self.presence,
+            time: self.time.or_later(moment),
+        };
+        if let Ok(live) = live_ids(alloc, &at) {
+            let _kept = self.policy.expand(alloc, &self.tables, live.as_slice());
+        }
+    }
+
+    /// The same, where the ask is one for a map.
+    fn expand_for(&mut self, alloc: Global, ask: &Ask, moment: Moment)
+        ensures same { self.new ≡ self.old }
+    {
+        if is_map(ask) {
+            self.expand(alloc, moment);
+        }
+    }
+
+    fn asked(&mut self, alloc: Global, ask: &Ask, moment: Moment, words: Option<[u64; 4]>) -> Reply
+        requires short { IsShort ask.now }
+        ensures turn { IsTurn (point_of K.told K.faults K.calls self.old) (event.Ask ask.now moment words) result
+            (point_of K.told K.faults K.calls self.new) }
+    {
+        self.time = self.time.or_later(moment);
+        let at = Snapshot {
+            settings: &self.settings,
+            tables: &self.tables,
+            policy: &self.policy,
+            presence: &self.presence,
+            time: self.time,
+        };
+        keep_rules(&at);
+        match decide(alloc, &at, ask, words) {
+            Ok(decision) => self.carry(alloc, decision),
+            Err(Failure::Fault(refusal)) => Reply::Refused(refusal),
+            Err(Failure::NoMemory) => Reply::Lost(Loss::NoMemory),
+        }
     }
 
     /// One event: its reply is the machine's, or out of memory, or a fault of the keeper. The lists and
@@ -210,19 +275,8 @@ impl<K: Keeper> Desk<K> {
         ensures turn { IsTurn (point_of K.told K.faults K.calls self.old) (event.Ask ask.now moment words) result
             (point_of K.told K.faults K.calls self.new) }
     {
-        self.time = self.time.or_later(moment);
-        let at = Snapshot {
-            settings: &self.settings,
-            tables: &self.tables,
-            presence: &self.presence,
-            time: self.time,
-        };
-        keep_rules(&at);
-        match decide(alloc, &at, ask, words) {
-            Ok(decision) => self.carry(alloc, decision),
-            Err(Failure::Fault(refusal)) => Reply::Refused(refusal),
-            Err(Failure::NoMemory) => Reply::Lost(Loss::NoMemory),
-        }
+        self.expand_for(alloc, ask, moment);
+        self.asked(alloc, ask, moment, words)
     }
 
     /// The tables, which keep their rules.
@@ -242,6 +296,7 @@ impl<K: Keeper> Desk<K> {
         let Desk {
             settings: _,
             tables: _,
+            policy: _,
             presence: _,
             time: _,
             keeper,

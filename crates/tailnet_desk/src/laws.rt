@@ -1,21 +1,34 @@
 //! What holds of decisions and histories in any state. No function here does anything: each states a law.
-ghost use Rattle.std.specs.Prelude.{◌≡◌, ℕ, List, ◌++◌, Option, None};
+ghost use Rattle.std.specs.Prelude.{◌≡◌, ℕ, List, ◌++◌, Option, None, Ok};
+ghost use Rattle.std.specs.Option.{option_or};
 ghost use Rattle.net_rows.specs.Damage.{damage};
 ghost use Rattle.net_rows.specs.Sound.{AreSound};
 ghost use Rattle.settings.specs.Settings.{AreSettings};
-ghost use Rattle.desk_state.specs.Decisions.{IsNoLess, IsSound};
+ghost use Rattle.desk_state.specs.Decisions.{IsNoLess, IsSound, rows_after};
 ghost use Rattle.desk_state.specs.State.{State};
+ghost use Rattle.desk_state.specs.declared.decision.Decision.{Decision};
 ghost use Rattle.tailnet_desk.specs.Asks.{IsShort};
 ghost use Rattle.tailnet_desk.specs.History.{Legal, replay};
+ghost use Rattle.tailnet_desk.specs.Seated.{IsInForce};
 ghost use Rattle.tailnet_desk.specs.Step.{decision};
 ghost use Rattle.tailnet_desk.specs.declared.ask.Ask.{Ask};
 ghost use Rattle.tailnet_desk.specs.declared.entry.Entry.{Entry};
+ghost use Rattle.tailnet_desk.specs.declared.reply.Answer.{Answer};
 
 /// From settings and tables that keep their rules, and an ask that is short, a decided change keeps the
-/// rules of the tables, changes rows, and lets no counter fall.
+/// rules of the tables, changes rows, and lets no counter fall; unless a policy is put in force with it,
+/// the text of the policy stays.
 pub fn decisions_are_sound()
     ensures sound { (s : State) (x : Ask) (words : Option (List ℕ))
         → AreSettings s.settings → damage s.rows ≡ None → IsShort x → IsSound s.rows (decision s x words) }
+{}
+
+/// From such a state, where the policy in force is that of the tables, it is so after the decision, too.
+pub fn decisions_keep_the_policy()
+    ensures policy { (s : State) (x : Ask) (words : Option (List ℕ)) (d : Decision Answer)
+        → AreSettings s.settings → damage s.rows ≡ None → IsShort x → decision s x words ≡ Ok d
+        → IsInForce s.rows s.policy
+        → IsInForce (rows_after s.rows d.change) (option_or d.policy s.policy) }
 {}
 
 /// Under settings that keep their rules a legal history keeps sound tables sound and lets no counter
@@ -28,4 +41,11 @@ pub fn legal_histories_keep_rules()
         → AreSettings s.settings → AreSound s.rows → Legal s count es → IsNoLess s.rows.next (replay s es).rows.next }
     ensures beginnings { (s : State) (count : ℕ) (es more : List Entry)
         → Legal s count (es ++ more) → Legal s count es }
+{}
+
+/// And where the policy in force is that of the tables, it stays so.
+pub fn legal_histories_keep_the_policy()
+    ensures policy { (s : State) (count : ℕ) (es : List Entry)
+        → AreSettings s.settings → AreSound s.rows → IsInForce s.rows s.policy → Legal s count es
+        → IsInForce (replay s es).rows (replay s es).policy }
 {}

@@ -14,6 +14,9 @@ mod turns;
 pub use ask::Ask;
 pub use desk::{Desk, OpenFault};
 pub use entry::{Entry, Event};
-pub use laws::{decisions_are_sound, legal_histories_keep_rules};
+pub use laws::{
+    decisions_are_sound, decisions_keep_the_policy, legal_histories_keep_rules,
+    legal_histories_keep_the_policy,
+};
 pub use reply::{Answer, Loss, Reply};
 pub use turns::Turns;

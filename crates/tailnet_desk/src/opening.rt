@@ -1,18 +1,22 @@
 //! What a desk looks at when it opens.
-ghost use Rattle.std.specs.Prelude.{◌≡◌, IfOk, map, Option, Some, None, length, nat_lt};
+ghost use Rattle.std.specs.Prelude.{◌≡◌, IfOk, IfErr, OnOk, map, Option, Some, None, length, nat_lt};
 ghost use Rattle.std.specs.List.{find};
 ghost use Rattle.std.specs.Option.{option_copied, option_map};
 ghost use Rattle.desk_state.specs.State.{offline_at};
-ghost use Rattle.tailnet_desk.specs.Opening.{approved_machine, damage_if, unserved};
+ghost use Rattle.policy_asks.specs.Served.{policy_in};
+ghost use Rattle.tailnet_desk.specs.Opening.{IsOpenFault, approved_machine, damage_if, unserved, unserved_rows};
 
+use crate::desk::OpenFault;
 use desk_state::{MachinePresence, Presence};
 use moments::Moment;
 use net_rows::{Damage, Kind, Machine, Shelf, Tables};
+use policy_asks::policy_in;
+use policy_rows::Policy;
 use std::alloc::Global;
-use tail_base::{Items, NoMemory};
+use tail_base::{Failure, Items, NoMemory};
 
 /// All machines of the tables, offline since this moment.
-pub(crate) fn all_offline_of(
+fn all_offline_of(
     alloc: Global,
     tables: &Tables,
     now: Moment,
@@ -58,19 +62,58 @@ fn damage_if(broken: bool, damage: Damage) -> Option<Damage>
     if broken { Some(damage) } else { None }
 }
 
-/// The first form of rows that isn't served yet.
-pub(crate) fn unserved(tables: &Tables) -> Option<Damage>
-    ensures value { result ≡ unserved tables.now.rows }
+/// The first form of rows that isn't served yet: approved routes, extra records.
+fn unserved_rows(tables: &Tables) -> Option<Damage>
+    ensures value { result ≡ unserved_rows tables.now.rows }
 {
     let extras = Damage {
         kind: Kind::Extras,
         id: 0,
     };
-    let policy = Damage {
-        kind: Kind::Policy,
-        id: 0,
-    };
-    approved_machine(tables.machines())
-        .or(damage_if(tables.extras().len() > 0, extras))
-        .or(damage_if(tables.policy().is_some(), policy))
+    approved_machine(tables.machines()).or(damage_if(tables.extras().len() > 0, extras))
+}
+
+/// The policy of tables, or why they aren't opened.
+fn served_policy_in(alloc: Global, tables: &Tables) -> Result<Option<Policy>, OpenFault>
+    ensures value { IfOk result (λ policy. policy ≡ policy_in tables.now.rows) }
+    ensures served { OnOk result (unserved tables.now.rows ≡ None) }
+    ensures fault { IfErr result (IsOpenFault tables.now.rows) }
+{
+    if let Some(Damage { kind, id }) = unserved_rows(tables) {
+        return Err(OpenFault::Damaged { kind, id });
+    }
+    match policy_in(alloc, tables) {
+        Ok(policy) => Ok(policy),
+        Err(Failure::NoMemory) => Err(OpenFault::NoMemory),
+        Err(Failure::Fault(_)) => Err(OpenFault::Damaged {
+            kind: Kind::Policy,
+            id: 0,
+        }),
+    }
+}
+
+/// What a desk holds beside its tables when it opens.
+#[derive(Drop)]
+pub(crate) struct Beginning {
+    pub(crate) policy: Option<Policy>,
+    pub(crate) presence: Shelf<MachinePresence>,
+}
+
+/// What a desk over these tables holds beside them, or why they aren't opened.
+pub(crate) fn beginning_of(
+    alloc: Global,
+    tables: &Tables,
+    now: Moment,
+) -> Result<Beginning, OpenFault>
+    ensures policy { IfOk result (λ made. made.policy ≡ policy_in tables.now.rows) }
+    ensures presence { IfOk result (λ made. made.presence.0
+        ≡ map (λ m. offline_at now m.id) tables.now.rows.machines) }
+    ensures served { OnOk result (unserved tables.now.rows ≡ None) }
+    ensures fault { IfErr result (IsOpenFault tables.now.rows) }
+{
+    let policy = served_policy_in(alloc, tables)?;
+    match all_offline_of(alloc, tables, now) {
+        Ok(presence) => Ok(Beginning { policy, presence }),
+        Err(NoMemory) => Err(OpenFault::NoMemory),
+    }
 }

@@ -2,6 +2,7 @@
 use admin_asks::OperatorAnswer;
 use desk_state::Refusal;
 use machine_asks::MachineAnswer;
+use policy_asks::PolicyAnswer;
 
 /// The answer to an ask that was carried out.
 #[derive(Drop)]
@@ -9,6 +10,7 @@ pub enum Answer {
     Seeded,
     Machine(MachineAnswer),
     Operator(OperatorAnswer),
+    Policy(PolicyAnswer),
 }
 
 /// Why an ask that no rule refused was not carried out. Nothing but the time has changed.

@@ -1,10 +1,13 @@
-//! What a change that is kept does to who is online.
+//! What a decision that is kept does to the policy in force and to who is online.
 ghost use Rattle.std.specs.Prelude.{◌≡◌, ◌≤◌, length};
+ghost use Rattle.std.specs.Option.{option_or};
 ghost use Rattle.desk_state.specs.State.{all_ended, all_offline, forgotten, offline_at};
 
 use desk_state::{MachinePresence, Presence, is_online, presence_of};
 use moments::Moment;
 use net_rows::{RowKey, Shelf};
+use policy_eval::InForce;
+use policy_rows::Policy;
 
 fn offline_at(id: u32, now: Moment) -> MachinePresence
     ensures value { result ≡ offline_at now id }
@@ -12,6 +15,15 @@ fn offline_at(id: u32, now: Moment) -> MachinePresence
     MachinePresence {
         id,
         presence: Presence::OfflineSince(now),
+    }
+}
+
+/// The policy that is given, if one is, is in force from now on. It takes no memory.
+pub(crate) fn put_in_force(held: &mut InForce, policy: Option<Policy>)
+    ensures value { held.new ≡ option_or policy held.old }
+{
+    if policy.is_some() {
+        *held = InForce::new(policy);
     }
 }
 

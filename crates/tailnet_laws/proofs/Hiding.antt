@@ -11,12 +11,11 @@ use Rattle.net_rows.specs.declared.machine.Machine.{Machine}
 use Rattle.net_rows.proofs.PutLemmas.{put_member}
 use Rattle.tailcfg.specs.declared.profile.Profile.{Profile}
 use Rattle.tailcfg.specs.declared.register.Register.{Register}
-use Rattle.map_delta.specs.declared.view.View.{View}
+use Rattle.fresh_maps.specs.declared.view.View.{View}
 use Rattle.tailcfg.specs.declared.update.Update.{Update}
-use Rattle.map_delta.specs.Fresh.{fresh}
 use Rattle.desk_state.specs.Decisions.{changing, only}
 use Rattle.desk_state.specs.State.{State, is_ahead}
-use Rattle.desk_state.specs.Users.{tags_granted}
+use Rattle.desk_state.specs.Tags.{tags_granted}
 use Rattle.desk_state.specs.declared.decision.Decision.{Decision}
 use Rattle.desk_state.specs.declared.refusal.Refusal.TheVariants.{EntropyFault, Full, NodeKeyTaken, UnknownMachine}
 use Rattle.desk_state.specs.declared.refusal.Scarce.TheVariants as scarce
@@ -27,7 +26,7 @@ use Rattle.machine_asks.specs.Asking.{asking}
 use Rattle.machine_asks.specs.Decision.{decision}
 use Rattle.machine_asks.specs.ByKey.{admitted_by_key, by_key, entrant_of_key, usable_key}
 use Rattle.machine_asks.specs.Logout.{is_logout, logout, logout_again, logout_now, machine_removed, node_key_replaced, rotates}
-use Rattle.machine_asks.specs.OneMap.{after_change, live_ids, map_decision, map_for, one_map}
+use Rattle.machine_asks.specs.OneMap.{after_change, fresh_for, map_decision, map_for, node_in, one_map}
 use Rattle.machine_asks.specs.Register.{register, registered_again, repeats}
 use Rattle.machine_asks.specs.Update.{told_row, update, updated}
 use Rattle.machine_asks.specs.Waiting.{has_place, new_entry, wait_anew, wait_as, waiting_entered, waits, waits_on}
@@ -39,10 +38,10 @@ use Rattle.tailnet_laws.specs.Shown.{Hides, IsExpired}
 use Rattle.tailnet_laws.proofs.Every.{Every, either_of, every_bind, every_err, every_if, every_of_row, every_ok, every_or, every_refuse}
 use Rattle.tailnet_laws.proofs.LiveMachines.{NoneLive, asking_live, none_live, peer_live}
 
-map_hides : (s : State) (v : Machine) (n : ℕ) → NoneLive s n → v.id ≢ n → Hides (fresh s.settings s.rows (live_ids s) v) n
+map_hides : (s : State) (v : Machine) (n : ℕ) → NoneLive s n → v.id ≢ n → Hides (fresh_for s v) n
 map_hides s v n none other = record {
   own = other;
-  peers = λ p inside e. let live = peer_live s v p inside in none live.0 live.1 live.2 (sym live.3 ∙ e);
+  peers = λ p inside e. let live = peer_live s (node_in s v) p inside in none live.0 live.1 live.2 (sym live.3 ∙ e);
 }
 
 -- what a machine tells of itself makes no other machine live
@@ -59,7 +58,7 @@ Hidden n d = (map : View) → d.answer ≡ Map map → Hides map n
 
 hidden_map : (s : State) (v : Machine) (n : ℕ) → NoneLive s n → v.id ≢ n → (map : View) → map_for s v ≡ Map map → Hides map n
 hidden_map s v n none other map is =
-    let same : fresh s.settings s.rows (live_ids s) v ≡ map = cc in
+    let same : fresh_for s v ≡ map = cc in
     subst (λ (r : View). Hides r n) same (map_hides s v n none other)
 
 hidden_decision : (s : State) (v : Machine) (told : Option Update) (n : ℕ) → NoneLive s n → v.id ≢ n → Hidden n (map_decision s v told)

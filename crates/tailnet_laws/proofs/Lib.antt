@@ -6,6 +6,7 @@ mod Hiding
 mod LiveMachines
 mod MachinePuts
 mod OperatorPuts
+mod PolicyPuts
 mod Puts
 mod Replied
 mod SpentKeys

@@ -2,7 +2,7 @@
 use Rattle.std.proofs.Common.{◌≡◌, ◌≢◌, ℕ, Bool, true, false, not, ◌==◌, List, [], ◌∷◌, map, Option, Some, None, Result, Ok, Err, inl, inr, refl, sym, ap, ◌∙◌, arith}
 use Rattle.std.specs.Prelude.{Contains, filter}
 use Rattle.std.specs.Str.{bytes_eq}
-use Rattle.std.proofs.lemmas.Bool.{and_parts, cases_Bool, not-false}
+use Rattle.std.proofs.lemmas.Bool.{cases_Bool, not-false}
 use Rattle.tail_base.specs.declared.key.MachineKey.{MachineKey}
 use Rattle.tail_base.specs.declared.key.NodeKey.{NodeKey}
 use Rattle.tail_base.specs.Steps.{◌>>=◌}
@@ -16,14 +16,18 @@ use Rattle.net_rows.proofs.Members.{cut_member, find_none, first_member, list_an
 use Rattle.net_rows.proofs.RowAt.{row_at_is}
 use Rattle.tailcfg.specs.declared.node_row.NodeRow.{NodeRow}
 use Rattle.tailcfg.specs.declared.update.Update.{Update}
-use Rattle.map_delta.specs.Fresh.{fresh, is_listed, is_peer_of, shown}
-use Rattle.desk_state.specs.State.{State, is_ahead, is_live}
+use Rattle.policy_eval.specs.Sites.{is_among, is_listed}
+use Rattle.peer_view.specs.Seen.{Node, sees, visible}
+use Rattle.peer_view.specs.Shown.{shown}
+use Rattle.peer_view.proofs.ListLemmas.{filter_member, filtered_passes, mapped_member}
+use Rattle.fresh_maps.specs.Fresh.{fresh}
+use Rattle.desk_state.specs.State.{State, is_ahead, is_live, live_ids}
 use Rattle.desk_state.specs.declared.refusal.Refusal.TheVariants.{NotLive, UnknownMachine}
 use Rattle.desk_state.specs.declared.refusal.Refusal.{Refusal}
 use Rattle.machine_rows.proofs.RowLemmas.{machine_found}
 use Rattle.machine_asks.specs.Asking.{asking}
 use Rattle.machine_asks.specs.Decision.{decision}
-use Rattle.machine_asks.specs.OneMap.{live_ids, map_decision}
+use Rattle.machine_asks.specs.OneMap.{map_decision, node_in, world_of}
 use Rattle.machine_asks.specs.Update.{told_row, updated}
 use Rattle.machine_asks.specs.declared.ask.MachineAsk.TheVariants as ask
 use Rattle.tailnet_laws.specs.Shown.{IsExpired}
@@ -51,12 +55,18 @@ listed_live s n h =
     (live.0, live.1, live.2, is ∙ live.3)
 
 -- a peer is a live machine
-pub peer_live : (s : State) (v : Machine) (p : NodeRow) → Contains (fresh s.settings s.rows (live_ids s) v).peers p → (a : Machine) × Contains s.rows.machines a × (is_live s a ≡ true) × (p.id ≡ a.id)
+pub peer_live : (s : State) (v : Node) (p : NodeRow) → Contains (fresh (world_of s) v).peers p → (a : Machine) × Contains s.rows.machines a × (is_live s a ≡ true) × (p.id ≡ a.id)
 peer_live s v p h =
-    let seen = shown_of (is_peer_of (live_ids s) v.id) (shown s.settings.base_domain) s.rows.machines p h in
-    let tests = and_parts (not (seen.0.id == v.id)) (is_listed (live_ids s) seen.0.id) seen.2 in
-    let live = listed_live s seen.0.id tests.1 in
-    (live.0, live.1, live.2, ap (λ (n : NodeRow). n.id) seen.3 ∙ live.3)
+    let w = world_of s in
+    let ids = live_ids s in
+    let seen = mapped_member (shown w v (visible w v)) (visible w v) p h in
+    let node : Contains w.nodes seen.0 = filter_member (sees w v) w.nodes seen.0 seen.1 in
+    let from = mapped_member (node_in s) (filter (is_among ids) s.rows.machines) seen.0 node in
+    let listed : is_among ids from.0 ≡ true = filtered_passes (is_among ids) s.rows.machines from.0 from.1 in
+    let live = listed_live s from.0.id listed in
+    let row : seen.0.row.id ≡ p.id = ap (λ (n : NodeRow). n.id) seen.2 in
+    let machine : from.0.id ≡ seen.0.row.id = ap (λ (n : Node). n.row.id) from.2 in
+    (live.0, live.1, live.2, sym row ∙ (sym machine ∙ live.3))
 
 -- no live machine has this id
 abbrev pub NoneLive : State → ℕ → Type 0
@@ -80,7 +90,7 @@ none_live s m sound h a inside live e =
     let clash : true ≡ false = sym live ∙ ap (is_live s) same ∙ not_live s m h.past in
     absurd (cc)
 
-pub no_peer : (s : State) (m v : Machine) (p : NodeRow) → AreSound s.rows → IsExpired s m → Contains (fresh s.settings s.rows (live_ids s) v).peers p → p.id ≢ m.id
+pub no_peer : (s : State) (m : Machine) (v : Node) (p : NodeRow) → AreSound s.rows → IsExpired s m → Contains (fresh (world_of s) v).peers p → p.id ≢ m.id
 no_peer s m v p sound h inside e = let live = peer_live s v p inside in none_live s m sound h live.0 live.1 live.2 (sym live.3 ∙ e)
 
 -- the machine that asks has a row, and is live

@@ -15,7 +15,7 @@ use Rattle.tailcfg.specs.declared.register.Register.{Register}
 use Rattle.tailcfg.specs.declared.update.Update.{Update}
 use Rattle.desk_state.specs.Decisions.{changing, only}
 use Rattle.desk_state.specs.State.{State, is_ahead}
-use Rattle.desk_state.specs.Users.{tags_granted}
+use Rattle.desk_state.specs.Tags.{tags_granted}
 use Rattle.desk_state.specs.declared.decision.Decision.{Decision}
 use Rattle.desk_state.specs.declared.refusal.Refusal.TheVariants.{EntropyFault, Full, KeyExpired, KeyUnknown, KeyUsed, NodeKeyTaken, UnknownMachine}
 use Rattle.desk_state.specs.declared.refusal.Scarce.TheVariants as scarce

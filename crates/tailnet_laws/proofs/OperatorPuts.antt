@@ -20,7 +20,8 @@ use Rattle.desk_state.specs.Changes.{machine_gone}
 use Rattle.desk_state.specs.Decisions.{changing, only}
 use Rattle.desk_state.specs.Lines.{node_line}
 use Rattle.desk_state.specs.State.{State, is_ahead, is_overdue}
-use Rattle.desk_state.specs.Users.{tags_defined, tags_granted, user_named}
+use Rattle.desk_state.specs.Tags.{tags_defined, tags_granted}
+use Rattle.desk_state.specs.Users.{user_named}
 use Rattle.desk_state.specs.declared.decision.Decision.{Decision}
 use Rattle.desk_state.specs.declared.key_form.KeyForm.{KeyForm}
 use Rattle.desk_state.specs.declared.refusal.Refusal.TheVariants.{BadName, EntropyFault, Full, KeyUnknown, NameTaken, NodeKeyTaken, PendingUnknown, UnknownMachine, UserHasMachines}

@@ -3,7 +3,7 @@ use Rattle.std.proofs.Common.{◌≡◌, Result, Ok, Err, refl}
 use Rattle.tail_base.specs.Steps.{◌>>=◌}
 use Rattle.net_rows.specs.Sound.{AreSound}
 use Rattle.net_rows.specs.declared.machine.Machine.{Machine}
-use Rattle.map_delta.specs.declared.view.View.{View}
+use Rattle.fresh_maps.specs.declared.view.View.{View}
 use Rattle.desk_state.specs.Decisions.{answered}
 use Rattle.desk_state.specs.State.{State, at_moment}
 use Rattle.desk_state.specs.declared.decision.Decision.{Decision}
@@ -14,6 +14,8 @@ use Rattle.machine_asks.specs.Decision as machine
 use Rattle.machine_asks.specs.Seed.{seed}
 use Rattle.machine_asks.specs.declared.answer.MachineAnswer.{MachineAnswer}
 use Rattle.machine_asks.specs.declared.answer.MachineAnswer.TheVariants.{Map}
+use Rattle.policy_asks.specs.Decision.{policy_decision}
+use Rattle.policy_asks.specs.declared.answer.PolicyAnswer.{PolicyAnswer}
 use Rattle.tailnet_desk.specs.Step.{moment_of, outcome, step}
 use Rattle.tailnet_desk.specs.declared.ask.Ask.TheVariants as ask
 use Rattle.tailnet_desk.specs.declared.entry.Event.{Event}
@@ -34,6 +36,10 @@ operator_reply : (s : State) (r : Result (Decision OperatorAnswer) Refusal) (map
 operator_reply s (Err e) map is = absurd (cc)
 operator_reply s (Ok d) map is = absurd (cc)
 
+policy_reply : (s : State) (r : Result (Decision PolicyAnswer) Refusal) (map : View) → (outcome s (r >>= λ d. Ok (answered answer.Policy d))).reply ≡ Done (answer.Machine (Map map)) → ⊥
+policy_reply s (Err e) map is = absurd (cc)
+policy_reply s (Ok d) map is = absurd (cc)
+
 seed_reply : (s : State) (r : Result (Decision (Unit {0})) Refusal) (map : View) → (outcome s (r >>= λ d. Ok (answered (λ nothing. answer.Seeded) d))).reply ≡ Done (answer.Machine (Map map)) → ⊥
 seed_reply s (Err e) map is = absurd (cc)
 seed_reply s (Ok d) map is = absurd (cc)
@@ -43,6 +49,7 @@ pub reply_hides : (s : State) (m : Machine) (e : Event) (map : View) → AreSoun
 reply_hides s m (event.Ask (ask.Seed text) moment words) map sound h is = absurd (seed_reply (at_moment s moment) (seed (at_moment s moment) text) map is)
 reply_hides s m (event.Ask (ask.Operator x) moment words) map sound h is =
     absurd (operator_reply (at_moment s moment) (operator.decision (at_moment s moment) x words) map is)
+reply_hides s m (event.Ask (ask.Policy x) moment words) map sound h is = absurd (policy_reply (at_moment s moment) (policy_decision (at_moment s moment) x) map is)
 reply_hides s m (event.Ask (ask.Machine x) moment words) map sound h is =
     let d = machine_reply (at_moment s moment) (machine.decision (at_moment s moment) x words) map is in
     expired_hidden (at_moment s moment) m x words d.0 map sound h d.1 d.2

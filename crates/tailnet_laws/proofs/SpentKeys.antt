@@ -105,6 +105,7 @@ taken_spent s x words id u h sound later rises is =
 event_spent : (s : State) (e : Event) (reply : Reply) (id : ℕ) → AreSettings s.settings → AreSound s.rows → IsShortEvent e → EventTakesKey s e id → IsDone reply → IsSpent (state_after s e reply).rows id
 event_spent s (event.Ask (ask.Seed text) moment words) (Done a) id hold sound short h done = absurd h
 event_spent s (event.Ask (ask.Operator x) moment words) (Done a) id hold sound short h done = absurd h
+event_spent s (event.Ask (ask.Policy x) moment words) (Done a) id hold sound short h done = absurd h
 event_spent s (event.Ask (ask.Machine x) moment words) (Done a) id hold sound short h done =
     let e = event.Ask (ask.Machine x) moment words in
     let better = after_better s e (Done a) hold (no_damage s.rows sound) short in
@@ -116,6 +117,7 @@ event_spent s e (Lost loss) id hold sound short h done = absurd done
 event_untaken : (s : State) (e : Event) (id : ℕ) → IsSpent s.rows id → EventTakesKey s e id → ⊥
 event_untaken s (event.Ask (ask.Seed text) moment words) id spent h = h
 event_untaken s (event.Ask (ask.Operator x) moment words) id spent h = h
+event_untaken s (event.Ask (ask.Policy x) moment words) id spent h = h
 event_untaken s (event.Ask (ask.Machine x) moment words) id spent h = spent_untaken (at_moment s moment) x words id spent h
 
 -- after an entry that takes the key no entry takes it

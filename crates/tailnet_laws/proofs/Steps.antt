@@ -14,6 +14,7 @@ use Rattle.admin_asks.specs.Decision as operator
 use Rattle.machine_asks.specs.Decision as machine
 use Rattle.machine_asks.specs.Seed.{seed}
 use Rattle.machine_asks.specs.declared.ask.MachineAsk.{MachineAsk}
+use Rattle.policy_asks.specs.Decision.{policy_decision}
 use Rattle.tailnet_desk.specs.History.{Legal, replay, state_after}
 use Rattle.tailnet_desk.specs.Step.{decision, outcome, step}
 use Rattle.tailnet_desk.specs.declared.ask.Ask.{Ask}
@@ -32,6 +33,7 @@ use Rattle.tailnet_laws.proofs.Every.{Every, every_bind, every_ok}
 use Rattle.tailnet_laws.proofs.Growth.{Grown, grown_more, rows_grown, same_grown}
 use Rattle.tailnet_laws.proofs.MachinePuts.{machine_puts, seed_puts}
 use Rattle.tailnet_laws.proofs.OperatorPuts.{operator_puts}
+use Rattle.tailnet_laws.proofs.PolicyPuts.{NoneEnters, policy_puts}
 use Rattle.tailnet_laws.proofs.Puts.{IsKeyPut, IsKeyUsed, Puts, used_is_put}
 
 outcome_grown : (s : State) (keys : AuthKey → Type 0) (enters : MachineKey → Type 0) (r : Result (Decision Answer) Refusal)
@@ -60,6 +62,9 @@ ask_grown s (ask.Machine x) words =
 ask_grown s (ask.Operator x) words =
     outcome_grown s (IsKeyPut s.rows) (IsAdmission s x) (decision s (ask.Operator x) words)
     (answered_puts answer.Operator s.rows (IsKeyPut s.rows) (IsAdmission s x) (operator.decision s x words) (operator_puts s x words))
+ask_grown s (ask.Policy x) words =
+    outcome_grown s (IsKeyPut s.rows) NoneEnters (decision s (ask.Policy x) words)
+    (answered_puts answer.Policy s.rows (IsKeyPut s.rows) NoneEnters (policy_decision s x) (policy_puts s x))
 
 pub step_grown : (s : State) (e : Event) → Grown s.rows (IsKeyPut s.rows) (IsEntrance s e) (step s e).state.rows
 step_grown s (event.Ask x moment words) = ask_grown (at_moment s moment) x words

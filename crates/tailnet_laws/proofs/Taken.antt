@@ -8,7 +8,7 @@ use Rattle.net_rows.specs.declared.rows.Rows.{Rows}
 use Rattle.tailcfg.specs.declared.register.Register.{Register}
 use Rattle.desk_state.specs.Decisions.{rows_after}
 use Rattle.desk_state.specs.State.{State}
-use Rattle.desk_state.specs.Users.{tags_granted}
+use Rattle.desk_state.specs.Tags.{tags_granted}
 use Rattle.desk_state.specs.declared.decision.Decision.{Decision}
 use Rattle.desk_state.specs.declared.refusal.Refusal.{Refusal}
 use Rattle.desk_state.specs.declared.refusal.Refusal.TheVariants.{NodeKeyTaken, UnknownMachine}

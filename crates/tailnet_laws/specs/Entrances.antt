@@ -23,6 +23,7 @@ abbrev pub LetsIn : State → Ask → MachineKey → Type 0
 LetsIn s (ask.Seed text) mk = ⊥
 LetsIn s (ask.Machine x) mk = IsKeyed x mk
 LetsIn s (ask.Operator x) mk = IsAdmission s x mk
+LetsIn s (ask.Policy x) mk = ⊥
 
 abbrev pub IsEntrance : State → Event → MachineKey → Type 0
 IsEntrance s (event.Ask x moment words) mk = LetsIn s x mk

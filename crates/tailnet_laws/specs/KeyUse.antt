@@ -45,6 +45,7 @@ abbrev pub AskTakesKey : State → Ask → Option (List ℕ) → ℕ → Type 0
 AskTakesKey s (ask.Seed text) words id = ⊥
 AskTakesKey s (ask.Machine x) words id = TakesKey s x words id
 AskTakesKey s (ask.Operator x) words id = ⊥
+AskTakesKey s (ask.Policy x) words id = ⊥
 
 abbrev pub EventTakesKey : State → Event → ℕ → Type 0
 EventTakesKey s (event.Ask x moment words) id = AskTakesKey (at_moment s moment) x words id

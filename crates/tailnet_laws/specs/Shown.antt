@@ -2,7 +2,7 @@
 use Rattle.std.specs.Prelude.{◌≡◌, ◌≢◌, ℕ, false, Contains}
 use Rattle.net_rows.specs.declared.machine.Machine.{Machine}
 use Rattle.tailcfg.specs.declared.node_row.NodeRow.{NodeRow}
-use Rattle.map_delta.specs.declared.view.View.{View}
+use Rattle.fresh_maps.specs.declared.view.View.{View}
 use Rattle.desk_state.specs.State.{State, is_ahead}
 
 -- The map shows no node of this id, neither as its own nor as a peer.

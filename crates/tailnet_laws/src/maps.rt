@@ -3,14 +3,15 @@ ghost use Rattle.std.specs.Prelude.{◌≡◌, ◌≢◌, ℕ, List, Option, Ok,
 ghost use Rattle.net_rows.specs.Sound.{AreSound};
 ghost use Rattle.net_rows.specs.declared.machine.Machine.{Machine};
 ghost use Rattle.tailcfg.specs.declared.node_row.NodeRow.{NodeRow};
-ghost use Rattle.map_delta.specs.declared.view.View.{View};
 ghost use Rattle.tailcfg.specs.declared.update.Update as update;
-ghost use Rattle.map_delta.specs.Fresh.{fresh};
+ghost use Rattle.peer_view.specs.Seen.{Node};
+ghost use Rattle.fresh_maps.specs.Fresh.{fresh};
+ghost use Rattle.fresh_maps.specs.declared.view.View.{View};
 ghost use Rattle.desk_state.specs.State.{State, at_moment};
 ghost use Rattle.desk_state.specs.declared.decision.Decision.{Decision};
 ghost use Rattle.desk_state.specs.declared.refusal.Refusal.TheVariants.{NotLive};
 ghost use Rattle.machine_asks.specs.Decision.{decision};
-ghost use Rattle.machine_asks.specs.OneMap.{live_ids};
+ghost use Rattle.machine_asks.specs.OneMap.{world_of};
 ghost use Rattle.machine_asks.specs.declared.answer.MachineAnswer.{MachineAnswer};
 ghost use Rattle.machine_asks.specs.declared.answer.MachineAnswer.TheVariants.{Map};
 ghost use Rattle.machine_asks.specs.declared.ask.MachineAsk.{MachineAsk};
@@ -34,9 +35,8 @@ pub fn expired_machines_are_in_no_map()
 
 /// It is no peer in a map that is computed afresh, whoever the viewer is.
 pub fn expired_machines_are_no_peers()
-    ensures fresh { (s : State) (m viewer : Machine) (peer : NodeRow) → AreSound s.rows
-        → IsExpired s m → Contains (fresh s.settings s.rows (live_ids s) viewer).peers peer
-        → peer.id ≢ m.id }
+    ensures fresh { (s : State) (m : Machine) (viewer : Node) (peer : NodeRow) → AreSound s.rows
+        → IsExpired s m → Contains (fresh (world_of s) viewer).peers peer → peer.id ≢ m.id }
 {}
 
 /// And it is told that it isn't live, when it asks for its map or tells of itself.

@@ -9,12 +9,10 @@ mod wordless;
 use crate::top::tailnetd;
 use crate::wordless::end_wordless;
 use io_edge::{HostClock, HostEntropy, HostFiles, NoDoors, NoLink, NoPause, ReadSource, WriteSink};
-use net_rows::Tables;
-use row_keeper::MemoryOpener;
+use keeper_sqlite::HostOpener;
 use std::io::ErrorKind;
 use std::process::ExitCode;
 use std::{env, io};
-use tail_base::Items;
 
 /// The words after the program's name.
 fn words_of(rt: &HostRuntime) -> io::Result<Vec<String>> {
@@ -25,7 +23,7 @@ fn words_of(rt: &HostRuntime) -> io::Result<Vec<String>> {
     Ok(words)
 }
 
-/// The program over the process's own streams, files, clock and random source, and tables in memory.
+/// The program over the process's own streams, files, databases, clock and random source.
 fn main(rt: HostRuntime) -> ExitCode {
     let alloc = rt.alloc();
     let words = match words_of(&rt) {
@@ -37,12 +35,6 @@ fn main(rt: HostRuntime) -> ExitCode {
         // A word that isn't UTF-8 is no word of a command, and no words are none either.
         Err(_) => Vec::new(alloc),
     };
-    let mut opener = MemoryOpener::new(
-        alloc,
-        Tables::empty(alloc),
-        Items::new(alloc),
-        Items::new(alloc),
-    );
     let status = tailnetd(
         &rt,
         alloc,
@@ -51,7 +43,7 @@ fn main(rt: HostRuntime) -> ExitCode {
         &mut WriteSink::new(rt.stdout()),
         &mut WriteSink::new(rt.stderr()),
         &mut HostFiles::new(rt),
-        &mut opener,
+        &mut HostOpener::new(rt),
         &mut HostClock::new(rt),
         &mut HostEntropy::new(rt),
         &mut NoDoors::new(),

@@ -16,7 +16,7 @@ pub(crate) fn one<T: Drop>(alloc: Global, item: T) -> Result<Items<T>, NoMemory>
     Ok(items)
 }
 
-pub(crate) fn addr(spelled: &[u8]) -> Result<Addr, Fail> {
+fn addr(spelled: &[u8]) -> Result<Addr, Fail> {
     Ok(Addr::read(spelled).ok_or("no address")?)
 }
 
@@ -24,7 +24,7 @@ fn prefix(spelled: &[u8]) -> Result<Prefix, Fail> {
     Ok(Prefix::read(spelled).ok().ok_or("no prefix")?)
 }
 
-pub(crate) fn prefixes(alloc: Global, spelled: &[&[u8]]) -> Result<Items<Prefix>, Fail> {
+fn prefixes(alloc: Global, spelled: &[&[u8]]) -> Result<Items<Prefix>, Fail> {
     let mut made = Items::new(alloc);
     for text in spelled {
         made.push(prefix(text)?)?;
@@ -116,18 +116,23 @@ pub(crate) fn dns(alloc: Global) -> Result<Dns, Fail> {
     Ok(Dns { settings, extras })
 }
 
-/// A rule from a network and an address to the SSH port of another.
-pub(crate) fn rule(alloc: Global) -> Result<FilterRule, Fail> {
+/// The SSH port of an address.
+fn dests(alloc: Global) -> Result<Items<DestRange>, Fail> {
+    let to = prefix(b"fd7a:115c:a1e0::2/128")?;
     let ports = PortRange {
         first: 22,
         last: 22,
     };
-    let to = prefix(b"fd7a:115c:a1e0::2/128")?;
+    Ok(one(alloc, DestRange { to, ports })?)
+}
+
+/// A rule from a network and an address to the SSH port of another.
+pub(crate) fn rule(alloc: Global) -> Result<FilterRule, Fail> {
     let protos = Items::from_slice(alloc, &[6])?;
-    let dests = Items::from_slice(alloc, &[DestRange { to, ports }])?;
-    let sources = Sources::Only(prefixes(alloc, &[b"10.0.0.0/8", b"100.64.0.1/32"])?);
+    let dests = dests(alloc)?;
+    let sources = prefixes(alloc, &[b"10.0.0.0/8", b"100.64.0.1/32"])?;
     Ok(FilterRule {
-        sources,
+        sources: Sources::Only(sources),
         dests,
         protos,
     })

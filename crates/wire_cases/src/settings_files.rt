@@ -2,7 +2,8 @@
 use settings::SettingsFields;
 use std::alloc::Global;
 use std::test::Fail;
-use tail_words::{Command, SettingsFault, read_command, read_settings, read_words};
+use tail_base::NoMemory;
+use tail_words::{Command, SettingsFault, read_command, read_settings};
 use tailcfg::DnsSettings;
 
 /// The rule and key of the fault of a settings file.
@@ -132,28 +133,43 @@ fn all_keys_of_a_file(rt: HostRuntime) -> Result<(), Fail> {
     Ok(())
 }
 
+/// Words, and the command that they are.
+const WORDS: [(&str, &str); 7] = [
+    ("pipe", "-"),
+    ("pipe a.toml", "pipe a.toml without a seed"),
+    ("pipe a.toml --seed", "-"),
+    ("pipe a.toml --seed k1", "pipe a.toml with k1"),
+    ("pipe a.toml --seed k1 ", "-"),
+    ("policy-check", "-"),
+    ("policy-check a.hujson", "policy-check a.hujson"),
+];
+
+fn words_of(alloc: Global, line: &str) -> Result<Vec<String>, NoMemory> {
+    let mut words = Vec::new(alloc);
+    for word in line.split(" ") {
+        words.push(String::from_str(alloc, word)?)?;
+    }
+    Ok(words)
+}
+
+/// The command in the words of the table.
+fn shown(alloc: Global, command: Option<Command<'_>>) -> Result<String, NoMemory> {
+    match command {
+        None => Ok(String::from_str(alloc, "-")?),
+        Some(Command::PolicyCheck { file }) => Ok(format!(in alloc; "policy-check {file}")?),
+        Some(Command::Pipe(words)) => match words.seed {
+            None => Ok(format!(in alloc; "pipe {} without a seed", words.file)?),
+            Some(seed) => Ok(format!(in alloc; "pipe {} with {seed}", words.file)?),
+        },
+    }
+}
+
 #[test]
 fn words_of_the_command_line(rt: HostRuntime) -> Result<(), Fail> {
-    let mut words = Vec::new(rt.alloc());
-    words.push(String::from_str(rt.alloc(), "pipe")?)?;
-    assert!(rt; read_words(&words).is_none());
-    words.push(String::from_str(rt.alloc(), "a.toml")?)?;
-    let alone = read_words(&words).ok_or("a file")?;
-    assert!(rt; alone.file == "a.toml" && alone.seed.is_none());
-    words.push(String::from_str(rt.alloc(), "--seed")?)?;
-    assert!(rt; read_words(&words).is_none());
-    words.push(String::from_str(rt.alloc(), "k1")?)?;
-    let seeded = read_words(&words).ok_or("a seed")?;
-    assert!(rt; seeded.file == "a.toml" && seeded.seed == Some("k1"));
-    words.push(String::new(rt.alloc()))?;
-    assert!(rt; read_words(&words).is_none());
-    assert!(rt; matches!(read_command(&words[..2]), Some(Command::Pipe(_))));
-    let mut check = Vec::new(rt.alloc());
-    check.push(String::from_str(rt.alloc(), "policy-check")?)?;
-    assert!(rt; read_command(&check).is_none());
-    check.push(String::from_str(rt.alloc(), "a.hujson")?)?;
-    assert!(rt;
-        matches!(read_command(&check), Some(Command::PolicyCheck { file }) if file == "a.hujson")
-    );
+    for (line, command) in WORDS {
+        let words = words_of(rt.alloc(), line)?;
+        let found = shown(rt.alloc(), read_command(&words))?;
+        assert_eq!(rt; found.as_str(), command, "{line}");
+    }
     Ok(())
 }

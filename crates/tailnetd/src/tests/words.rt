@@ -1,5 +1,5 @@
-//! Words of the top call that start nothing, and settings that are refused.
-use crate::tests::{CALM, FIRST, SETTINGS, piped};
+//! Words of the top call that start nothing.
+use crate::tests::FIRST;
 use crate::top::tailnetd;
 use io_edge::{
     MemoryClock, MemoryEntropy, MemoryFiles, MemorySink, MemorySource, NoDoors, NoLink, NoPause,
@@ -8,7 +8,6 @@ use net_rows::Tables;
 use row_keeper::MemoryOpener;
 use run_ends::Status;
 use std::alloc::Global;
-use std::process::Abort;
 use std::sync::Wait;
 use std::test::Fail;
 use std::thread::Threads;
@@ -79,29 +78,5 @@ fn no_words_are_no_command(rt: HostRuntime) -> Result<(), Fail> {
     let (status, errors) = said(&rt, rt.alloc(), &[], given);
     assert!(rt; status == Status::Usage);
     assert!(rt; errors.bytes() == b"tailnetd: usage\n".as_slice());
-    Ok(())
-}
-
-/// Asserts that settings are refused with this line, and nothing else is written.
-fn assert_refused(
-    rt: &impl Abort,
-    alloc: Global,
-    settings: &[u8],
-    line: &[u8],
-) -> Result<(), NoMemory> {
-    let ran = piped(alloc, settings, FIRST, &CALM)?;
-    assert!(rt; ran.status == Status::Settings);
-    assert!(rt; ran.errors.bytes() == line);
-    assert!(rt; ran.output.bytes().is_empty());
-    Ok(())
-}
-
-#[test]
-fn settings_that_are_refused(rt: HostRuntime) -> Result<(), Fail> {
-    let alloc = rt.alloc();
-    let mut settings = Vec::from_slice(alloc, SETTINGS)?;
-    settings.extend_from_slice(b"workers = 0\n")?;
-    assert_refused(&rt, alloc, &settings, b"tailnetd: settings S4 workers\n")?;
-    assert_refused(&rt, alloc, b"token = 7\n", b"tailnetd: settings S3 token\n")?;
     Ok(())
 }

@@ -10,5 +10,5 @@ id_reaches-requires g c =
 pub returns-clause-value : goal.returns-clause-value
 returns-clause-value g c =
     let w = c.world.inside in
-    world_pair w.settings.now (option_copied w.policy) w.tables.now.rows w.live.now w.online.now w.expanded.now c.args.world.now c.world.invariant c.world.view_is c.rules.ensures.sound
+    world_pair w.settings.now (option_copied w.policy) w.tables.now.rows w.live.now w.online w.expanded.now c.args.world.now c.world.invariant c.world.view_is c.rules.ensures.sound
     c.groups.result.now c.rules.result.now c.sites.result.now c.groups.ensures.value c.rules.ensures.value c.sites.ensures.value c.args.a c.args.b c.id_reaches.result c.id_reaches.ensures.value

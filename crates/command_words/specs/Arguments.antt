@@ -1,0 +1,85 @@
+-- What a command's arguments ask, by what `clap` found for each.
+use Rattle.std.specs.Prelude.{ℕ, Bool, List, [], Option, Some, None, codes, length, option_map, unwrap_or, if◌then◌else◌, nat_le, ◌&&◌}
+use Rattle.std.specs.List.{list_all}
+use Rattle.std.specs.Str.{bytes_eq}
+use Rattle.clap.specs.Words.{Row, Text, first_of}
+use Rattle.tail_base.specs.Numerals.{number_in}
+use Rattle.command_words.specs.Lines.{name_of}
+use Rattle.command_words.specs.declared.argument.Argument.{Argument}
+use Rattle.command_words.specs.declared.argument.Argument.TheVariants as argument
+use Rattle.command_words.specs.declared.invocation.Invocation.{Invocation}
+use Rattle.command_words.specs.declared.invocation.Invocation.TheVariants as asked
+use Rattle.command_words.specs.declared.invocation.OperatorCall.{OperatorCall}
+use Rattle.command_words.specs.declared.invocation.OperatorCommand.{OperatorCommand}
+use Rattle.command_words.specs.declared.invocation.OperatorCommand.TheVariants as command
+use Rattle.command_words.specs.declared.line.CommandKind.{CommandKind}
+use Rattle.command_words.specs.declared.line.CommandKind.TheVariants as kind
+use Rattle.command_words.specs.declared.line.OperatorKind.{OperatorKind}
+use Rattle.command_words.specs.declared.line.OperatorKind.TheVariants as operator
+
+-- the value of an argument that may be left out
+abbrev pub given_option : Argument → List Row → Option Text
+given_option x rows = first_of (name_of x) rows
+
+-- the value of an argument that has to be given
+abbrev pub given_text : Argument → List Row → Text
+given_text x rows = unwrap_or (given_option x rows) []
+
+-- whether a flag is set
+abbrev pub is_set : Argument → List Row → Bool
+is_set x rows = bytes_eq (given_text x rows) (codes "true")
+
+-- the number that is the id: decimal digits without a sign or leading zeros
+abbrev pub given_id : List Row → Option ℕ
+given_id rows = number_in 10 1 2147483647 (given_text argument.Id rows)
+
+-- 1 to 128 visible ASCII bytes
+abbrev pub is_seed_key : Text → Bool
+is_seed_key text = nat_le 1 (length text) && nat_le (length text) 128 && list_all (λ b. nat_le 33 b && nat_le b 126) text
+
+-- what is asked, if the seed key keeps its rule
+abbrev pub pipe_with : Text → Option Text → Option Invocation
+pipe_with settings None = Some (asked.Pipe settings None)
+pipe_with settings (Some key) = if is_seed_key key then Some (asked.Pipe settings (Some key)) else None
+
+abbrev pub pipe_of : List Row → Option Invocation
+pipe_of rows = pipe_with (given_text argument.Settings rows) (given_option argument.Seed rows)
+
+abbrev pub key_add_of : List Row → OperatorCommand
+key_add_of rows = command.KeyAdd (given_text argument.Login rows) (is_set argument.Reusable rows)
+    (is_set argument.Ephemeral rows) (given_option argument.Expiry rows) (given_option argument.Tags rows)
+
+-- what an operator asks, if the id keeps its rule
+abbrev pub operator_command_of : OperatorKind → List Row → Option OperatorCommand
+operator_command_of operator.UserList rows = Some command.UserList
+operator_command_of operator.UserAdd rows = Some (command.UserAdd (given_text argument.Name rows))
+operator_command_of operator.UserDel rows = Some (command.UserDel (given_text argument.Login rows))
+operator_command_of operator.KeyList rows = Some command.KeyList
+operator_command_of operator.KeyAdd rows = Some (key_add_of rows)
+operator_command_of operator.KeyExpire rows = option_map command.KeyExpire (given_id rows)
+operator_command_of operator.NodeList rows = Some command.NodeList
+operator_command_of operator.NodeDel rows = option_map command.NodeDel (given_id rows)
+operator_command_of operator.NodeExpire rows = option_map command.NodeExpire (given_id rows)
+operator_command_of operator.NodeRename rows = option_map (λ id. command.NodeRename id (given_text argument.Name rows)) (given_id rows)
+operator_command_of operator.NodeTags rows = option_map (λ id. command.NodeTags id (given_text argument.List rows)) (given_id rows)
+operator_command_of operator.NodeRoutes rows = option_map (λ id. command.NodeRoutes id (given_text argument.List rows)) (given_id rows)
+operator_command_of operator.PendingList rows = Some command.PendingList
+operator_command_of operator.PendingAdmit rows = Some (command.PendingAdmit (given_text argument.Pending rows) (given_text argument.Login rows))
+operator_command_of operator.PolicyGet rows = Some command.PolicyGet
+operator_command_of operator.PolicySet rows = Some (command.PolicySet (given_text argument.File rows))
+operator_command_of operator.DnsGet rows = Some command.DnsGet
+operator_command_of operator.DnsSet rows = Some (command.DnsSet (given_text argument.File rows))
+operator_command_of operator.Sweep rows = Some command.Sweep
+
+-- that, with the server and the token that it goes to
+abbrev pub call_of : List Row → OperatorCommand → OperatorCall
+call_of rows c = record { server = given_text argument.Server rows; token = given_text argument.Token rows; command = c }
+
+abbrev pub operator_of : OperatorKind → List Row → Option Invocation
+operator_of k rows = option_map (λ c. asked.Operator (call_of rows c)) (operator_command_of k rows)
+
+-- what a command's arguments ask, if a number and the seed key keep their rules
+unfoldable pub asked_of : CommandKind → List Row → Option Invocation
+asked_of kind.Pipe rows = pipe_of rows
+asked_of kind.PolicyCheck rows = Some (asked.PolicyCheck (given_text argument.File rows))
+asked_of (kind.Operator k) rows = operator_of k rows

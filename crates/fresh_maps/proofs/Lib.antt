@@ -1,0 +1,4 @@
+pub mod FilterLemmas
+pub mod OrderLemmas
+pub mod PeerLemmas
+pub mod ShownLemmas

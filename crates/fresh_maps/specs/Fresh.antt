@@ -1,0 +1,29 @@
+-- The map of a machine, computed afresh (`tailcfg.MapResponse`).
+use Rattle.std.specs.Prelude.{List, [], ◌∷◌, Option, Some, None, map, if◌then◌else◌}
+use Rattle.tailcfg.specs.declared.node_row.NodeRow.{NodeRow}
+use Rattle.filter_compile.specs.Filters.{filter_of}
+use Rattle.peer_view.specs.Seen.{Node, Seen, sees, sites_seen, visible}
+use Rattle.peer_view.specs.Shown.{own_row, shown}
+use Rattle.fresh_maps.specs.Profiles.{owners_of}
+use Rattle.fresh_maps.specs.declared.view.View.{View}
+
+-- the rows of the machines that it sees, by id, as it is shown them
+abbrev pub peers_of : Seen → Node → List NodeRow
+peers_of w m = map (shown w m (visible w m)) (visible w m)
+
+-- The map of a live machine: its own row, those that it sees, the filter that it applies, DNS, the tailnet's name, and
+-- whose machines these are.
+abbrev pub fresh : Seen → Node → View
+fresh w m = record {
+  node = own_row w m;
+  peers = peers_of w m;
+  filter = filter_of w.policy (sites_seen w) m.site;
+  dns = record { settings = w.settings.dns; extras = w.extras };
+  domain = w.settings.base_domain;
+  profiles = owners_of w.users (own_row w m ∷ peers_of w m);
+}
+
+-- the row of one of the live machines, if there is one and the viewer sees it
+abbrev pub row_shown : Seen → Node → Option Node → List NodeRow
+row_shown w viewer None = []
+row_shown w viewer (Some peer) = if sees w viewer peer then shown w viewer (visible w viewer) peer ∷ [] else []

@@ -1,0 +1,113 @@
+//! Maps computed afresh.
+ghost use Rattle.std.specs.Prelude.{◌≡◌, ◌++◌, Contains, IfOk, IsSome, OnOk, Some};
+ghost use Rattle.peer_view.specs.Seen.{Node, node_with, sites_seen};
+ghost use Rattle.peer_view.specs.Ways.{ways_of};
+ghost use Rattle.fresh_maps.specs.Fresh.{fresh, peers_of, row_shown};
+ghost use Rattle.fresh_maps.specs.InOrder.{IsInOrder};
+ghost use Rattle.fresh_maps.specs.Granted.{MeetsPolicy};
+
+use crate::profile::owners_of;
+use crate::view::View;
+use filter_compile::filter_for;
+use peer_view::{LiveMachine, Way, World, own_row, sees_machine, shown, ways_of};
+use policy_eval::Site;
+use std::alloc::Global;
+use tail_base::{Duplicate, Items, NoMemory};
+use tailcfg::{Dns, NodeRow};
+
+/// Adds the row of the live machine of the site, if the viewer sees it.
+fn add_peer(
+    alloc: Global,
+    peers: &mut Items<NodeRow>,
+    world: &World<'_>,
+    viewer: &LiveMachine<'_>,
+    ways: &[Way<'_>],
+    site: &Site,
+) -> Result<(), NoMemory>
+    requires viewer { Contains world.now.nodes viewer.now }
+    requires ways { ways.now ≡ ways_of world.now viewer.now }
+    requires site { Contains (sites_seen world.now) site.now }
+    ensures ok { OnOk result (peers.new ≡ peers.old
+        ++ row_shown world.now viewer.now (node_with world.now site.now.id)) }
+{
+    let Some(peer) = world.machine_at(site) else {
+        return Ok(());
+    };
+    if sees_machine(world, viewer, ways, &peer) {
+        let row = shown(alloc, world, &peer)?;
+        peers.push(row)
+    } else {
+        Ok(())
+    }
+}
+
+/// The rows of the machines that the viewer sees.
+fn peers_of(
+    alloc: Global,
+    world: &World<'_>,
+    viewer: &LiveMachine<'_>,
+) -> Result<Items<NodeRow>, NoMemory>
+    requires viewer { Contains world.now.nodes viewer.now }
+    ensures value { IfOk result (λ peers. peers ≡ peers_of world.now viewer.now) }
+{
+    let expanded = world.expanded();
+    // For what it promises, that nodes go by id.
+    let _users = world.users();
+    let ways = ways_of(alloc, world, viewer)?;
+    let mut peers = Items::new(alloc);
+    for site in expanded.sites() {
+        add_peer(alloc, &mut peers, world, viewer, ways.as_slice(), site)?;
+    }
+    Ok(peers)
+}
+
+/// What DNS is told, from the settings and the extra records.
+fn dns_of(alloc: Global, world: &World<'_>) -> Result<Dns, NoMemory>
+    ensures value { IfOk result (λ dns. dns
+        ≡ record { settings = world.now.settings.dns; extras = world.now.extras }) }
+{
+    Ok(Dns {
+        settings: world.fields().dns.copy(alloc)?,
+        extras: Items::from_slice(alloc, world.extras())?,
+    })
+}
+
+/// The map of one of the world's live machines.
+fn map_of(alloc: Global, world: &World<'_>, machine: &LiveMachine<'_>) -> Result<View, NoMemory>
+    requires here { Contains world.now.nodes machine.now }
+    ensures value { IfOk result (λ view. view ≡ fresh world.now machine.now) }
+{
+    let node = own_row(alloc, world, machine)?;
+    let peers = peers_of(alloc, world, machine)?;
+    let profiles = owners_of(alloc, world.users(), &node, peers.as_slice())?;
+    Ok(View {
+        node,
+        peers,
+        filter: filter_for(alloc, world.expanded(), machine.site)?,
+        dns: dns_of(alloc, world)?,
+        domain: world.fields().base_domain.copy(alloc)?,
+        profiles,
+    })
+}
+
+/// The map of a live machine, computed afresh. It is in order, and its filter admits exactly the flows
+/// to what the machine serves that the policy grants.
+pub fn fresh_map(alloc: Global, world: &World<'_>, machine: u32) -> Result<View, NoMemory>
+    requires live { IsSome (node_with world.now machine) }
+    ensures value { IfOk result (λ view. (m : Node) → node_with world.now machine ≡ Some m
+        → view ≡ fresh world.now m) }
+    ensures order { IfOk result IsInOrder }
+    ensures admits { IfOk result (λ view. (m : Node) → node_with world.now machine ≡ Some m
+        → MeetsPolicy world.now m view.filter) }
+{
+    // For what they promise: what is seen keeps the rules, and so do those in force.
+    let _users = world.users();
+    let expanded = world.expanded();
+    let _rules = expanded.rules();
+    let _sites = expanded.sites();
+    let Some(machine) = world.machine(machine) else {
+        unreachable!()
+    };
+    let view = map_of(alloc, world, &machine)?;
+    Ok(view)
+}

@@ -1,0 +1,17 @@
+//! What a machine is told of the tailnet: its map, computed afresh, and the responses and frames
+//! that carry it.
+#![tactic(auto)]
+
+mod frame;
+mod fresh;
+mod laws;
+mod profile;
+mod response;
+mod view;
+
+pub use frame::{first_frame, frame_bytes};
+pub use fresh::fresh_map;
+pub use laws::maps_of_sound_tables;
+pub use profile::profile_of;
+pub use response::first_response;
+pub use view::View;

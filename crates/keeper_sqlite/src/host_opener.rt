@@ -1,0 +1,123 @@
+//! The opener of the shipped program.
+ghost use Rattle.std.specs.Prelude.{◌≡◌, ◌≢◌, None, Err, IfOk};
+ghost use Rattle.keeper_sqlite.specs.Host.{calls_of, faults_of};
+
+use crate::host_keeper::HostKeeper;
+use crate::keeper::SqliteKeeper;
+use io_edge::EdgeFault;
+use row_keeper::Opener;
+use sqlite::{Connection, Error, ErrorCode};
+use std::alloc::Global;
+use std::fs::OpenOptions;
+use std::io;
+use std::os::unix::fs::OpenOptionsExt;
+
+/// The mode of a file that is made: the owner alone may read it, since it holds keys.
+const OWNER_ALONE: u32 = 0o600;
+
+/// Opens databases by their names: `:memory:` is a new one in memory, any other name a file.
+#[derive(Drop)]
+pub struct HostOpener {
+    rt: HostRuntime,
+    faults: u64,
+}
+
+impl HostOpener {
+    /// The databases that the runtime opens, with a count of 0.
+    pub fn new(rt: HostRuntime) -> HostOpener
+        ensures faults { ⟦<HostOpener as Opener>⟧.faults result ≡ 0 }
+    {
+        HostOpener { rt, faults: 0 }
+    }
+}
+
+/// A keeper over a new database in memory.
+fn in_memory(alloc: Global) -> Result<HostKeeper, EdgeFault>
+    ensures never { result ≢ Err EdgeFault.Failed }
+    ensures faults { IfOk result (λ keeper. faults_of keeper ≡ 0) }
+    ensures calls { IfOk result (λ keeper. calls_of keeper ≡ 0) }
+{
+    match Connection::open_in_memory(alloc) {
+        Ok(conn) => Ok(HostKeeper::Memory(SqliteKeeper::adopt(conn))),
+        Err(_) => Err(EdgeFault::NoMemory),
+    }
+}
+
+/// Makes the file, empty, where nothing has its name.
+fn make_file(rt: &HostRuntime, name: &str) -> io::Result<()> {
+    let made = OpenOptions::new()
+        .read(true)
+        .write(true)
+        .create_new(true)
+        .mode(OWNER_ALONE)
+        .open(rt, name);
+    match made {
+        Ok(_) => Ok(()),
+        Err(error) if error.kind() == io::ErrorKind::AlreadyExists => Ok(()),
+        Err(error) => Err(error),
+    }
+}
+
+/// What an error of the store means for an open.
+fn fault_of(error: Error) -> EdgeFault {
+    match error {
+        Error::SqliteFailure(ErrorCode::OutOfMemory) => EdgeFault::NoMemory,
+        _ => EdgeFault::Failed,
+    }
+}
+
+/// A keeper over the database in the file of this name, which is made where it isn't there.
+fn in_file(rt: &HostRuntime, name: &str) -> Result<HostKeeper, EdgeFault>
+    ensures faults { IfOk result (λ keeper. faults_of keeper ≡ 0) }
+    ensures calls { IfOk result (λ keeper. calls_of keeper ≡ 0) }
+{
+    match make_file(rt, name) {
+        Ok(()) => {}
+        Err(error) if error.kind() == io::ErrorKind::OutOfMemory => {
+            return Err(EdgeFault::NoMemory);
+        }
+        Err(_) => return Err(EdgeFault::Failed),
+    }
+    match Connection::open(rt, name) {
+        Ok(conn) => Ok(HostKeeper::File(SqliteKeeper::adopt(conn))),
+        Err(error) => Err(fault_of(error)),
+    }
+}
+
+/// A keeper over the database of this name.
+fn open_named(rt: &HostRuntime, alloc: Global, name: &str) -> Result<HostKeeper, EdgeFault>
+    ensures faults { IfOk result (λ keeper. faults_of keeper ≡ 0) }
+    ensures calls { IfOk result (λ keeper. calls_of keeper ≡ 0) }
+{
+    if name == ":memory:" {
+        in_memory(alloc)
+    } else if name.starts_with("file:") {
+        // The store reads such a name as an address, and opens none.
+        Err(EdgeFault::Failed)
+    } else {
+        in_file(rt, name)
+    }
+}
+
+impl Opener for HostOpener {
+    type Keeper = HostKeeper;
+
+    ghost told = { λ _. None };
+
+    ghost asked = { λ _. None };
+
+    ghost faults = { λ o. o.faults };
+
+    fn open(&mut self, alloc: Global, name: &str) -> Result<HostKeeper, EdgeFault> {
+        let opened = open_named(&self.rt, alloc, name);
+        if matches!(opened, Err(EdgeFault::Failed)) {
+            self.faults = self.faults.saturating_add(1);
+        }
+        opened
+    }
+
+    fn close(&mut self, keeper: HostKeeper) {
+        self.faults = self.faults.saturating_add(keeper.faults());
+        keeper.end();
+    }
+}

@@ -1,0 +1,115 @@
+//! A keeper over a connection to a database.
+ghost use Rattle.std.specs.Prelude.{◌≡◌, ◌≤◌, None, Err, false, IsTrue, OnOk, OnErr, IsErrOf};
+ghost use Rattle.io_edge.specs.Edge.{Rose};
+ghost use Rattle.keeper_sqlite.specs.Pending.{IsSettled, Leaves};
+ghost use Rattle.sqlite.specs.Held.{state};
+ghost use Rattle.sqlite.specs.State.{HasCleanDisk};
+
+use crate::commit::commit;
+use crate::fault::Fault;
+use crate::load::load;
+use io_edge::EdgeFault;
+use net_rows::{Change, Tables};
+use row_keeper::{Keeper, LoadFault};
+use sqlite::{Alter, Connection};
+use std::alloc::Global;
+
+/// Keeps the tables in the database of a connection. Before it has loaded them it takes no change.
+#[derive(Drop)]
+pub struct SqliteKeeper<S: Alter> {
+    conn: Connection<S>,
+    is_loaded: bool,
+    faults: u64,
+    calls: u64,
+}
+
+impl<S: Alter> SqliteKeeper<S> {
+    /// A keeper over this connection that was not called yet.
+    pub fn adopt(conn: Connection<S>) -> SqliteKeeper<S>
+        ensures conn { result.conn ≡ conn }
+        ensures waits { result.is_loaded ≡ false }
+        ensures faults { result.faults ≡ 0 }
+        ensures calls { result.calls ≡ 0 }
+    {
+        SqliteKeeper {
+            conn,
+            is_loaded: false,
+            faults: 0,
+            calls: 0,
+        }
+    }
+
+    /// The connection.
+    pub fn give_back(self) -> Connection<S>
+        ensures conn { result ≡ self.conn }
+    {
+        let SqliteKeeper { conn, .. } = self;
+        conn
+    }
+
+    /// How often a call has failed.
+    pub fn faults(&self) -> u64
+        ensures value { result ≡ self.now.faults }
+    {
+        self.faults
+    }
+
+    /// Raises the count of faults.
+    fn raise(&mut self)
+        ensures rose { Rose self.old.faults self.new.faults }
+        ensures later { self.old.faults ≤ self.new.faults }
+        ensures same { self.new ≡ record self.old { faults = self.new.faults } }
+    {
+        self.faults = self.faults.saturating_add(1);
+    }
+
+    /// Keeps the change. Before the tables were loaded it fails, and nothing is asked of the store.
+    fn keep(&mut self, alloc: Global, change: &Change) -> Result<(), EdgeFault>
+        ensures waits { self.old.is_loaded ≡ false
+            → (result ≡ Err EdgeFault.Failed) × (self.new.conn ≡ self.old.conn) }
+        ensures ok { HasCleanDisk (state S.Store self.new.conn)
+            → OnOk result (IsSettled (state S.Store self.new.conn)) }
+        ensures err { HasCleanDisk (state S.Store self.new.conn)
+            → OnErr result (Leaves (state S.Store self.old.conn) (state S.Store self.new.conn)) }
+        ensures calls { self.new.calls ≡ self.old.calls }
+        ensures later { self.old.faults ≤ self.new.faults }
+        ensures cause { IsErrOf result EdgeFault.Failed → Rose self.old.faults self.new.faults }
+    {
+        if !self.is_loaded {
+            self.raise();
+            return Err(EdgeFault::Failed);
+        }
+        match commit(&mut self.conn, alloc, change) {
+            Ok(()) => Ok(()),
+            Err(Fault::NoMemory) => Err(EdgeFault::NoMemory),
+            Err(Fault::Failed) => {
+                self.raise();
+                Err(EdgeFault::Failed)
+            }
+        }
+    }
+}
+
+impl<S: Alter + Drop> Keeper for SqliteKeeper<S> {
+    ghost told = { λ _. None };
+
+    ghost faults = { λ k. k.faults };
+
+    ghost calls = { λ k. k.calls };
+
+    fn load(&mut self, alloc: Global) -> Result<Tables, LoadFault> {
+        self.calls = self.calls.saturating_add(1);
+        let loaded = load(&mut self.conn, alloc);
+        match &loaded {
+            Ok(_) => self.is_loaded = true,
+            Err(LoadFault::Failed) => self.raise(),
+            Err(LoadFault::Damaged { .. } | LoadFault::NoMemory) => {}
+        }
+        loaded
+    }
+
+    fn commit(&mut self, alloc: Global, change: &Change) -> Result<(), EdgeFault> {
+        self.calls = self.calls.saturating_add(1);
+        self.keep(alloc, change)
+    }
+}

@@ -1,9 +1,0 @@
-use Rattle.std.proofs.Common.{◌≡◌, drop}
-use Rattle.std.specs.Prelude.{map, filter}
-use Rattle.map_delta.specs.Fresh.{is_peer_of, shown}
-use Rattle.map_delta.proofs.ShownLemmas.{gathered}
-use Rattle.map_delta.proofs.fresh.peers_of.Given as goal
-
--- what is gathered from here on makes the whole list
-abbrev pub invariant-loop-machine : goal.invariant-loop-machine
-invariant-loop-machine l = gathered (is_peer_of l.live l.viewer) (shown l.domain) l.peers (drop l.machine-index l.machines) ≡ map (shown l.domain) (filter (is_peer_of l.live l.viewer) l.machines)

@@ -1,7 +1,0 @@
-use Rattle.std.proofs.Common.{◌∷◌}
-use Rattle.map_delta.specs.Profiles.{owns_any, user_profile}
-use Rattle.map_delta.proofs.ShownLemmas.{gathered_all}
-use Rattle.map_delta.proofs.profile.users_shown.Goals as goal
-
-pub loop-user-init : goal.loop-user-init
-loop-user-init c = rw c.new-owners.ensures.value (gathered_all (λ u. owns_any (c.args.node.now ∷ c.args.peers.now) u.id) (user_profile) c.args.users.now)

@@ -1,0 +1,20 @@
+//! Live machines.
+use net_rows::Machine;
+use policy_eval::Site;
+use std::marker::Model;
+
+/// A live machine: its row, what policies see of it, and whether it is online.
+#[derive(Drop)]
+pub struct LiveMachine<'a> {
+    pub row: &'a Machine,
+    pub site: &'a Site,
+    pub online: bool,
+}
+
+impl<'a> Model for LiveMachine<'a> {
+    ghost use Rattle.peer_view.specs.Seen.{Node};
+
+    ghost Value = { Node };
+
+    ghost view = { λ a. record { row = a.row.now; site = a.site.now; online = a.online } };
+}

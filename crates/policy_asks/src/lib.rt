@@ -1,0 +1,16 @@
+//! What operators ask of the policy: its text, and that another is kept and put in force. Which
+//! policy tables have: that of the text that they keep.
+#![tactic(auto)]
+
+mod answer;
+mod ask;
+mod deciding;
+mod laws;
+mod saving;
+mod served;
+
+pub use answer::PolicyAnswer;
+pub use ask::PolicyAsk;
+pub use deciding::decide;
+pub use laws::{kept_texts_change_nothing, policy_decisions_are_sound, saved_policies_are_kept};
+pub use served::{policy_in, served_policy};

@@ -1,0 +1,7 @@
+//! Tests of whole runs of `pipe` in which policies are saved, opened and in force.
+#![tactic(auto)]
+
+#[cfg(test)]
+mod filters;
+#[cfg(test)]
+mod policies;

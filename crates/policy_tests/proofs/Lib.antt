@@ -1,0 +1,6 @@
+pub mod AcceptLemmas
+pub mod CoreLemmas
+pub mod DenyLemmas
+pub mod FailureLemmas
+pub mod LoopLemmas
+pub mod PhantomLemmas

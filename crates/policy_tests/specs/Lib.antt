@@ -1,0 +1,4 @@
+pub mod Lasting
+pub mod TestEnds
+pub mod Tests
+pub mod Trials

@@ -1,0 +1,5 @@
+pub mod Approvals
+pub mod Exits
+pub mod Owners
+pub mod Serving
+pub mod Tailnets

@@ -1,0 +1,4 @@
+pub mod PartLemmas
+pub mod NodeLemmas
+pub mod FilterLemmas
+pub mod DnsLemmas

@@ -1,0 +1,15 @@
+use Rattle.std.proofs.Common.{rules, ap, ◌∙◌, sym, Some, ◌∷◌}
+use Rattle.atomic_table.specs.Table.{rest}
+use Rattle.session_hub.specs.Plays.{ticket_of}
+use Rattle.session_hub.proofs.TurnSteps.{serves}
+use Rattle.session_hub.proofs.hub.Hub.take_desk.Goals as goal
+
+pub load-served-requires : goal.load-served-requires
+load-served-requires g c = (search rules, search rules, serves _ _ _ _ _ c.args.ticket (search rules))
+
+pub exchange-requires : goal.exchange-requires
+exchange-requires g c =
+    let stage = ap (λ m. m.0.stage) c.loop.invariant.2 ∙ c.requires.waits in
+    let gets = c.load-served.ensures.2.0 (search rules ∙ sym (ap ticket_of stage)) in
+    let held = ap (λ m. m.1) gets.after_is in
+    (search rules, (Some gets.desk, held ∙ ap (λ z. (0, Some gets.desk) ∷ rest z) (sym held)))

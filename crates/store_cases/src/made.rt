@@ -1,0 +1,34 @@
+//! Databases that tests make.
+use keeper_sqlite::SqliteKeeper;
+use net_rows::Tables;
+use row_keeper::{Keeper, LoadFault};
+use sqlite::{Connection, MemStore};
+use std::alloc::Global;
+use std::test::Fail;
+
+/// A database in memory that has the tables, and no row but that of the counters.
+pub(crate) fn made(alloc: Global) -> Result<Connection<MemStore>, Fail> {
+    let mut keeper = SqliteKeeper::adopt(Connection::open_in_memory(alloc)?);
+    match keeper.load(alloc) {
+        Ok(_) => Ok(keeper.give_back()),
+        Err(_) => Err(Fail::from("an empty database isn't loaded")),
+    }
+}
+
+/// Runs these statements, one behind the other.
+pub(crate) fn run(conn: &mut Connection<MemStore>, statements: &str) -> Result<(), Fail> {
+    match conn.execute_batch(statements) {
+        Ok(()) => Ok(()),
+        Err(_) => Err(Fail::from("a statement failed")),
+    }
+}
+
+/// What is loaded of a database after these statements.
+pub(crate) fn loaded_after(
+    alloc: Global,
+    statements: &str,
+) -> Result<Result<Tables, LoadFault>, Fail> {
+    let mut conn = made(alloc)?;
+    run(&mut conn, statements)?;
+    Ok(SqliteKeeper::adopt(conn).load(alloc))
+}

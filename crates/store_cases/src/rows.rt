@@ -1,0 +1,209 @@
+//! Rows of every kind, written and read again.
+use crate::made::{made, run};
+use io_edge::EdgeFault;
+use keeper_sqlite::SqliteKeeper;
+use net_rows::{Change, Counters, Row, RowKey, Tables};
+use row_keeper::Keeper;
+use sqlite::{Connection, MemStore};
+use std::alloc::Global;
+use std::test::Fail;
+use tail_base::{Duplicate, Items, NoMemory};
+
+/// A row of each kind, by SQL alone.
+const ROWS: &str = "
+    UPDATE meta SET next_user = 2, next_key = 3, next_pending = 4, next_machine = 5;
+    INSERT INTO users VALUES (1, 'ann@');
+    INSERT INTO auth_keys VALUES (2, 'k2', 1, 1, 0, 1, 1000000000, 'tag:web,tag:db');
+    INSERT INTO pending VALUES (3, 'reg-3-ab',
+        x'1111111111111111111111111111111111111111111111111111111111111111',
+        x'2222222222222222222222222222222222222222222222222222222222222222',
+        'a host', '10.0.0.0/8,192.168.0.0/16', 'tag:ci', 0, NULL, 1000000000);
+    INSERT INTO machines VALUES (4, 1,
+        x'3333333333333333333333333333333333333333333333333333333333333333',
+        x'4444444444444444444444444444444444444444444444444444444444444444',
+        x'5555555555555555555555555555555555555555555555555555555555555555',
+        'Ann''s laptop', 'laptop', 1681915905, x'fd7a115ca1e000000000000000000001',
+        '192.0.2.1:41641,[2001:db8::1]:41641', 3, '10.1.0.0/16', '', 'tag:web', 1, NULL, 1000000001);
+    INSERT INTO extras VALUES (1, 'nas.example', '100.64.0.9'), (2, 'nas.example', 'fd7a::9');
+    INSERT INTO policy VALUES (1, '{}');
+";
+
+/// A query for each of the tables.
+const TABLES: &str = "SELECT * FROM meta
+SELECT * FROM users
+SELECT * FROM auth_keys
+SELECT * FROM pending
+SELECT * FROM machines
+SELECT * FROM extras
+SELECT * FROM policy";
+
+/// Adds what puts the rows of these tables with ids.
+fn put_rows(alloc: Global, puts: &mut Items<Row>, tables: &Tables) -> Result<(), NoMemory> {
+    for user in tables.users() {
+        puts.push(Row::User(user.copy(alloc)?))?;
+    }
+    for key in tables.keys() {
+        puts.push(Row::Key(key.copy(alloc)?))?;
+    }
+    for entry in tables.pending() {
+        puts.push(Row::Pending(entry.copy(alloc)?))?;
+    }
+    for machine in tables.machines() {
+        puts.push(Row::Machine(machine.copy(alloc)?))?;
+    }
+    Ok(())
+}
+
+/// The change that makes these tables of empty ones.
+fn change_to(alloc: Global, tables: &Tables) -> Result<Change, NoMemory> {
+    let mut puts = Items::new(alloc);
+    put_rows(alloc, &mut puts, tables)?;
+    puts.push(Row::Extras(Items::from_slice(alloc, tables.extras())?))?;
+    if let Some(text) = tables.policy() {
+        puts.push(Row::Policy(text.copy(alloc)?))?;
+    }
+    Ok(Change {
+        puts,
+        gone: Items::new(alloc),
+        next: tables.next(),
+    })
+}
+
+/// The rows of a table as a text.
+fn shown(alloc: Global, conn: &mut Connection<MemStore>, text: &str) -> Result<String, Fail> {
+    match conn.query_all(text, &[]) {
+        Ok(rows) => Ok(format!(in alloc; "{:?}", rows.as_slice())?),
+        Err(_) => Err(Fail::from("a query failed")),
+    }
+}
+
+fn load(alloc: Global, keeper: &mut SqliteKeeper<MemStore>) -> Result<Tables, Fail> {
+    match keeper.load(alloc) {
+        Ok(tables) => Ok(tables),
+        Err(_) => Err(Fail::from("the rows aren't loaded")),
+    }
+}
+
+fn commit(alloc: Global, keeper: &mut SqliteKeeper<MemStore>, change: &Change) -> Result<(), Fail> {
+    match keeper.commit(alloc, change) {
+        Ok(()) => Ok(()),
+        Err(_) => Err(Fail::from("the change isn't kept")),
+    }
+}
+
+/// A database with these rows.
+fn with_rows(alloc: Global) -> Result<Connection<MemStore>, Fail> {
+    let mut conn = made(alloc)?;
+    run(&mut conn, ROWS)?;
+    Ok(conn)
+}
+
+/// Adds the rows of each table as a line.
+fn add_shown(alloc: Global, out: &mut String, conn: &mut Connection<MemStore>) -> Result<(), Fail> {
+    for table in TABLES.lines() {
+        let rows = shown(alloc, conn, table)?;
+        out.push_str(rows.as_str())?;
+        out.push_str("\n")?;
+    }
+    Ok(())
+}
+
+/// The tables of a database as a text.
+fn text_of(alloc: Global, mut conn: Connection<MemStore>) -> Result<String, Fail> {
+    let mut out = String::new(alloc);
+    add_shown(alloc, &mut out, &mut conn)?;
+    Ok(out)
+}
+
+fn first_text(alloc: Global) -> Result<String, Fail> {
+    let conn = with_rows(alloc)?;
+    text_of(alloc, conn)
+}
+
+/// The change that makes these rows of none.
+fn whole_change(alloc: Global) -> Result<Change, Fail> {
+    let mut keeper = SqliteKeeper::adopt(with_rows(alloc)?);
+    let tables = load(alloc, &mut keeper)?;
+    Ok(change_to(alloc, &tables)?)
+}
+
+/// A database to which the change was committed, twice, so that each row is added and then replaced.
+fn copied(alloc: Global, change: &Change) -> Result<Connection<MemStore>, Fail> {
+    let mut keeper = SqliteKeeper::adopt(made(alloc)?);
+    load(alloc, &mut keeper)?;
+    commit(alloc, &mut keeper, change)?;
+    commit(alloc, &mut keeper, change)?;
+    Ok(keeper.give_back())
+}
+
+fn copied_text(alloc: Global) -> Result<String, Fail> {
+    let change = whole_change(alloc)?;
+    let conn = copied(alloc, &change)?;
+    text_of(alloc, conn)
+}
+
+#[test]
+fn what_is_read_is_written_the_same(rt: HostRuntime) -> Result<(), Fail> {
+    let first = first_text(rt.alloc())?;
+    let copied = copied_text(rt.alloc())?;
+    assert_eq!(rt; copied.as_str(), first.as_str());
+    Ok(())
+}
+
+/// The change that removes the key, the waiting machine and the machine.
+fn removal(alloc: Global, next: Counters) -> Result<Change, NoMemory> {
+    let mut gone = Items::new(alloc);
+    gone.push(RowKey::Key(2))?;
+    gone.push(RowKey::Pending(3))?;
+    gone.push(RowKey::Machine(4))?;
+    let puts = Items::new(alloc);
+    Ok(Change { puts, gone, next })
+}
+
+/// How many users, keys, waiting machines and machines there are.
+fn counts(tables: &Tables) -> [usize; 4] {
+    [
+        tables.users().len(),
+        tables.keys().len(),
+        tables.pending().len(),
+        tables.machines().len(),
+    ]
+}
+
+/// Loads, and counts the rows.
+fn counted(alloc: Global, keeper: &mut SqliteKeeper<MemStore>) -> Result<[usize; 4], Fail> {
+    let tables = load(alloc, keeper)?;
+    Ok(counts(&tables))
+}
+
+/// The counts before and after the removal.
+fn counts_around_the_removal(alloc: Global) -> Result<([usize; 4], [usize; 4]), Fail> {
+    let mut keeper = SqliteKeeper::adopt(with_rows(alloc)?);
+    let tables = load(alloc, &mut keeper)?;
+    let change = removal(alloc, tables.next())?;
+    commit(alloc, &mut keeper, &change)?;
+    let after = counted(alloc, &mut keeper)?;
+    Ok((counts(&tables), after))
+}
+
+#[test]
+fn gone_rows_go(rt: HostRuntime) -> Result<(), Fail> {
+    let (before, after) = counts_around_the_removal(rt.alloc())?;
+    assert!(rt; before == [1, 1, 1, 1]);
+    assert!(rt; after == [1, 0, 0, 0]);
+    Ok(())
+}
+
+/// What a change before any load comes to.
+fn early_commit(alloc: Global) -> Result<Result<(), EdgeFault>, Fail> {
+    let mut keeper = SqliteKeeper::adopt(with_rows(alloc)?);
+    let change = removal(alloc, Tables::empty(alloc).next())?;
+    Ok(keeper.commit(alloc, &change))
+}
+
+#[test]
+fn a_change_before_a_load_fails(rt: HostRuntime) -> Result<(), Fail> {
+    let kept = early_commit(rt.alloc())?;
+    assert!(rt; kept == Err(EdgeFault::Failed));
+    Ok(())
+}

@@ -1,0 +1,19 @@
+//! Tests of whole runs of `pipe`: conversations, byte for byte, over memory objects.
+#![tactic(auto)]
+
+#[cfg(test)]
+mod edges;
+#[cfg(test)]
+mod faults;
+#[cfg(test)]
+mod limits;
+#[cfg(test)]
+mod lives;
+#[cfg(test)]
+mod refusals;
+#[cfg(test)]
+mod registrations;
+#[cfg(test)]
+mod rows;
+#[cfg(test)]
+mod settings_refused;

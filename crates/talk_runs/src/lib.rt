@@ -1,0 +1,8 @@
+//! Runs of `pipe` over memory objects, and conversations as lines of a text, for tests.
+#![tactic(auto)]
+
+mod runs;
+mod talks;
+
+pub use runs::{CALM, PipeRun, Plan, SETTINGS, piped, piped_at, piped_over, tables_with};
+pub use talks::{cut, first_not_held};

@@ -1,0 +1,246 @@
+//! Conversations as lines of a text, and whether `pipe` holds them so.
+//!
+//! `= name` begins a conversation. Before its first request may stand `: key = value`, a line more in its settings,
+//! `@ 1 2 3`, the clock's answers, `! keep 4` or `! word 1`, the call of the keeper or of the random source that
+//! fails, and `~ TEXT`, the policy that the tables keep, and nothing else. Then `> METHOD PATH CALLER BODY` is a request and `< STATUS BODY` an answer.
+//!
+//! A caller is `Bearer/TOKEN`, a machine key, or `-` for none. `%x` stands for 64 times `x` and `^` for a line feed, a
+//! request's body `*7` for a length without a body, an answer's body `#…` for a framed one, and `< registered` for the
+//! answer to a registration of the seed's user.
+use crate::runs::{CALM, Plan, SETTINGS, piped_at, tables_with};
+use io_edge::MemoryClock;
+use net_rows::Tables;
+use run_ends::Status;
+use std::alloc::Global;
+use tail_base::{Items, NoMemory};
+
+/// What the program is given, and what it has to answer.
+#[derive(Drop)]
+struct Talk {
+    settings: Vec<u8>,
+    moments: Items<i64>,
+    plan: Plan,
+    tables: Tables,
+    input: Vec<u8>,
+    output: Vec<u8>,
+    /// Whether the last answer ends the connection.
+    early: bool,
+}
+
+/// The end of the answer to a registration of the seed's user.
+const REGISTERED: &str =
+    "200 {\"AuthURL\":\"\",\"Error\":\"\",\"Login\":{\"ID\":1,\"LoginName\":\"seed@\"},\"MachineAuthorized\":true,\"NodeKeyExpired\":false,\"User\":{\"DisplayName\":\"seed\",\"ID\":1}}";
+
+fn new_talk(alloc: Global) -> Result<Talk, NoMemory> {
+    Ok(Talk {
+        settings: Vec::from_slice(alloc, SETTINGS)?,
+        moments: Items::new(alloc),
+        plan: CALM,
+        tables: Tables::empty(alloc),
+        input: Vec::new(alloc),
+        output: Vec::new(alloc),
+        early: false,
+    })
+}
+
+/// What stands before the first space, and what stands behind it.
+pub fn cut(line: &str) -> (&str, &str) {
+    match line.split_once(" ") {
+        Some(parts) => parts,
+        None => (line, ""),
+    }
+}
+
+/// A text in which `%x` stands for 64 times `x`, and `^` for a line feed.
+fn wide(alloc: Global, text: &str) -> Result<Vec<u8>, NoMemory> {
+    let mut bytes = Vec::new(alloc);
+    let mut is_wide = false;
+    for byte in text.bytes() {
+        if is_wide {
+            for _digit in 0..64 {
+                bytes.push(byte)?;
+            }
+            is_wide = false;
+        } else if byte == b'%' {
+            is_wide = true;
+        } else if byte == b'^' {
+            bytes.push(b'\n')?;
+        } else {
+            bytes.push(byte)?;
+        }
+    }
+    Ok(bytes)
+}
+
+/// The field line of a caller.
+fn add_caller(alloc: Global, input: &mut Vec<u8>, caller: &str) -> Result<(), NoMemory> {
+    match caller.strip_prefix("Bearer/") {
+        Some(token) => {
+            input.extend_from_slice(b"Authorization: Bearer ")?;
+            input.extend_from_slice(token.as_bytes())?;
+        }
+        None if caller == "-" => return Ok(()),
+        None => {
+            input.extend_from_slice(b"Ts-Machine-Key: ")?;
+            input.extend_from_slice(&wide(alloc, caller)?)?;
+        }
+    }
+    input.extend_from_slice(b"\r\n")?;
+    Ok(())
+}
+
+fn add_length(alloc: Global, input: &mut Vec<u8>, length: &str) -> Result<(), NoMemory> {
+    let line = format!(in alloc; "Content-Length: {length}\r\n\r\n")?;
+    input.extend_from_slice(line.as_bytes())?;
+    Ok(())
+}
+
+/// The bytes of a request.
+fn add_request(alloc: Global, input: &mut Vec<u8>, line: &str) -> Result<(), NoMemory> {
+    let (method, rest) = cut(line);
+    let (path, rest) = cut(rest);
+    let (caller, body) = cut(rest);
+    let head = format!(in alloc; "{method} {path} HTTP/1.1\r\nHost: tail\r\n")?;
+    input.extend_from_slice(head.as_bytes())?;
+    add_caller(alloc, input, caller)?;
+    if let Some(length) = body.strip_prefix("*") {
+        return add_length(alloc, input, length);
+    }
+    if method != "POST" && method != "PUT" {
+        input.extend_from_slice(b"\r\n")?;
+        return Ok(());
+    }
+    let bytes = wide(alloc, body)?;
+    let length = format!(in alloc; "{}", bytes.len())?;
+    add_length(alloc, input, length.as_str())?;
+    input.extend_from_slice(&bytes)?;
+    Ok(())
+}
+
+/// The phrase of a status.
+fn phrase(status: &str) -> &'static str {
+    match status {
+        "200" => "OK",
+        "400" => "Bad Request",
+        "401" => "Unauthorized",
+        "403" => "Forbidden",
+        "404" => "Not Found",
+        "405" => "Method Not Allowed",
+        "409" => "Conflict",
+        "413" => "Payload Too Large",
+        "422" => "Unprocessable Entity",
+        "500" => "Internal Server Error",
+        "507" => "Insufficient Storage",
+        _ => "",
+    }
+}
+
+/// The body of an answer: framed, where it begins with `#`.
+fn answer_body(alloc: Global, text: &str) -> Result<Vec<u8>, NoMemory> {
+    match text.strip_prefix("#") {
+        None => wide(alloc, text),
+        Some(map) => {
+            let map = wide(alloc, map)?;
+            let Ok(length) = u32::try_from(map.len()) else {
+                return Err(NoMemory);
+            };
+            let mut bytes = Vec::from_slice(alloc, &length.to_le_bytes())?;
+            bytes.extend_from_slice(&map)?;
+            Ok(bytes)
+        }
+    }
+}
+
+/// The bytes of an answer, and whether it ends the connection.
+fn add_answer(alloc: Global, output: &mut Vec<u8>, line: &str) -> Result<bool, NoMemory> {
+    let (status, text) = cut(if line == "registered" {
+        REGISTERED
+    } else {
+        line
+    });
+    let body = answer_body(alloc, text)?;
+    let ends = status == "400" || status == "413";
+    let close = if ends { "Connection: close\r\n" } else { "" };
+    let head = format!(in alloc;
+        "HTTP/1.1 {status} {}\r\nContent-Type: application/json\r\nContent-Length: {}\r\n{close}\r\n",
+        phrase(status),
+        body.len()
+    )?;
+    output.extend_from_slice(head.as_bytes())?;
+    output.extend_from_slice(&body)?;
+    Ok(ends)
+}
+
+fn add_moments(moments: &mut Items<i64>, line: &str) -> Result<(), NoMemory> {
+    for word in line.split(" ") {
+        if let Ok(moment) = word.parse::<i64>() {
+            moments.push(moment)?;
+        }
+    }
+    Ok(())
+}
+
+/// A line of a conversation.
+fn add_line(alloc: Global, talk: &mut Talk, line: &str) -> Result<(), NoMemory> {
+    let (mark, rest) = cut(line);
+    match mark {
+        ":" => {
+            talk.settings.extend_from_slice(rest.as_bytes())?;
+            talk.settings.push(b'\n')?;
+        }
+        "@" => add_moments(&mut talk.moments, rest)?,
+        "!" => {
+            let _planned = talk.plan.fail(rest);
+        }
+        "~" => talk.tables = tables_with(alloc, rest)?,
+        ">" => add_request(alloc, &mut talk.input, rest)?,
+        _ => talk.early = add_answer(alloc, &mut talk.output, rest)?,
+    }
+    Ok(())
+}
+
+/// Whether `pipe tailnet.toml --seed k1` holds the conversation.
+fn is_held(alloc: Global, mut talk: Talk) -> Result<bool, NoMemory> {
+    if talk.moments.is_empty() {
+        talk.moments.push(1_000_000_000)?;
+    }
+    let clock = MemoryClock::new(talk.moments);
+    let ran = piped_at(
+        alloc,
+        clock,
+        talk.tables,
+        &talk.settings,
+        &talk.input,
+        &talk.plan,
+    )?;
+    let (status, line) = if talk.early {
+        (Status::Early, b"tailnetd: closed early\n".as_slice())
+    } else {
+        (Status::Ok, b"".as_slice())
+    };
+    Ok(
+        ran.status == status
+            && ran.errors.bytes() == line
+            && ran.output.bytes() == talk.output.as_slice(),
+    )
+}
+
+/// The name of the first conversation of the table that isn't held; None if all are.
+pub fn first_not_held(alloc: Global, table: &str) -> Result<Option<String>, NoMemory> {
+    let mut name = String::new(alloc);
+    let mut talk = new_talk(alloc)?;
+    for line in table.lines() {
+        match line.strip_prefix("= ") {
+            Some(next) => {
+                if !is_held(alloc, talk)? {
+                    return Ok(Some(name));
+                }
+                name = String::from_str(alloc, next)?;
+                talk = new_talk(alloc)?;
+            }
+            None => add_line(alloc, &mut talk, line)?,
+        }
+    }
+    let held = is_held(alloc, talk)?;
+    Ok(if held { None } else { Some(name) })
+}
