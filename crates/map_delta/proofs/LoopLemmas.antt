@@ -21,8 +21,8 @@ pub next_kept : {T : Type 0} (p : T → Bool) (xs : List T) (i : ℕ) (x : T) (d
 next_kept {T} p xs i x done new all less is put told =
     ap (λ (ys : List T). ys ++ filter p (drop (i + 1) xs)) put
     ∙ (append_assoc done (if p x then x ∷ [] else []) (filter p (drop (i + 1) xs))
-      ∙ (ap (λ (ys : List T). done ++ ys) (front_passes p x (drop (i + 1) xs))
-        ∙ (ap (λ (ys : List T). done ++ filter p ys) (sym (left_at xs i x less is)) ∙ told)))
+    ∙ (ap (λ (ys : List T). done ++ ys) (front_passes p x (drop (i + 1) xs))
+    ∙ (ap (λ (ys : List T). done ++ filter p ys) (sym (left_at xs i x less is)) ∙ told)))
 
 -- one more that is told of where it passes
 pub next_mapped : {T U : Type 0} (f : T → U) (p : T → Bool) (xs : List T) (i : ℕ) (x : T) (done new all : List U) → i < length xs → x ≡ get_or xs i x
@@ -30,5 +30,5 @@ pub next_mapped : {T U : Type 0} (f : T → U) (p : T → Bool) (xs : List T) (i
 next_mapped {T} {U} f p xs i x done new all less is put told =
     ap (λ (ys : List U). ys ++ map f (filter p (drop (i + 1) xs))) put
     ∙ (append_assoc done (if p x then f x ∷ [] else []) (map f (filter p (drop (i + 1) xs)))
-      ∙ (ap (λ (ys : List U). done ++ ys) (front_mapped f p x (drop (i + 1) xs))
-        ∙ (ap (λ (ys : List T). done ++ map f (filter p ys)) (sym (left_at xs i x less is)) ∙ told)))
+    ∙ (ap (λ (ys : List U). done ++ ys) (front_mapped f p x (drop (i + 1) xs))
+    ∙ (ap (λ (ys : List T). done ++ map f (filter p ys)) (sym (left_at xs i x less is)) ∙ told)))
