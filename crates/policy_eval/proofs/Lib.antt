@@ -1,9 +1,10 @@
+pub mod CoverLemmas
 pub mod EndLemmas
 pub mod FitLemmas
 pub mod FittingLemmas
 pub mod IdLemmas
 pub mod MatchLemmas
-pub mod NetLemmas
+pub mod OwnLemmas
 pub mod ReachLemmas
 pub mod SetLemmas
 pub mod SiteLemmas

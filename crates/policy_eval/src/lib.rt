@@ -2,12 +2,14 @@
 //! their rules cover.
 #![tactic(auto)]
 
+mod cover;
 mod covering;
+mod covers;
 mod end;
 mod expanded;
 mod fitting;
+mod flags;
 mod granting;
-mod group_nets;
 mod id_list;
 mod in_force;
 mod laws;
