@@ -22,7 +22,8 @@ use Rattle.policy_eval.specs.Reach.{AreSoundRules}
 use Rattle.policy_eval.specs.Sites.{is_among, site_of, sites_of}
 use Rattle.policy_eval.specs.declared.site.Site.{Site}
 use Rattle.policy_eval.proofs.SiteLemmas.{one_site}
-use Rattle.peer_view.specs.Reaches.{IsSoundSite, id_reaches, reaches, site_reaches, site_with}
+use Rattle.policy_eval.specs.ByRule.{IsSoundSite, site_reaches}
+use Rattle.peer_view.specs.Reaches.{id_reaches, reaches, site_with}
 use Rattle.peer_view.specs.Seen.{Node, live_node, node_reaches, node_with, of_ids, seen_of}
 use Rattle.peer_view.proofs.ListLemmas.{ascending_filter, ascending_map, filter_member, find_map, map_member, map_twice, mapped_member}
 use Rattle.peer_view.proofs.ReachLaws.{local_reach}

@@ -3,8 +3,8 @@ use Rattle.std.proofs.Common.{◌≡◌, ◌<◌, ◌&&◌, ◌||◌, ◌==◌, 
 use Rattle.std.specs.Prelude.{Contains, Option}
 use Rattle.std.specs.Bool.{beq}
 use Rattle.std.specs.List.{list_any}
-use Rattle.std.proofs.lemmas.Bool.{and_from, and_parts, eq-eqb, eqb-true, or_cases, or_left, or_right}
-use Rattle.tail_base.proofs.Bools.{beq-from, beq-true, same_tests}
+use Rattle.std.proofs.lemmas.Bool.{and_from, and_parts, eqb-true, or_cases, or_left, or_right}
+use Rattle.tail_base.proofs.Bools.{beq-true, same_tests}
 use Rattle.net_addr.specs.Bits.{Address, family_size}
 use Rattle.net_addr.proofs.SearchLemmas.{address_finds, address_found}
 use Rattle.net_rows.specs.Damage.{address_eq}
@@ -22,17 +22,16 @@ use Rattle.policy_eval.specs.Sites.{AreDistinct, serves, site_has}
 use Rattle.policy_eval.specs.declared.end.End.{End}
 use Rattle.policy_eval.specs.declared.site.Site.{Site}
 use Rattle.policy_eval.proofs.EndLemmas.{own_end}
+use Rattle.policy_eval.proofs.OwnLemmas.{has_v4, has_v6}
 use Rattle.policy_eval.proofs.ReachLemmas.{reach_is}
-use Rattle.peer_view.specs.Reaches.{IsSoundSite, covers_site, site_end, joins_own_by, site_addresses, reaches, sends, site_reaches, takes}
+use Rattle.policy_eval.specs.ByRule.{IsSoundSite, covers_site, site_end, joins_own_by, site_addresses, sends, site_reaches, takes}
+use Rattle.peer_view.specs.Reaches.{reaches}
 use Rattle.peer_view.proofs.AnyLemmas.{any_and, any_or, any_pair, any_same, either_and, either_or, or_none}
 
 address_of : (a b : Address) → address_eq a b ≡ true → a ≡ b
 address_of a b h =
     let p = and_parts (beq a.v6 b.v6) (a.bits == b.bits) h in
     ap (λ (x : Bool). record a { v6 = x }) (beq-true a.v6 b.v6 p.0) ∙ ap (λ (n : ℕ). record b { bits = n }) (eqb-true a.bits b.bits p.1)
-
-own_address : (a : Address) → address_eq a a ≡ true
-own_address a = and_from (beq a.v6 a.v6) (a.bits == a.bits) (beq-from a.v6 a.v6 refl) (eq-eqb a.bits a.bits refl)
 
 -- an address that a site has is one of its two
 own_two : (b : Site) (addr : Address) → site_has addr b ≡ true → (b.v4 ≡ addr) ⊎ (b.v6 ≡ addr)
@@ -41,12 +40,6 @@ own_two b addr h =
       | inl p ↦ inl (address_of b.v4 addr p)
       | inr q ↦ inr (address_of b.v6 addr q)
     ]
-
-has_v4 : (b : Site) → site_has b.v4 b ≡ true
-has_v4 b = or_left (address_eq b.v4 b.v4) (address_eq b.v6 b.v4) (own_address b.v4)
-
-has_v6 : (b : Site) → site_has b.v6 b ≡ true
-has_v6 b = or_right (address_eq b.v4 b.v6) (address_eq b.v6 b.v6) (own_address b.v6)
 
 -- the destination covers one of the machine's own ends
 abbrev covers_own : List Group → Site → End → Dest → Bool

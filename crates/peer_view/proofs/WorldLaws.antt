@@ -1,8 +1,8 @@
 -- What an expansion that fits lends.
-use Rattle.std.proofs.Common.{◌≡◌, ◌<◌, ◌≤◌, ◌==◌, ◌&&◌, ◌||◌, ℕ, Bool, true, false, not, List, arith, refl, ap, sym, ◌∙◌, subst}
-use Rattle.std.specs.Prelude.{Contains, Option, Some, None, filter}
+use Rattle.std.proofs.Common.{◌≡◌, ◌<◌, ◌≤◌, ◌==◌, ℕ, Bool, true, false, List, [], arith, refl, ap, sym, ◌∙◌, subst}
+use Rattle.std.specs.Prelude.{Contains, Option, Some, None, filter, slice_index_or}
 use Rattle.std.specs.List.{find}
-use Rattle.std.specs.Option.{option_map}
+use Rattle.std.specs.Option.{option_map, option_map_or}
 use Rattle.std.proofs.lemmas.Bool.{eqb-true}
 use Rattle.net_rows.specs.Damage.{damage}
 use Rattle.net_rows.specs.Rows.{machine_with}
@@ -10,7 +10,7 @@ use Rattle.net_rows.specs.declared.machine.Machine.{Machine}
 use Rattle.net_rows.proofs.Members.{find_member}
 use Rattle.net_rows.proofs.RowAt.{row_at_is}
 use Rattle.net_rows.proofs.Sounds.{sound_of}
-use Rattle.net_rows.specs.Shelf.{IsAscending}
+use Rattle.net_rows.specs.Shelf.{IsAscending, StandsAt}
 use Rattle.net_rows.specs.declared.rows.Rows.{Rows}
 use Rattle.settings.specs.declared.fields.SettingsFields.{SettingsFields}
 use Rattle.policy_rows.specs.declared.policy.Policy.{Policy}
@@ -21,12 +21,12 @@ use Rattle.policy_eval.specs.Grants.{groups_of, rules_of}
 use Rattle.policy_eval.specs.Reach.{AreSoundRules}
 use Rattle.policy_eval.specs.Sites.{is_among, is_listed, site_of, sites_of}
 use Rattle.policy_eval.specs.declared.site.Site.{Site}
-use Rattle.peer_view.specs.Reaches.{id_reaches, site_reaches, site_with}
-use Rattle.peer_view.specs.Seen.{IsSoundSeen, Node, Seen, expansion_seen, is_node, live_node, node_reaches, node_with, of_ids, seen_of, sees, sites_seen}
+use Rattle.policy_eval.specs.ByRule.{site_reaches}
+use Rattle.peer_view.specs.Reaches.{id_reaches, site_with}
+use Rattle.peer_view.specs.Seen.{IsSoundSeen, Node, Seen, expansion_seen, live_node, node_reaches, node_with, of_ids, seen_of, sites_seen}
 use Rattle.peer_view.specs.Worlds.{IsWorld}
 use Rattle.peer_view.proofs.ListLemmas.{ascending_filter, ascending_map, filter_member, find_map, map_twice, mapped_member}
 use Rattle.peer_view.proofs.LiveLaws.{pair_is, sites_ascend}
-use Rattle.peer_view.proofs.SightLaws.{sight_rules}
 
 pub world_ascends : (made : Expansion) (policy : Option Policy) (rows : Rows) (live : List ℕ) (sites : List Site) → IsWorld made policy rows live → sites ≡ made.sites
     → IsAscending (λ (s : Site). s.id) sites
@@ -156,30 +156,15 @@ site_looked_up settings policy rows live online made w world seen sites is k o l
     let whole = world_sites settings policy rows live online made w world seen sites is in
     (subst (λ (ss : List Site). Contains ss s) whole at.0, eqb-true s.id k at.1)
 
--- ---- sight
+-- ---- by places
 
-pub sees_none_of_itself : (w : Seen) (m p : Node) → (m.row.id == p.row.id) ≡ true → false ≡ sees w m p
-sees_none_of_itself w m p same = rw same (go (is_node w m) (is_node w p))
-  where
-    go : (a b : Bool) → false ≡ (a && b && not true && (node_reaches w m p || node_reaches w p m))
-    go true true = refl
-    go true false = refl
-    go false b = refl
+pub any_site : Site
+any_site = record { id = 0; user = 0; login = []; v4 = record { v6 = false; bits = 0 }; v6 = record { v6 = true; bits = 0 }; tags = [] }
 
-pub world_sight : (settings : SettingsFields) (policy : Option Policy) (rows : Rows) (live online : List ℕ) (made : Expansion) (w : Seen) → IsWorld made policy rows live
-    → seen_of settings policy rows live online ≡ w → AreSoundRules made.rules
-    → (groups : List Group) (rules : List Rule) → groups ≡ made.groups → rules ≡ made.rules
-    → (m p : Node) → Contains w.nodes m → Contains w.nodes p → (m.row.id == p.row.id) ≡ false
-    → (result : Bool) → result ≡ (site_reaches groups rules m.site p.site || site_reaches groups rules p.site m.site) → result ≡ sees w m p
-world_sight settings policy rows live online made w world seen sound groups rules gs rs m p inside other apart result is =
-    let g : groups ≡ groups_of policy = gs ∙ ap (λ (x : Expansion). x.groups) world.fits in
-    let r : rules ≡ rules_of policy = rs ∙ ap (λ (x : Expansion). x.rules) world.fits in
-    let sound' : AreSoundRules (rules_of policy) = subst (λ (x : Expansion). AreSoundRules x.rules) world.fits sound in
-    let here = subst (λ (x : Seen). Contains x.nodes m) (sym seen) inside in
-    let there = subst (λ (x : Seen). Contains x.nodes p) (sym seen) other in
-    let law = sight_rules settings policy rows live online m p sound' world.sound here there in
-    let moved : (site_reaches groups rules m.site p.site || site_reaches groups rules p.site m.site) ≡ (site_reaches (groups_of policy) (rules_of policy) m.site p.site || site_reaches (groups_of policy) (rules_of policy) p.site m.site)
-    = λ i. site_reaches (g i) (r i) m.site p.site || site_reaches (g i) (r i) p.site m.site in
-    let front : (not (m.row.id == p.row.id) && (site_reaches (groups_of policy) (rules_of policy) m.site p.site || site_reaches (groups_of policy) (rules_of policy) p.site m.site)) ≡ (site_reaches (groups_of policy) (rules_of policy) m.site p.site || site_reaches (groups_of policy) (rules_of policy) p.site m.site)
-    = rw apart refl in
-    is ∙ (moved ∙ (sym front ∙ (sym law ∙ ap (λ (x : Seen). sees x m p) seen)))
+-- what stands at the places of two ids
+pub places_reach : (groups : List Group) (rules : List Rule) (sites slice : List Site) (a b i j : ℕ) → slice ≡ sites → StandsAt (λ (s : Site). s.id) slice a i → StandsAt (λ (s : Site). s.id) slice b j
+    → site_reaches groups rules (slice_index_or sites i any_site) (slice_index_or sites j any_site) ≡ id_reaches groups rules sites a b
+places_reach groups rules sites slice a b i j same at to =
+    let one : site_with sites a ≡ Some (slice_index_or sites i any_site) = subst (λ (ss : List Site). site_with ss a ≡ Some (slice_index_or ss i any_site)) same (at.is any_site) in
+    let other : site_with sites b ≡ Some (slice_index_or sites j any_site) = subst (λ (ss : List Site). site_with ss b ≡ Some (slice_index_or ss j any_site)) same (to.is any_site) in
+    λ k. option_map_or (λ x. option_map_or (site_reaches groups rules x) (sym other k) false) (sym one k) false

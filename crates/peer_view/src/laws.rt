@@ -9,7 +9,8 @@ ghost use Rattle.policy_eval.specs.Sites.{AreDistinct, sites_of};
 ghost use Rattle.policy_eval.specs.declared.site.Site.{Site};
 ghost use Rattle.settings.specs.declared.fields.SettingsFields.{SettingsFields};
 ghost use Rattle.peer_view.specs.Seen.{Node, Seen, node_reaches, seen_of, sees};
-ghost use Rattle.peer_view.specs.Reaches.{IsSoundSite, reaches, site_reaches};
+ghost use Rattle.policy_eval.specs.ByRule.{IsSoundSite, site_reaches};
+ghost use Rattle.peer_view.specs.Reaches.{reaches};
 
 /// Whether a machine reaches another one depends on the rules and the two machines alone, whatever
 /// other machines there are.
