@@ -2,6 +2,8 @@ pub mod EndLemmas
 pub mod FitLemmas
 pub mod FittingLemmas
 pub mod IdLemmas
+pub mod InternetLemmas
+pub mod IntoLemmas
 pub mod MatchLemmas
 pub mod NetLemmas
 pub mod ReachLemmas

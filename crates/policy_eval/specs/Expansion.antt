@@ -12,7 +12,7 @@ use Rattle.policy_eval.specs.Covers.{covers, names_holder}
 use Rattle.policy_eval.specs.Ends.{end_at, holder_of}
 use Rattle.policy_eval.specs.Grants.{groups_of, rules_of, some_source}
 use Rattle.policy_eval.specs.Reach.{AreSoundRules}
-use Rattle.policy_eval.specs.Sites.{AreDistinct, site_has, sites_of}
+use Rattle.policy_eval.specs.Sites.{AreApart, AreDistinct, site_has, sites_of}
 use Rattle.policy_eval.specs.declared.rule_sets.RuleSets.{RuleSets}
 use Rattle.policy_eval.specs.declared.site.Site.{Site}
 
@@ -27,7 +27,7 @@ abbrev pub expansion_of : Option Policy → Rows → List ℕ → Expansion
 expansion_of policy rows live = record {
   groups = groups_of policy;
   rules = rules_of policy;
-  sites = sites_of rows live;
+  sites = sites_of policy rows live;
 }
 
 -- of the addresses that there are, the set has those that pass the test
@@ -65,5 +65,6 @@ pub record RuleFits (groups : List Group) (sites : List Site) (r : Rule) (sets :
 -- the sets are those of the rules, place by place
 pub record SetsFit (x : Expansion) (sets : List RuleSets) : Type 0 where
   pub distinct : AreDistinct x.sites
+  pub apart : AreApart x.sites
   pub sound : AreSoundRules x.rules
   pub matched : AreMatched (RuleFits x.groups x.sites) x.rules sets

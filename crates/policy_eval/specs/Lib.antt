@@ -5,4 +5,5 @@ pub mod Fitting
 pub mod Grants
 pub mod Named
 pub mod Reach
+pub mod SiteRules
 pub mod Sites

@@ -6,7 +6,7 @@ ghost use Rattle.policy_rows.specs.declared.rule.Rule.{Rule};
 ghost use Rattle.policy_eval.specs.Expansion.{Expansion, IsSetOf, entry_covers, expansion_of, source_covers};
 ghost use Rattle.policy_eval.specs.Grants.{some_rule_grants};
 ghost use Rattle.policy_eval.specs.Reach.{AreSoundRules};
-ghost use Rattle.policy_eval.specs.Sites.{AreDistinct};
+ghost use Rattle.policy_eval.specs.Sites.{AreApart, AreDistinct};
 
 use crate::end::End;
 use crate::granting::some_rule_grants;
@@ -54,7 +54,7 @@ impl Expanded {
     {
         let groups = groups_of(alloc, policy)?;
         let rules = rules_of(alloc, policy)?;
-        let sites = sites_of(alloc, tables, live)?;
+        let sites = sites_of(alloc, policy, tables, live)?;
         look_at_rules(rules.as_slice());
         let sets = sets_of_rules(alloc, groups.as_slice(), sites.as_slice(), rules.as_slice())?;
         Ok(Expanded {
@@ -84,6 +84,7 @@ impl Expanded {
     pub fn sites(&self) -> &[Site]
         ensures value { result.now ≡ self.now.sites }
         ensures distinct { AreDistinct self.now.sites }
+        ensures apart { AreApart self.now.sites }
     {
         self.sites.as_slice()
     }

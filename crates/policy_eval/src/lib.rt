@@ -15,6 +15,8 @@ mod listing;
 mod rule_sets;
 mod rules;
 mod site;
+mod site_rules;
+mod touching;
 
 pub use covering::is_own_devices;
 pub use end::{End, Holder};
@@ -23,3 +25,5 @@ pub use id_list::IdList;
 pub use in_force::InForce;
 pub use laws::{a_reach_is_by_rules, an_address_has_one_site};
 pub use site::{Site, are_own, sites_of};
+pub use site_rules::{sends, takes};
+pub use touching::{covers_internet, covers_route};
