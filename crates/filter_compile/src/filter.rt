@@ -129,7 +129,7 @@ pub fn filter_for(
     ensures exact { IfOk result (AdmitsGranted expanded.now machine.now) }
 {
     let rules = expanded.rules();
-    // For what it promises, that an address has at most one site.
+    // For what it promises, that an address has at most one site, and none where it is a route's.
     let _sites = expanded.sites();
     let mut out = Items::new(alloc);
     for (at, rule) in rules.iter().enumerate() {
