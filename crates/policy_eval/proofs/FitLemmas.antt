@@ -1,46 +1,106 @@
--- The sets that are kept of a rule are its own.
-use Rattle.std.proofs.Common.{◌≡◌, ◌<◌, ℕ, List, length, arith, sym, subst}
-use Rattle.std.specs.Prelude.{slice_index_or}
-use Rattle.range_sets.specs.Sets.{Ranges}
+-- What is kept of a rule is its own.
+use Rattle.std.proofs.Common.{◌≡◌, ◌<◌, ◌&&◌, ◌||◌, ℕ, Bool, false, List, [], ◌∷◌, ◌++◌, ◌+◌, length, arith, get_or, take, ap, sym, ◌∙◌, subst}
+use Rattle.std.specs.Prelude.{Option, slice_index_or}
+use Rattle.std.specs.List.{list_any}
+use Rattle.std.specs.Option.{option_map_or}
 use Rattle.policy_rows.specs.declared.dest.Dest.{Dest}
 use Rattle.policy_rows.specs.declared.group.Group.{Group}
 use Rattle.policy_rows.specs.declared.rule.Rule.{Rule}
-use Rattle.policy_eval.specs.Expansion.{AreMatched, EntryFits, Expansion, RuleFits, SetsFit}
+use Rattle.policy_eval.specs.ByRule.{lets_through, sends, site_reaches, takes}
+use Rattle.policy_eval.specs.Covering.{Covering, IsGrown, flag_at, sets_let}
+use Rattle.policy_eval.specs.Covers.{is_own}
+use Rattle.policy_eval.specs.Ends.{holder_of}
+use Rattle.policy_eval.specs.Expansion.{AreFlags, AreMatched, Expansion, IsCoverAt, IsEntryAt, RuleFits, SetsFit}
+use Rattle.policy_eval.specs.declared.cover.Cover.{Cover}
 use Rattle.policy_eval.specs.declared.rule_sets.RuleSets.{RuleSets}
 use Rattle.policy_eval.specs.declared.site.Site.{Site}
-use Rattle.policy_eval.proofs.MatchLemmas.{matched_at, matched_length}
+use Rattle.policy_eval.proofs.CoverLemmas.{get_of, grown_twice, matched_any, matched_weaker, places_kept}
+use Rattle.policy_eval.proofs.MatchLemmas.{matched_at, matched_length, matched_more}
 
-pub rule_inside : (x : Expansion) (sets : List RuleSets) (i : ℕ) → SetsFit x sets → i < length x.rules → i < length sets
-rule_inside x sets i fit lt = let same = matched_length (RuleFits x.groups x.sites) x.rules sets fit.matched in omega arith
+pub rule_kept : (x y : Covering) (r : Rule) (sets : RuleSets) → IsGrown x y → RuleFits x.groups x.sites x.list r sets → RuleFits y.groups y.sites y.list r sets
+rule_kept x y r sets grown h =
+    let moved : RuleFits y.groups y.sites x.list r sets = subst (λ (gs : List Group). RuleFits gs y.sites x.list r sets) (sym grown.groups)
+    (subst (λ (ss : List Site). RuleFits x.groups ss x.list r sets) (sym grown.sites) h) in
+    record { sources = moved.sources; dests = places_kept (λ (e : Dest). e.to) x y r.dests sets.dests grown h.dests; sends = moved.sends; takes = moved.takes; owns = moved.owns }
+
+pub rule_inside : (x : Expansion) (list : List Cover) (sets : List RuleSets) (i : ℕ) → SetsFit x list sets → i < length x.rules → i < length sets
+rule_inside x list sets i fit lt = let same = matched_length (RuleFits x.groups x.sites list) x.rules sets fit.matched in omega arith
 
 -- what stands there fits the rule
-pub rule_fits : (x : Expansion) (sets : List RuleSets) (i : ℕ) (got : RuleSets) → SetsFit x sets → i < length x.rules → ((d : RuleSets) → got ≡ slice_index_or sets i d)
-    → (d : Rule) → RuleFits x.groups x.sites (slice_index_or x.rules i d) got
-rule_fits x sets i got fit lt is d =
-    subst (λ (s : RuleSets). RuleFits x.groups x.sites (slice_index_or x.rules i d) s) (sym (is got)) (matched_at (RuleFits x.groups x.sites) x.rules sets fit.matched i d got lt)
+pub rule_fits : (x : Expansion) (list : List Cover) (sets : List RuleSets) (i : ℕ) (got : RuleSets) → SetsFit x list sets → i < length x.rules → ((d : RuleSets) → got ≡ slice_index_or sets i d)
+    → (d : Rule) → RuleFits x.groups x.sites list (slice_index_or x.rules i d) got
+rule_fits x list sets i got fit lt is d =
+    subst (λ (s : RuleSets). RuleFits x.groups x.sites list (slice_index_or x.rules i d) s) (sym (is got)) (matched_at (RuleFits x.groups x.sites list) x.rules sets fit.matched i d got lt)
 
-pub entry_inside : (x : Expansion) (sets : List RuleSets) (i : ℕ) (got : RuleSets) (j : ℕ) (d : Rule) → SetsFit x sets → i < length x.rules → ((e : RuleSets) → got ≡ slice_index_or sets i e)
+pub entry_inside : (x : Expansion) (list : List Cover) (sets : List RuleSets) (i : ℕ) (got : RuleSets) (j : ℕ) (d : Rule) → SetsFit x list sets → i < length x.rules → ((e : RuleSets) → got ≡ slice_index_or sets i e)
     → j < length (slice_index_or x.rules i d).dests → j < length got.dests
-entry_inside x sets i got j d fit lt is inside =
-    let fits = rule_fits x sets i got fit lt is d in
-    let same = matched_length (EntryFits x.groups x.sites) (slice_index_or x.rules i d).dests got.dests fits.dests in
+entry_inside x list sets i got j d fit lt is inside =
+    let fits = rule_fits x list sets i got fit lt is d in
+    let same = matched_length (IsEntryAt x.groups x.sites list) (slice_index_or x.rules i d).dests got.dests fits.dests in
     omega arith
 
-pub entry_fits : (x : Expansion) (sets : List RuleSets) (i : ℕ) (got : RuleSets) (j : ℕ) (set : Ranges) → SetsFit x sets → i < length x.rules → ((e : RuleSets) → got ≡ slice_index_or sets i e)
-    → ((d : Rule) → j < length (slice_index_or x.rules i d).dests) → ((s : Ranges) → set ≡ slice_index_or got.dests j s)
-    → (d : Rule) (e : Dest) → EntryFits x.groups x.sites (slice_index_or (slice_index_or x.rules i d).dests j e) set
-entry_fits x sets i got j set fit lt is inside at d e =
-    let fits = rule_fits x sets i got fit lt is d in
+-- what the destination covers stands at its place
+pub entry_at : (x : Expansion) (list : List Cover) (sets : List RuleSets) (i : ℕ) (got : RuleSets) (j place : ℕ) → SetsFit x list sets → i < length x.rules → ((e : RuleSets) → got ≡ slice_index_or sets i e)
+    → place ≡ slice_index_or got.dests j 0 → (d : Rule) (e : Dest) → j < length (slice_index_or x.rules i d).dests
+    → IsCoverAt x.groups x.sites list (slice_index_or (slice_index_or x.rules i d).dests j e).to place
+entry_at x list sets i got j place fit lt is at d e inside =
+    let fits = rule_fits x list sets i got fit lt is d in
     let r = slice_index_or x.rules i d in
-    subst (λ (s : Ranges). EntryFits x.groups x.sites (slice_index_or r.dests j e) s) (sym (at set)) (matched_at (EntryFits x.groups x.sites) r.dests got.dests fits.dests j e set (inside d))
+    subst (λ (p : ℕ). IsEntryAt x.groups x.sites list (slice_index_or r.dests j e) p) (sym at) (matched_at (IsEntryAt x.groups x.sites list) r.dests got.dests fits.dests j e 0 inside)
+
+-- a flag at a place
+flag_is : (test : Site → Bool) (sites : List Site) (flags : List Bool) (at : ℕ) (s : Site) → AreFlags test sites flags → at < length sites → test (slice_index_or sites at s) ≡ flag_at flags at
+flag_is test sites flags at s h lt =
+    sym (ap (λ (o : Option Bool). option_map_or (λ b. b) o false) (h at (slice_index_or sites at s) (get_of sites at s lt)))
+
+pub sends_is : (x : Expansion) (list : List Cover) (sets : List RuleSets) (i at : ℕ) (got : RuleSets) → SetsFit x list sets → i < length x.rules → at < length x.sites → ((d : RuleSets) → got ≡ slice_index_or sets i d)
+    → (r : Rule) (s : Site) → flag_at got.sends at ≡ sends x.groups (slice_index_or x.rules i r) (slice_index_or x.sites at s)
+sends_is x list sets i at got fit lt inside is r s =
+    let fits = rule_fits x list sets i got fit lt is r in
+    sym (flag_is (sends x.groups (slice_index_or x.rules i r)) x.sites got.sends at s fits.sends inside)
+
+pub takes_is : (x : Expansion) (list : List Cover) (sets : List RuleSets) (i at : ℕ) (got : RuleSets) → SetsFit x list sets → i < length x.rules → at < length x.sites → ((d : RuleSets) → got ≡ slice_index_or sets i d)
+    → (r : Rule) (s : Site) → flag_at got.takes at ≡ takes x.groups (slice_index_or x.rules i r) (slice_index_or x.sites at s)
+takes_is x list sets i at got fit lt inside is r s =
+    let fits = rule_fits x list sets i got fit lt is r in
+    sym (flag_is (takes x.groups (slice_index_or x.rules i r)) x.sites got.takes at s fits.takes inside)
+
+-- a search of what is known of the rules is one of the rules
+pub reach_by_flags : (x : Expansion) (list : List Cover) (sets : List RuleSets) (a b : ℕ) (own : Bool) (s : Site) → SetsFit x list sets → a < length x.sites → b < length x.sites
+    → own ≡ is_own (holder_of (slice_index_or x.sites a s)) (holder_of (slice_index_or x.sites b s))
+    → list_any (sets_let a b own) sets ≡ site_reaches x.groups x.rules (slice_index_or x.sites a s) (slice_index_or x.sites b s)
+reach_by_flags x list sets a b own s fit at to is =
+    let p = slice_index_or x.sites a s in
+    let q = slice_index_or x.sites b s in
+    sym (matched_any (RuleFits x.groups x.sites list) (lets_through x.groups p q) (sets_let a b own)
+    (λ r of_rule fits.
+    let from : sends x.groups r p ≡ flag_at of_rule.sends a = flag_is (sends x.groups r) x.sites of_rule.sends a s fits.sends at in
+    let into : takes x.groups r q ≡ flag_at of_rule.takes b = flag_is (takes x.groups r) x.sites of_rule.takes b s fits.takes to in
+    λ i. from i && (into i || (sym fits.owns i && sym is i))) x.rules sets fit.matched)
 
 -- the same of equal things
-pub fit_moved : (x now : Expansion) (sets slice : List RuleSets) → SetsFit x sets → x ≡ now → slice ≡ sets → SetsFit now slice
-fit_moved x now sets slice fit same is =
-    subst (λ (ss : List RuleSets). SetsFit now ss) (sym is) (subst (λ (e : Expansion). SetsFit e sets) same fit)
+pub fit_moved : (x now : Expansion) (list : List Cover) (sets slice : List RuleSets) → SetsFit x list sets → x ≡ now → slice ≡ sets → SetsFit now list slice
+fit_moved x now list sets slice fit same is =
+    subst (λ (ss : List RuleSets). SetsFit now list ss) (sym is) (subst (λ (e : Expansion). SetsFit e list sets) same fit)
 
-pub match_moved : (g groups : List Group) (s sites : List Site) (r rules : List Rule) (sets : List RuleSets) → g ≡ groups → s ≡ sites → r ≡ rules → AreMatched (RuleFits g s) r sets → AreMatched (RuleFits groups sites) rules sets
-match_moved g groups s sites r rules sets one two three h =
-    subst (λ (rs : List Rule). AreMatched (RuleFits groups sites) rs sets) three
-    (subst (λ (ss : List Site). AreMatched (RuleFits groups ss) r sets) two
-    (subst (λ (gs : List Group). AreMatched (RuleFits gs s) r sets) one h))
+match_moved : (g groups : List Group) (s sites : List Site) (r rules : List Rule) (list : List Cover) (sets : List RuleSets) → g ≡ groups → s ≡ sites → r ≡ rules
+    → AreMatched (RuleFits g s list) r sets → AreMatched (RuleFits groups sites list) rules sets
+match_moved g groups s sites r rules list sets one two three h =
+    subst (λ (rs : List Rule). AreMatched (RuleFits groups sites list) rs sets) three
+    (subst (λ (ss : List Site). AreMatched (RuleFits groups ss list) r sets) two
+    (subst (λ (gs : List Group). AreMatched (RuleFits gs s list) r sets) one h))
+
+-- one rule more
+pub rules_more : (start x y : Covering) (rules : List Rule) (i : ℕ) (made new : List RuleSets) (r : Rule) (sets : RuleSets) → i < length rules → r ≡ get_or rules i r → IsGrown start x → IsGrown x y
+    → AreMatched (RuleFits x.groups x.sites x.list) (take i rules) made → RuleFits y.groups y.sites y.list r sets → new ≡ made ++ sets ∷ []
+    → IsGrown start y × AreMatched (RuleFits y.groups y.sites y.list) (take (i + 1) rules) new
+rules_more start x y rules i made new r sets lt is old grown h fits put =
+    let kept = matched_weaker (RuleFits x.groups x.sites x.list) (RuleFits y.groups y.sites y.list) (λ r s at. rule_kept x y r s grown at) (take i rules) made h in
+    (grown_twice start x y old grown, matched_more (RuleFits y.groups y.sites y.list) rules i made new r sets lt is kept fits put)
+
+pub expansion_fits : (groups : List Group) (rules asked : List Rule) (sites : List Site) (start x : Covering) (list : List Cover) (sets : List RuleSets) → start ≡ record { groups = groups; sites = sites; list = [] }
+    → IsGrown start x → asked ≡ rules → list ≡ x.list → AreMatched (RuleFits x.groups x.sites x.list) asked sets → AreMatched (RuleFits groups sites list) rules sets
+expansion_fits groups rules asked sites start x list sets is grown same all h =
+    let gs : x.groups ≡ groups = grown.groups ∙ ap (λ (c : Covering). c.groups) is in
+    let ss : x.sites ≡ sites = grown.sites ∙ ap (λ (c : Covering). c.sites) is in
+    subst (λ (cs : List Cover). AreMatched (RuleFits groups sites cs) rules sets) (sym all) (match_moved x.groups groups x.sites sites asked rules x.list sets gs ss same h)

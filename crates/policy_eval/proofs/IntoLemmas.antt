@@ -11,7 +11,7 @@ use Rattle.range_sets.specs.Sets.{some_holds}
 use Rattle.policy_rows.specs.Internet.{is_internet}
 use Rattle.policy_rows.specs.declared.selector.Selector.{Selector}
 use Rattle.policy_rows.specs.declared.selector.Selector.TheVariants as sel
-use Rattle.policy_eval.specs.SiteRules.{covers_free, covers_into, met_by, shares_internet, shares_net}
+use Rattle.policy_eval.specs.Beyond.{covers_free, covers_into, met_by, shares_internet, shares_net}
 use Rattle.policy_eval.specs.Sites.{serves_beyond}
 use Rattle.policy_eval.specs.declared.site.Site.{Site}
 use Rattle.policy_eval.proofs.InternetLemmas.{route_some}

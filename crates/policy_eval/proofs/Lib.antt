@@ -1,3 +1,4 @@
+pub mod CoverLemmas
 pub mod EndLemmas
 pub mod FitLemmas
 pub mod FittingLemmas
@@ -5,7 +6,7 @@ pub mod IdLemmas
 pub mod InternetLemmas
 pub mod IntoLemmas
 pub mod MatchLemmas
-pub mod NetLemmas
+pub mod OwnLemmas
 pub mod ReachLemmas
 pub mod SetLemmas
 pub mod SiteLemmas

@@ -1,18 +1,20 @@
--- A policy expanded over sites: for each rule the sets of addresses that it covers.
-use Rattle.std.specs.Prelude.{◌≡◌, ◌<◌, ◌&&◌, ℕ, Bool, List, [], ◌∷◌, Option}
+-- A policy expanded over sites: what its selectors and rules cover.
+use Rattle.std.specs.Prelude.{◌≡◌, ◌<◌, ◌&&◌, ℕ, Bool, List, [], ◌∷◌, Option, Some, slice_get}
 use Rattle.net_addr.specs.Bits.{Address, family_size}
-use Rattle.range_sets.specs.Sets.{Ranges, has}
+use Rattle.range_sets.specs.Sets.{Ranges, has, some_holds}
 use Rattle.policy_rows.specs.declared.dest.Dest.{Dest}
 use Rattle.policy_rows.specs.declared.group.Group.{Group}
 use Rattle.policy_rows.specs.declared.policy.Policy.{Policy}
 use Rattle.policy_rows.specs.declared.rule.Rule.{Rule}
 use Rattle.policy_rows.specs.declared.selector.Selector.{Selector}
 use Rattle.net_rows.specs.declared.rows.Rows.{Rows}
+use Rattle.policy_eval.specs.ByRule.{covers_served, covers_site, has_own_devices, sends, takes}
 use Rattle.policy_eval.specs.Covers.{covers, names_holder}
 use Rattle.policy_eval.specs.Ends.{end_at, holder_of}
 use Rattle.policy_eval.specs.Grants.{groups_of, rules_of, some_source}
 use Rattle.policy_eval.specs.Reach.{AreSoundRules}
 use Rattle.policy_eval.specs.Sites.{AreApart, AreDistinct, site_has, sites_of}
+use Rattle.policy_eval.specs.declared.cover.Cover.{Cover}
 use Rattle.policy_eval.specs.declared.rule_sets.RuleSets.{RuleSets}
 use Rattle.policy_eval.specs.declared.site.Site.{Site}
 
@@ -53,18 +55,37 @@ AreMatched Fits [] (y ∷ ys) = ⊥
 AreMatched Fits (x ∷ xs) [] = ⊥
 AreMatched Fits (x ∷ xs) (y ∷ ys) = Fits x y × AreMatched Fits xs ys
 
--- the set of a destination
-abbrev pub EntryFits : List Group → List Site → Dest → Ranges → Type 0
-EntryFits groups sites entry set = IsSetOf set (entry_covers groups sites entry)
+-- the flags are those of the sites, place by place
+abbrev pub AreFlags : (Site → Bool) → List Site → List Bool → Type 0
+AreFlags test sites flags = (at : ℕ) (site : Site) → slice_get sites at ≡ Some site → slice_get flags at ≡ Some (test site)
 
--- the sets of a rule
-pub record RuleFits (groups : List Group) (sites : List Site) (r : Rule) (sets : RuleSets) : Type 0 where
+-- what the selector covers: as prefixes, as a set, and of each site whether it covers one of its own ends, and whether
+-- it covers something that the site serves
+pub record CoverFits (groups : List Group) (sites : List Site) (selector : Selector) (cover : Cover) : Type 0 where
+  pub nets : (addr : Address) → addr.bits < family_size addr.v6 → some_holds cover.nets addr ≡ covers groups selector (end_at sites addr)
+  pub set : IsSetOf cover.set (λ addr. covers groups selector (end_at sites addr))
+  pub flags : AreFlags (λ site. covers_site groups site selector) sites cover.flags
+  pub served : AreFlags (λ site. covers_served groups site selector) sites cover.served
+
+-- what the selector covers stands at that place
+abbrev pub IsCoverAt : List Group → List Site → List Cover → Selector → ℕ → Type 0
+IsCoverAt groups sites list selector place = (cover : Cover) × (slice_get list place ≡ Some cover) × CoverFits groups sites selector cover
+
+-- the same of a destination
+abbrev pub IsEntryAt : List Group → List Site → List Cover → Dest → ℕ → Type 0
+IsEntryAt groups sites list entry place = IsCoverAt groups sites list entry.to place
+
+-- what is known of a rule
+pub record RuleFits (groups : List Group) (sites : List Site) (list : List Cover) (r : Rule) (sets : RuleSets) : Type 0 where
   pub sources : IsSetOf sets.sources (source_covers groups sites r)
-  pub dests : AreMatched (EntryFits groups sites) r.dests sets.dests
+  pub dests : AreMatched (IsEntryAt groups sites list) r.dests sets.dests
+  pub sends : AreFlags (sends groups r) sites sets.sends
+  pub takes : AreFlags (takes groups r) sites sets.takes
+  pub owns : sets.owns ≡ has_own_devices r
 
--- the sets are those of the rules, place by place
-pub record SetsFit (x : Expansion) (sets : List RuleSets) : Type 0 where
+-- what is known of the rules, place by place
+pub record SetsFit (x : Expansion) (list : List Cover) (sets : List RuleSets) : Type 0 where
   pub distinct : AreDistinct x.sites
   pub apart : AreApart x.sites
   pub sound : AreSoundRules x.rules
-  pub matched : AreMatched (RuleFits x.groups x.sites) x.rules sets
+  pub matched : AreMatched (RuleFits x.groups x.sites list) x.rules sets

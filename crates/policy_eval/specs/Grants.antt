@@ -12,13 +12,13 @@ use Rattle.policy_rows.specs.declared.selector.Selector.TheVariants as sel
 use Rattle.policy_eval.specs.Covers.{covers, dest_covers}
 use Rattle.policy_eval.specs.declared.end.End.{End}
 
+-- `*:*`
+abbrev pub open_dest : Dest
+open_dest = record { to = sel.All; ports = record { first = 0; last = 65535 } ∷ [] }
+
 -- the rule from `*` to `*:*`, without a protocol
 abbrev pub open_rule : Rule
-open_rule = record {
-  protos = None;
-  sources = sel.All ∷ [];
-  dests = record { to = sel.All; ports = record { first = 0; last = 65535 } ∷ [] } ∷ [];
-}
+open_rule = record { protos = None; sources = sel.All ∷ []; dests = open_dest ∷ [] }
 
 -- a policy's rules; one without `acls` lets everything through
 abbrev pub rules_or_open : Option (List Rule) → List Rule

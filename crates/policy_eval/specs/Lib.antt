@@ -1,9 +1,10 @@
+pub mod Beyond
+pub mod ByRule
+pub mod Covering
 pub mod Covers
 pub mod Ends
 pub mod Expansion
 pub mod Fitting
 pub mod Grants
-pub mod Named
 pub mod Reach
-pub mod SiteRules
 pub mod Sites

@@ -1,18 +1,27 @@
 //! Policies expanded over the machines that are live.
 ghost use Rattle.std.specs.Prelude.{◌≡◌, ◌<◌, IfOk, length, slice_index_or};
+ghost use Rattle.std.specs.List.{list_any};
 ghost use Rattle.std.specs.Option.{option_copied};
 ghost use Rattle.policy_rows.specs.declared.dest.Dest.{Dest};
 ghost use Rattle.policy_rows.specs.declared.rule.Rule.{Rule};
+ghost use Rattle.policy_eval.specs.ByRule.{sends, site_reaches, takes};
+ghost use Rattle.policy_eval.specs.Covering.{sets_let};
 ghost use Rattle.policy_eval.specs.Expansion.{Expansion, IsSetOf, entry_covers, expansion_of, source_covers};
 ghost use Rattle.policy_eval.specs.Grants.{some_rule_grants};
 ghost use Rattle.policy_eval.specs.Reach.{AreSoundRules};
 ghost use Rattle.policy_eval.specs.Sites.{AreApart, AreDistinct};
+ghost use Rattle.policy_eval.specs.declared.cover.Cover.{Cover};
+ghost use Rattle.policy_eval.specs.declared.rule_sets.RuleSets.{RuleSets};
+ghost use Rattle.policy_eval.specs.declared.site.Site.{Site};
 
+use crate::cover::Cover;
+use crate::covers::Covers;
 use crate::end::End;
+use crate::flags::flag_at;
 use crate::granting::some_rule_grants;
-use crate::rule_sets::{RuleSets, set_at, sets_at, sets_of_rules};
+use crate::rule_sets::{RuleSets, sets_let, sets_of_rules};
 use crate::rules::{groups_of, look_at_rules, rules_of};
-use crate::site::{Site, sites_of};
+use crate::site::{Site, are_own, sites_of};
 use net_rows::Tables;
 use policy_rows::{Group, Policy, Rule};
 use range_sets::RangeSet;
@@ -20,17 +29,56 @@ use std::alloc::Global;
 use std::marker::Model;
 use tail_base::{Items, NoMemory};
 
-/// A policy expanded over the machines that are live: its rules, and the sets of addresses that they
-/// cover. Contracts see what was expanded, over which sites.
+/// What is known of a rule, which stands at that place.
+fn sets_of(sets: &[RuleSets], rule: usize) -> &RuleSets
+    requires inside { rule < length sets.now }
+    ensures value { (d : RuleSets) → result.now ≡ slice_index_or sets.now rule d }
+{
+    &sets[rule]
+}
+
+fn place_of(places: &[usize], entry: usize) -> usize
+    requires inside { entry < length places.now }
+    ensures value { result ≡ slice_index_or places.now entry 0 }
+{
+    places[entry]
+}
+
+fn cover_at(covers: &[Cover], place: usize) -> &Cover
+    requires inside { place < length covers.now }
+    ensures value { (d : Cover) → result.now ≡ slice_index_or covers.now place d }
+{
+    &covers[place]
+}
+
+fn site_at(sites: &[Site], place: usize) -> &Site
+    requires inside { place < length sites.now }
+    ensures value { (d : Site) → result.now ≡ slice_index_or sites.now place d }
+{
+    &sites[place]
+}
+
+fn some_let(sets: &[RuleSets], a: usize, b: usize, own: bool) -> bool
+    ensures value { result ≡ list_any (sets_let a b own) sets.now }
+{
+    sets.iter().any(|of_rule| sets_let(of_rule, a, b, own))
+}
+
+/// A policy expanded over the machines that are live: its rules, the sets of addresses that they cover,
+/// and which machines may send and take by them. What a selector covers is found once, whichever rules
+/// name it. Contracts see what was expanded, over which sites.
 #[derive(Drop)]
 pub struct Expanded {
     groups: Items<Group>,
     rules: Items<Rule>,
     sites: Items<Site>,
+    covers: Items<Cover>,
     sets: Items<RuleSets>,
 }
 
 impl Model for Expanded {
+    ghost use Rattle.policy_eval.specs.ByRule.{sends, site_reaches, takes};
+    ghost use Rattle.policy_eval.specs.Covering.{sets_let};
     ghost use Rattle.policy_eval.specs.Expansion.{Expansion, SetsFit};
 
     ghost Value = { Expansion };
@@ -38,7 +86,7 @@ impl Model for Expanded {
     ghost view = { λ x. record { groups = x.groups; rules = x.rules; sites = x.sites } };
 
     ghost invariant = { λ x.
-        SetsFit (record { groups = x.groups; rules = x.rules; sites = x.sites }) x.sets };
+        SetsFit (record { groups = x.groups; rules = x.rules; sites = x.sites }) x.covers x.sets };
 }
 
 impl Expanded {
@@ -56,11 +104,14 @@ impl Expanded {
         let rules = rules_of(alloc, policy)?;
         let sites = sites_of(alloc, policy, tables, live)?;
         look_at_rules(rules.as_slice());
-        let sets = sets_of_rules(alloc, groups.as_slice(), sites.as_slice(), rules.as_slice())?;
+        let mut found = Covers::new(alloc, groups.as_slice(), sites.as_slice());
+        let sets = sets_of_rules(alloc, &mut found, rules.as_slice())?;
+        let covers = found.into_list();
         Ok(Expanded {
             groups,
             rules,
             sites,
+            covers,
             sets,
         })
     }
@@ -95,7 +146,7 @@ impl Expanded {
         ensures held { (d : Rule) → IsSetOf result.now (source_covers self.now.groups self.now.sites
             (slice_index_or self.now.rules rule d)) }
     {
-        let sets = sets_at(self.sets.as_slice(), rule);
+        let sets = sets_of(self.sets.as_slice(), rule);
         &sets.sources
     }
 
@@ -108,8 +159,45 @@ impl Expanded {
             (entry_covers self.now.groups self.now.sites
             (slice_index_or (slice_index_or self.now.rules rule d).dests entry e)) }
     {
-        let sets = sets_at(self.sets.as_slice(), rule);
-        set_at(sets.dests.as_slice(), entry)
+        let sets = sets_of(self.sets.as_slice(), rule);
+        let place = place_of(sets.dests.as_slice(), entry);
+        &cover_at(self.covers.as_slice(), place).set
+    }
+
+    /// Whether the machine at that place among the sites may send by that rule.
+    pub fn sends(&self, rule: usize, site: usize) -> bool
+        requires rule_inside { rule < length self.now.rules }
+        requires site_inside { site < length self.now.sites }
+        ensures value { (r : Rule) (s : Site) → result ≡ sends self.now.groups
+            (slice_index_or self.now.rules rule r) (slice_index_or self.now.sites site s) }
+    {
+        let sets = sets_of(self.sets.as_slice(), rule);
+        flag_at(sets.sends.as_slice(), site)
+    }
+
+    /// Whether that rule lets through to something that the machine at that place serves whoever may
+    /// send by it.
+    pub fn takes(&self, rule: usize, site: usize) -> bool
+        requires rule_inside { rule < length self.now.rules }
+        requires site_inside { site < length self.now.sites }
+        ensures value { (r : Rule) (s : Site) → result ≡ takes self.now.groups
+            (slice_index_or self.now.rules rule r) (slice_index_or self.now.sites site s) }
+    {
+        let sets = sets_of(self.sets.as_slice(), rule);
+        flag_at(sets.takes.as_slice(), site)
+    }
+
+    /// Whether some rule lets the machine at one place through to that at the other. It looks at flags,
+    /// and searches no set.
+    pub fn reaches(&self, a: usize, b: usize) -> bool
+        requires a_inside { a < length self.now.sites }
+        requires b_inside { b < length self.now.sites }
+        ensures value { (s : Site) → result ≡ site_reaches self.now.groups self.now.rules
+            (slice_index_or self.now.sites a s) (slice_index_or self.now.sites b s) }
+    {
+        let sites = self.sites.as_slice();
+        let own = are_own(site_at(sites, a), site_at(sites, b));
+        some_let(self.sets.as_slice(), a, b, own)
     }
 
     /// Whether some rule grants the flow. It takes no memory.

@@ -2,12 +2,15 @@
 //! their rules cover.
 #![tactic(auto)]
 
+mod beyond;
+mod cover;
 mod covering;
+mod covers;
 mod end;
 mod expanded;
 mod fitting;
+mod flags;
 mod granting;
-mod group_nets;
 mod id_list;
 mod in_force;
 mod laws;
@@ -15,7 +18,6 @@ mod listing;
 mod rule_sets;
 mod rules;
 mod site;
-mod site_rules;
 mod touching;
 
 pub use covering::is_own_devices;
@@ -25,5 +27,4 @@ pub use id_list::IdList;
 pub use in_force::InForce;
 pub use laws::{a_reach_is_by_rules, an_address_has_one_site};
 pub use site::{Site, are_own, sites_of};
-pub use site_rules::{sends, takes};
 pub use touching::{covers_internet, covers_route};

@@ -5,20 +5,20 @@ ghost use Rattle.net_addr.specs.Bits.{Address, family_size};
 ghost use Rattle.net_addr.specs.Blocks.{holds};
 ghost use Rattle.net_rows.specs.Damage.{address_eq};
 ghost use Rattle.policy_rows.specs.Internet.{is_internet};
+ghost use Rattle.policy_rows.specs.Names.{group_named};
+ghost use Rattle.policy_rows.specs.declared.selector.Selector.TheVariants as sel;
 ghost use Rattle.range_sets.specs.Sets.{some_holds};
 ghost use Rattle.policy_eval.specs.Covers.{covers};
 ghost use Rattle.policy_eval.specs.Ends.{end_at};
 ghost use Rattle.policy_eval.specs.Expansion.{site_named};
-ghost use Rattle.policy_eval.specs.Named.{AreNets};
 ghost use Rattle.policy_eval.specs.Sites.{AreDistinct, site_has};
 
-use crate::group_nets::{GroupNets, add_group};
 use crate::site::Site;
 use net_addr::{Addr, Prefix};
 use policy_rows::{Group, Selector, internet_nets, is_named, not_internet};
 use range_sets::RangeSet;
 use std::alloc::Global;
-use tail_base::{Items, NoMemory};
+use tail_base::{Items, NoMemory, Text};
 
 /// Adds a prefix.
 #[tactic(auto, using(crate::proofs::SetLemmas::set_steps))]
@@ -123,18 +123,47 @@ pub(crate) fn add_sites(
     Ok(())
 }
 
-/// Adds the addresses that the selector covers, with those of groups at hand.
+/// The groups from the first of that name on.
+fn groups_from<'a>(groups: &'a [Group], name: &[u8]) -> &'a [Group]
+    ensures same { group_named result.now name.now ≡ group_named groups.now name.now }
+{
+    let mut rest = groups;
+    while let Some((head, tail)) = rest.split_first() {
+        if head.name.as_slice() == name {
+            return rest;
+        }
+        rest = tail;
+    }
+    rest
+}
+
+/// Adds the addresses of the sites that a group names; the group is looked up once.
+#[tactic(auto, using(crate::proofs::SetLemmas::set_steps))]
+fn add_group(
+    out: &mut Items<Prefix>,
+    groups: &[Group],
+    selector: &Selector,
+    name: &Text,
+    sites: &[Site],
+) -> Result<(), NoMemory>
+    requires selector { selector.now ≡ sel.Group name.now }
+    ensures held { OnOk result ((addr : Address) → some_holds out.new addr
+        ≡ (some_holds out.old addr
+        || list_any (site_named groups.now selector.now addr) sites.now)) }
+{
+    add_sites(out, groups_from(groups, name.as_slice()), selector, sites)
+}
+
+/// Adds the addresses that the selector covers.
 #[tactic(auto, using(crate::proofs::SetLemmas::set_steps))]
 pub(crate) fn add_covered(
     alloc: Global,
     out: &mut Items<Prefix>,
     groups: &[Group],
-    named: &[GroupNets],
     selector: &Selector,
     sites: &[Site],
 ) -> Result<(), NoMemory>
     requires distinct { AreDistinct sites.now }
-    requires named { AreNets groups.now sites.now named.now }
     ensures held { OnOk result ((addr : Address) → addr.bits < family_size addr.v6
         → some_holds out.new addr
         ≡ (some_holds out.old addr || covers groups.now selector.now (end_at sites.now addr))) }
@@ -144,7 +173,7 @@ pub(crate) fn add_covered(
         Selector::Net(net) => out.push(*net),
         Selector::Internet => add_internet(alloc, out),
         Selector::OwnDevices => Ok(()),
-        Selector::Group(name) => add_group(out, groups, named, selector, name, sites),
+        Selector::Group(name) => add_group(out, groups, selector, name, sites),
         Selector::User(_) | Selector::Tagged(_) | Selector::Member | Selector::AllTagged =>
             add_sites(out, groups, selector, sites),
     }

@@ -1,145 +1,142 @@
-//! The sets of addresses that rules cover.
-ghost use Rattle.std.specs.Prelude.{◌≡◌, ◌<◌, IfOk, length, slice_index_or};
-ghost use Rattle.net_addr.specs.Bits.{Address, family_size};
-ghost use Rattle.range_sets.specs.Sets.{Ranges, some_holds};
-ghost use Rattle.policy_eval.specs.Expansion.{AreMatched, EntryFits, IsSetOf, RuleFits, entry_covers, source_covers};
-ghost use Rattle.policy_eval.specs.Named.{AreNets};
-ghost use Rattle.policy_eval.specs.Sites.{AreDistinct};
-ghost use Rattle.policy_eval.specs.declared.rule_sets.RuleSets.{RuleSets};
+//! What is known of rules: the addresses that they cover, and which sites they let send and take.
+ghost use Rattle.std.specs.Prelude.{◌≡◌, IfOk, slice_get, Some};
+ghost use Rattle.std.specs.List.{list_any};
+ghost use Rattle.net_addr.specs.Bits.{Address};
+ghost use Rattle.range_sets.specs.Sets.{some_holds};
+ghost use Rattle.policy_eval.specs.ByRule.{has_own_devices};
+ghost use Rattle.policy_eval.specs.Covering.{IsGrown, place_nets, sets_let};
+ghost use Rattle.policy_eval.specs.Expansion.{AreMatched, IsCoverAt, IsEntryAt, IsSetOf, RuleFits, source_covers};
 
-use crate::group_nets::{GroupNets, nets_of_groups};
-use crate::listing::add_covered;
-use crate::site::Site;
+use crate::cover::Cover;
+use crate::covering::is_own_devices;
+use crate::covers::Covers;
+use crate::flags::{flag_at, some_flags};
+use crate::listing::add_all;
 use net_addr::Prefix;
-use policy_rows::{Dest, Group, Rule};
+use policy_rows::Rule;
 use range_sets::RangeSet;
 use std::alloc::Global;
 use tail_base::{Items, NoMemory};
 
-/// The addresses that a rule's sources cover, and for each of its destinations those that it covers.
+/// What is known of a rule: the addresses that its sources cover; where what its destinations cover
+/// stands; of each site whether it sends and whether it takes by the rule; and whether `autogroup:self`
+/// is a destination.
 #[derive(Drop)]
 pub(crate) struct RuleSets {
     pub(crate) sources: RangeSet,
-    pub(crate) dests: Items<RangeSet>,
+    pub(crate) dests: Items<usize>,
+    pub(crate) sends: Items<bool>,
+    pub(crate) takes: Items<bool>,
+    pub(crate) owns: bool,
 }
 
-/// The prefixes of the addresses that some source covers.
-fn source_prefixes(
-    alloc: Global,
-    groups: &[Group],
-    named: &[GroupNets],
-    sites: &[Site],
-    rule: &Rule,
-) -> Result<Items<Prefix>, NoMemory>
-    requires distinct { AreDistinct sites.now }
-    requires named { AreNets groups.now sites.now named.now }
-    ensures held { IfOk result (λ nets. (addr : Address) → addr.bits < family_size addr.v6
-        → some_holds nets addr ≡ source_covers groups.now sites.now rule.now addr) }
+/// The prefixes at a place.
+fn place_nets(covers: &[Cover], place: usize) -> &[Prefix]
+    ensures value { result.now ≡ place_nets covers.now place }
 {
-    let mut out = Items::new(alloc);
-    for selector in rule.sources.as_slice() {
-        add_covered(alloc, &mut out, groups, named, selector, sites)?;
+    match covers.get(place) {
+        Some(cover) => cover.nets.as_slice(),
+        None => &[],
     }
-    Ok(out)
 }
 
-fn source_set(
-    alloc: Global,
-    groups: &[Group],
-    named: &[GroupNets],
-    sites: &[Site],
-    rule: &Rule,
-) -> Result<RangeSet, NoMemory>
-    requires distinct { AreDistinct sites.now }
-    requires named { AreNets groups.now sites.now named.now }
-    ensures held { IfOk result (λ set. IsSetOf set (source_covers groups.now sites.now rule.now)) }
-{
-    let nets = source_prefixes(alloc, groups, named, sites, rule)?;
-    RangeSet::of_prefixes(alloc, nets.as_slice())
-}
-
-fn entry_set(
-    alloc: Global,
-    groups: &[Group],
-    named: &[GroupNets],
-    sites: &[Site],
-    entry: &Dest,
-) -> Result<RangeSet, NoMemory>
-    requires distinct { AreDistinct sites.now }
-    requires named { AreNets groups.now sites.now named.now }
-    ensures held { IfOk result (EntryFits groups.now sites.now entry.now) }
+/// The prefixes at these places.
+#[tactic(auto, using(crate::proofs::SetLemmas::set_steps))]
+fn source_nets(alloc: Global, covers: &[Cover], places: &[usize]) -> Result<Items<Prefix>, NoMemory>
+    ensures held { IfOk result (λ nets. (addr : Address) → some_holds nets addr
+        ≡ list_any (λ place. some_holds (place_nets covers.now place) addr) places.now) }
 {
     let mut nets = Items::new(alloc);
-    add_covered(alloc, &mut nets, groups, named, &entry.to, sites)?;
-    RangeSet::of_prefixes(alloc, nets.as_slice())
-}
-
-fn entry_sets(
-    alloc: Global,
-    groups: &[Group],
-    named: &[GroupNets],
-    sites: &[Site],
-    entries: &[Dest],
-) -> Result<Items<RangeSet>, NoMemory>
-    requires distinct { AreDistinct sites.now }
-    requires named { AreNets groups.now sites.now named.now }
-    ensures matched { IfOk result (AreMatched (EntryFits groups.now sites.now) entries.now) }
-{
-    let mut sets = Items::new(alloc);
-    for entry in entries {
-        let set = entry_set(alloc, groups, named, sites, entry)?;
-        sets.push(set)?;
+    for place in places {
+        add_all(&mut nets, place_nets(covers, *place))?;
     }
-    Ok(sets)
+    Ok(nets)
 }
 
-fn rule_sets(
+/// The addresses that the rule's sources cover; what these cover stands at the places.
+fn source_set(
     alloc: Global,
-    groups: &[Group],
-    named: &[GroupNets],
-    sites: &[Site],
+    covers: &Covers<'_>,
     rule: &Rule,
-) -> Result<RuleSets, NoMemory>
-    requires distinct { AreDistinct sites.now }
-    requires named { AreNets groups.now sites.now named.now }
-    ensures fits { IfOk result (RuleFits groups.now sites.now rule.now) }
+    places: &[usize],
+) -> Result<RangeSet, NoMemory>
+    requires matched { AreMatched (IsCoverAt covers.now.groups covers.now.sites covers.now.list)
+        rule.now.sources places.now }
+    ensures held { IfOk result (λ set.
+        IsSetOf set (source_covers covers.now.groups covers.now.sites rule.now)) }
 {
-    let sources = source_set(alloc, groups, named, sites, rule)?;
-    let dests = entry_sets(alloc, groups, named, sites, rule.dests.as_slice())?;
-    Ok(RuleSets { sources, dests })
+    let nets = source_nets(alloc, covers.list(), places)?;
+    let set = RangeSet::of_prefixes(alloc, nets.as_slice())?;
+    Ok(set)
 }
 
-/// The sets of each rule.
+fn has_own_devices(rule: &Rule) -> bool
+    ensures value { result ≡ has_own_devices rule.now }
+{
+    let entries = rule.dests.as_slice();
+    entries.iter().any(|entry| is_own_devices(&entry.to))
+}
+
+/// What is known of the rule, where what its sources and destinations cover stands at the places.
+fn sets_at(
+    alloc: Global,
+    covers: &Covers<'_>,
+    rule: &Rule,
+    sources: &[usize],
+    dests: Items<usize>,
+) -> Result<RuleSets, NoMemory>
+    requires sources { AreMatched (IsCoverAt covers.now.groups covers.now.sites covers.now.list)
+        rule.now.sources sources.now }
+    requires dests { AreMatched (IsEntryAt covers.now.groups covers.now.sites covers.now.list)
+        rule.now.dests dests }
+    ensures fits { IfOk result
+        (RuleFits covers.now.groups covers.now.sites covers.now.list rule.now) }
+{
+    let count = covers.sites().len();
+    let set = source_set(alloc, covers, rule, sources)?;
+    let sends = some_flags(alloc, covers.list(), false, sources, count)?;
+    let takes = some_flags(alloc, covers.list(), true, dests.as_slice(), count)?;
+    Ok(RuleSets {
+        sources: set,
+        dests,
+        sends,
+        takes,
+        owns: has_own_devices(rule),
+    })
+}
+
+fn rule_sets(alloc: Global, covers: &mut Covers<'_>, rule: &Rule) -> Result<RuleSets, NoMemory>
+    ensures grown { IsGrown covers.old covers.new }
+    ensures fits { IfOk result
+        (RuleFits covers.new.groups covers.new.sites covers.new.list rule.now) }
+{
+    let sources = covers.source_places(alloc, rule.sources.as_slice())?;
+    let dests = covers.dest_places(alloc, rule.dests.as_slice())?;
+    sets_at(alloc, covers, rule, sources.as_slice(), dests)
+}
+
+/// What is known of each rule.
 pub(crate) fn sets_of_rules(
     alloc: Global,
-    groups: &[Group],
-    sites: &[Site],
+    covers: &mut Covers<'_>,
     rules: &[Rule],
 ) -> Result<Items<RuleSets>, NoMemory>
-    requires distinct { AreDistinct sites.now }
-    ensures matched { IfOk result (AreMatched (RuleFits groups.now sites.now) rules.now) }
+    ensures grown { IsGrown covers.old covers.new }
+    ensures matched { IfOk result (AreMatched
+        (RuleFits covers.new.groups covers.new.sites covers.new.list) rules.now) }
 {
-    let named = nets_of_groups(alloc, groups, sites)?;
     let mut made = Items::new(alloc);
     for rule in rules {
-        let sets = rule_sets(alloc, groups, named.as_slice(), sites, rule)?;
+        let sets = rule_sets(alloc, covers, rule)?;
         made.push(sets)?;
     }
     Ok(made)
 }
 
-/// The sets at a place.
-pub(crate) fn sets_at(sets: &[RuleSets], place: usize) -> &RuleSets
-    requires inside { place < length sets.now }
-    ensures value { (d : RuleSets) → result.now ≡ slice_index_or sets.now place d }
+/// Whether by what is known of a rule it lets the site at one place through to that at the other; they
+/// are of one login or not.
+pub(crate) fn sets_let(sets: &RuleSets, a: usize, b: usize, own: bool) -> bool
+    ensures value { result ≡ sets_let a b own sets.now }
 {
-    &sets[place]
-}
-
-/// The set at a place.
-pub(crate) fn set_at(sets: &[RangeSet], place: usize) -> &RangeSet
-    requires inside { place < length sets.now }
-    ensures value { (d : Ranges) → result.now ≡ slice_index_or sets.now place d }
-{
-    &sets[place]
+    flag_at(sets.sends.as_slice(), a) && (flag_at(sets.takes.as_slice(), b) || (sets.owns && own))
 }

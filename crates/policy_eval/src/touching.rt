@@ -3,7 +3,7 @@ ghost use Rattle.std.specs.Prelude.{◌≡◌, ◌&&◌, not, true};
 ghost use Rattle.std.specs.List.{list_any};
 ghost use Rattle.net_addr.specs.Blocks.{holds, is_within, overlap};
 ghost use Rattle.policy_rows.specs.Internet.{internet_nets, is_internet, not_internet};
-ghost use Rattle.policy_eval.specs.SiteRules.{covers_into, met_by, shares_internet, shares_net};
+ghost use Rattle.policy_eval.specs.Beyond.{covers_into, met_by, shares_internet, shares_net};
 
 use net_addr::Prefix;
 use policy_rows::{Selector, internet_nets, not_internet};
