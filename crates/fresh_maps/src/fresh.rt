@@ -1,7 +1,6 @@
 //! Maps computed afresh.
 ghost use Rattle.std.specs.Prelude.{◌≡◌, ◌++◌, Contains, IfOk, IsSome, OnOk, Some};
 ghost use Rattle.peer_view.specs.Seen.{Node, node_with, sites_seen};
-ghost use Rattle.peer_view.specs.Ways.{ways_of};
 ghost use Rattle.fresh_maps.specs.Fresh.{fresh, peers_of, row_shown};
 ghost use Rattle.fresh_maps.specs.InOrder.{IsInOrder};
 ghost use Rattle.fresh_maps.specs.Granted.{MeetsPolicy};
@@ -9,7 +8,7 @@ ghost use Rattle.fresh_maps.specs.Granted.{MeetsPolicy};
 use crate::profile::owners_of;
 use crate::view::View;
 use filter_compile::filter_for;
-use peer_view::{LiveMachine, Way, World, own_row, sees_machine, shown, ways_of};
+use peer_view::{LiveMachine, World, own_row, sees_machine, shown};
 use policy_eval::Site;
 use std::alloc::Global;
 use tail_base::{Duplicate, Items, NoMemory};
@@ -21,11 +20,9 @@ fn add_peer(
     peers: &mut Items<NodeRow>,
     world: &World<'_>,
     viewer: &LiveMachine<'_>,
-    ways: &[Way<'_>],
     site: &Site,
 ) -> Result<(), NoMemory>
     requires viewer { Contains world.now.nodes viewer.now }
-    requires ways { ways.now ≡ ways_of world.now viewer.now }
     requires site { Contains (sites_seen world.now) site.now }
     ensures ok { OnOk result (peers.new ≡ peers.old
         ++ row_shown world.now viewer.now (node_with world.now site.now.id)) }
@@ -33,7 +30,7 @@ fn add_peer(
     let Some(peer) = world.machine_at(site) else {
         return Ok(());
     };
-    if sees_machine(world, viewer, ways, &peer) {
+    if sees_machine(world, viewer, &peer) {
         let row = shown(alloc, world, &peer)?;
         peers.push(row)
     } else {
@@ -53,10 +50,9 @@ fn peers_of(
     let expanded = world.expanded();
     // For what it promises, that nodes go by id.
     let _users = world.users();
-    let ways = ways_of(alloc, world, viewer)?;
     let mut peers = Items::new(alloc);
     for site in expanded.sites() {
-        add_peer(alloc, &mut peers, world, viewer, ways.as_slice(), site)?;
+        add_peer(alloc, &mut peers, world, viewer, site)?;
     }
     Ok(peers)
 }

@@ -4,5 +4,4 @@ pub mod LiveLaws
 pub mod OpenLaws
 pub mod ReachLaws
 pub mod SightLaws
-pub mod WayLemmas
 pub mod WorldLaws

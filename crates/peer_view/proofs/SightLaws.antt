@@ -5,12 +5,14 @@ use Rattle.std.proofs.lemmas.Bool.{both_ways, eq-eqb, eqb-true, ne_eqb, or_left}
 use Rattle.tail_base.proofs.Bools.{same_tests}
 use Rattle.net_rows.specs.Damage.{damage}
 use Rattle.net_rows.specs.declared.rows.Rows.{Rows}
+use Rattle.net_rows.specs.Shelf.{IsAscending}
 use Rattle.net_rows.proofs.Members.{find_member, find_none}
+use Rattle.net_rows.proofs.RowAt.{row_at_is}
 use Rattle.settings.specs.declared.fields.SettingsFields.{SettingsFields}
 use Rattle.policy_rows.specs.declared.policy.Policy.{Policy}
 use Rattle.policy_eval.specs.Grants.{groups_of, rules_of}
 use Rattle.policy_eval.specs.Reach.{AreSoundRules}
-use Rattle.peer_view.specs.Reaches.{site_reaches}
+use Rattle.policy_eval.specs.ByRule.{site_reaches}
 use Rattle.peer_view.specs.Seen.{Node, Seen, is_node, node_reaches, node_with, of_ids, seen_of, sees}
 use Rattle.peer_view.proofs.LiveLaws.{node_reach, on_both}
 
@@ -87,3 +89,27 @@ pub sight_mutual : (w : Seen) (m p : Node) → sees w m p ≡ sees w p m
 sight_mutual w m p =
     let ids : not (m.row.id == p.row.id) ≡ not (p.row.id == m.row.id) = ap not (eqb_exchanged m.row.id p.row.id) in
     and_exchanged (is_node w m) (is_node w p) (not (m.row.id == p.row.id)) (not (p.row.id == m.row.id)) (node_reaches w m p) (node_reaches w p m) ids
+
+-- what is found of two ids whose nodes these are
+of_both : (w : Seen) (test : Node → Node → Bool) (m p : Node) (oa ob : Option Node) → oa ≡ Some m → ob ≡ Some p → on_both test oa ob ≡ test m p
+of_both w test m p oa ob e f = λ i. on_both test (e i) (f i)
+
+-- Sight between nodes goes by reach between their ids.
+pub sight_by_ids : (w : Seen) (m p : Node) → IsAscending (λ (n : Node). n.row.id) w.nodes → Contains w.nodes m → Contains w.nodes p → (m.row.id ≡ p.row.id → ⊥)
+    → (of_ids (node_reaches w) w m.row.id p.row.id || of_ids (node_reaches w) w p.row.id m.row.id) ≡ sees w m p
+sight_by_ids w m p ascend here there apart =
+    let at : node_with w m.row.id ≡ Some m = row_at_is (λ (n : Node). n.row.id) w.nodes m ascend here in
+    let to : node_with w p.row.id ≡ Some p = row_at_is (λ (n : Node). n.row.id) w.nodes p ascend there in
+    sym (sight_is w m.row.id p.row.id (ne_eqb m.row.id p.row.id apart)) ∙ of_both w (sees w) m p (node_with w m.row.id) (node_with w p.row.id) at to
+
+-- where one reaches the other, and where it doesn't
+pub sight_found : (w : Seen) (m p : Node) → IsAscending (λ (n : Node). n.row.id) w.nodes → Contains w.nodes m → Contains w.nodes p → (m.row.id ≡ p.row.id → ⊥)
+    → (r : Bool) → r ≡ of_ids (node_reaches w) w m.row.id p.row.id → r ≡ true → r ≡ sees w m p
+sight_found w m p ascend here there apart r is passes =
+    let back : Bool = of_ids (node_reaches w) w p.row.id m.row.id in
+    passes ∙ (sym (ap (λ (x : Bool). x || back) (sym is ∙ passes)) ∙ sight_by_ids w m p ascend here there apart)
+
+pub sight_missed : (w : Seen) (m p : Node) → IsAscending (λ (n : Node). n.row.id) w.nodes → Contains w.nodes m → Contains w.nodes p → (m.row.id ≡ p.row.id → ⊥)
+    → (r : Bool) → r ≡ of_ids (node_reaches w) w m.row.id p.row.id → r ≡ false → (q : Bool) → q ≡ of_ids (node_reaches w) w p.row.id m.row.id → q ≡ sees w m p
+sight_missed w m p ascend here there apart r is fails q back =
+    back ∙ (sym (ap (λ (x : Bool). x || of_ids (node_reaches w) w p.row.id m.row.id) (sym is ∙ fails)) ∙ sight_by_ids w m p ascend here there apart)

@@ -3,4 +3,3 @@ pub mod Reaches
 pub mod Seen
 pub mod Shown
 pub mod Worlds
-pub mod Ways

@@ -1,55 +1,19 @@
 -- Which machines reach which.
-use Rattle.std.specs.Prelude.{◌<◌, ◌==◌, ℕ, ◌&&◌, ◌||◌, Bool, false, List, [], ◌∷◌, Option, Some}
+use Rattle.std.specs.Prelude.{◌==◌, ℕ, Bool, false, List, Option}
 use Rattle.std.specs.List.{find, list_any}
 use Rattle.std.specs.Option.{option_map_or}
-use Rattle.net_addr.specs.Bits.{Address, family_size}
 use Rattle.policy_rows.specs.declared.group.Group.{Group}
 use Rattle.policy_rows.specs.declared.policy.Policy.{Policy}
 use Rattle.policy_rows.specs.declared.rule.Rule.{Rule}
-use Rattle.policy_rows.specs.declared.selector.Selector.{Selector}
-use Rattle.policy_eval.specs.Covers.{covers, is_own, is_own_devices}
-use Rattle.policy_eval.specs.Ends.{end_at, holder_of}
+use Rattle.policy_eval.specs.ByRule.{site_addresses, site_reaches}
+use Rattle.policy_eval.specs.Ends.{end_at}
 use Rattle.policy_eval.specs.Reach.{reaches_into}
 use Rattle.policy_eval.specs.Sites.{serves}
-use Rattle.policy_eval.specs.declared.end.End.{End}
 use Rattle.policy_eval.specs.declared.site.Site.{Site}
-
--- a machine's own addresses
-abbrev pub site_addresses : Site → List Address
-site_addresses site = site.v4 ∷ site.v6 ∷ []
 
 -- Some flow from an address of one to an address that the other serves is granted.
 abbrev pub reaches : Option Policy → List Site → Site → Site → Bool
 reaches policy sites a b = list_any (λ x. reaches_into policy sites (serves b) (end_at sites x)) (site_addresses a)
-
--- the end that an address of the machine is
-abbrev pub site_end : Site → Address → End
-site_end site addr = record { addr = Some addr; holder = Some (holder_of site) }
-
--- the selector covers one of the machine's own ends
-abbrev pub covers_site : List Group → Site → Selector → Bool
-covers_site groups site selector = list_any (λ x. covers groups selector (site_end site x)) (site_addresses site)
-
--- by its sources, the machine may send by the rule
-abbrev pub sends : List Group → Rule → Site → Bool
-sends groups r site = list_any (covers_site groups site) r.sources
-
--- by its destinations, the rule lets anybody whom it lets send through to the machine; `autogroup:self`
--- covers no end alone
-abbrev pub takes : List Group → Rule → Site → Bool
-takes groups r site = list_any (λ entry. covers_site groups site entry.to) r.dests
-
--- `autogroup:self` is a destination of the rule, and both machines are untagged and of one login
-abbrev pub joins_own_by : Rule → Site → Site → Bool
-joins_own_by r a b = list_any (λ entry. is_own_devices entry.to) r.dests && is_own (holder_of a) (holder_of b)
-
--- by the rule one may send and the other takes, or `autogroup:self` joins them
-abbrev pub lets_through : List Group → Site → Site → Rule → Bool
-lets_through groups a b r = sends groups r a && (takes groups r b || joins_own_by r a b)
-
--- Some rule lets one through to the other: all of it is seen from the two machines alone.
-abbrev pub site_reaches : List Group → List Rule → Site → Site → Bool
-site_reaches groups rules a b = list_any (lets_through groups a b) rules
 
 -- the site of an id
 abbrev pub site_with : List Site → ℕ → Option Site
@@ -59,8 +23,3 @@ site_with sites id = find (λ site. site.id == id) sites
 abbrev pub id_reaches : List Group → List Rule → List Site → ℕ → ℕ → Bool
 id_reaches groups rules sites a b =
     option_map_or (λ x. option_map_or (site_reaches groups rules x) (site_with sites b) false) (site_with sites a) false
-
--- what is true of each site by its types: its addresses are numbers of their families
-pub record IsSoundSite (site : Site) : Type 0 where
-  pub v4 : site.v4.bits < family_size site.v4.v6
-  pub v6 : site.v6.bits < family_size site.v6.v6

@@ -4,9 +4,7 @@ ghost use Rattle.std.specs.Option.{option_copied};
 ghost use Rattle.net_rows.specs.Shelf.{BelongsAt, IsAscending, StandsAt};
 ghost use Rattle.peer_view.specs.Reaches.{id_reaches, site_with};
 
-use crate::site_rules::site_reaches;
-use policy_eval::Site;
-use policy_rows::{Group, Rule};
+use policy_eval::{Expanded, Site};
 
 /// Where the site of the id stands, or where it would go.
 fn site_place(sites: &[Site], id: u32) -> Result<usize, usize>
@@ -28,13 +26,15 @@ pub(crate) fn site_with(sites: &[Site], id: u32) -> Option<&Site>
     }
 }
 
-/// Whether the machine of one id reaches that of the other, by rules.
-pub(crate) fn id_reaches(groups: &[Group], rules: &[Rule], sites: &[Site], a: u32, b: u32) -> bool
-    requires ascending { IsAscending (λ site. site.id) sites.now }
-    ensures value { result ≡ id_reaches groups.now rules.now sites.now a b }
+/// Whether the machine of one id reaches that of the other, by the flags of the rules.
+pub(crate) fn id_reaches(expanded: &Expanded, a: u32, b: u32) -> bool
+    requires ascending { IsAscending (λ site. site.id) expanded.now.sites }
+    ensures value { result
+        ≡ id_reaches expanded.now.groups expanded.now.rules expanded.now.sites a b }
 {
-    match (site_with(sites, a), site_with(sites, b)) {
-        (Some(a), Some(b)) => site_reaches(groups, rules, a, b),
-        (None, _) | (_, None) => false,
+    let sites = expanded.sites();
+    match (site_place(sites, a), site_place(sites, b)) {
+        (Ok(a), Ok(b)) => expanded.reaches(a, b),
+        (Err(_), _) | (_, Err(_)) => false,
     }
 }

@@ -7,9 +7,7 @@ mod machine;
 mod node;
 mod pair;
 mod shown_rows;
-mod site_rules;
 mod steps;
-mod way;
 mod world;
 
 pub use laws::{all_see_all_without_policy, reach_is_local, sight_is_mutual_and_by_rules};
@@ -18,5 +16,4 @@ pub use node::TAGGED_OWNER;
 pub use pair::{pair_test, sees, sees_machine};
 pub use shown_rows::{own_row, shown};
 pub use steps::Steps;
-pub use way::{Way, ways_of};
 pub use world::World;

@@ -1,25 +1,32 @@
 //! Who reaches and who sees whom.
 ghost use Rattle.std.specs.Prelude.{◌≡◌, ◌≤◌, ◌+◌, Contains};
 ghost use Rattle.peer_view.specs.Seen.{node_reaches, of_ids, sees};
-ghost use Rattle.peer_view.specs.Ways.{ways_of};
 
 use crate::by_id::id_reaches;
 use crate::machine::LiveMachine;
 use crate::steps::Steps;
-use crate::way::{Way, some_way_joins};
 use crate::world::World;
 use std::sync::ledger::Ledger;
 
+/// Whether the machine of one id reaches that of the other.
+fn reaches(world: &World<'_>, a: u32, b: u32) -> bool
+    ensures value { result ≡ of_ids (node_reaches world.now) world.now a b }
+{
+    let expanded = world.expanded;
+    // For what it promises, that rules are sound.
+    let _rules = expanded.rules();
+    id_reaches(expanded, a, b)
+}
+
 /// Whether the machine of one id reaches that of the other: some flow from an address of the first to
-/// an address that the second serves is granted. A machine that isn't live reaches nobody. It takes
-/// one step, whatever it answers, and no memory.
+/// an address that the second serves is granted. A machine that isn't live reaches nobody. It looks at
+/// the flags of each rule and searches no set; it takes one step, whatever it answers, and no memory.
 pub fn pair_test<L: Ledger>(world: &World<'_>, a: u32, b: u32, steps: &mut Steps<L>) -> bool
     ensures value { result ≡ of_ids (node_reaches world.now) world.now a b }
     ensures cost { steps.new ≡ steps.old + 1 }
 {
     steps.tick();
-    let expanded = world.expanded;
-    id_reaches(expanded.groups(), expanded.rules(), expanded.sites(), a, b)
+    reaches(world, a, b)
 }
 
 /// Whether the machine of one id sees that of the other: both are live, they differ, and one reaches
@@ -39,24 +46,17 @@ pub fn sees<L: Ledger>(world: &World<'_>, viewer: u32, peer: u32, steps: &mut St
     pair_test(world, peer, viewer, steps)
 }
 
-/// Whether one live machine, of which the rules say this, sees the other. It takes no memory, and looks
-/// up no ids.
-pub fn sees_machine(
-    world: &World<'_>,
-    viewer: &LiveMachine<'_>,
-    ways: &[Way<'_>],
-    peer: &LiveMachine<'_>,
-) -> bool
+/// Whether one live machine sees the other. It takes no memory.
+pub fn sees_machine(world: &World<'_>, viewer: &LiveMachine<'_>, peer: &LiveMachine<'_>) -> bool
     requires viewer { Contains world.now.nodes viewer.now }
-    requires ways { ways.now ≡ ways_of world.now viewer.now }
     requires peer { Contains world.now.nodes peer.now }
     ensures value { result ≡ sees world.now viewer.now peer.now }
 {
-    if viewer.row.id == peer.row.id {
+    let (a, b) = (viewer.row.id, peer.row.id);
+    if a == b {
         return false;
     }
-    let expanded = world.expanded;
-    // For what it promises, that rules are sound.
-    let _rules = expanded.rules();
-    some_way_joins(expanded.groups(), ways, viewer.site, peer.site)
+    // For what it promises, that nodes go by id.
+    let _users = world.users();
+    reaches(world, a, b) || reaches(world, b, a)
 }

@@ -8,5 +8,6 @@ pub mod IntoLemmas
 pub mod MatchLemmas
 pub mod OwnLemmas
 pub mod ReachLemmas
+pub mod RouteLemmas
 pub mod SetLemmas
 pub mod SiteLemmas

@@ -2,12 +2,10 @@
 use Rattle.std.proofs.Common.{◌≡◌, ◌==◌, ◌&&◌, ℕ, Bool, true, false, List, [], ◌∷◌, ap, sym, ◌∙◌, inl, inr, subst}
 use Rattle.std.specs.Prelude.{Contains, Option, Some, None, filter, map}
 use Rattle.std.specs.Bool.{beq}
-use Rattle.std.specs.List.{list_any}
 use Rattle.std.proofs.lemmas.Bool.{and_parts, both_ways, cases_Bool, eqb-true, false_from_ne_true, or_cases, or_left, or_right}
 use Rattle.tail_base.proofs.Bools.{beq-true}
-use Rattle.net_addr.specs.Bits.{Address, Block}
+use Rattle.net_addr.specs.Bits.{Address}
 use Rattle.net_addr.specs.Blocks.{holds}
-use Rattle.net_addr.specs.Routes.{sorted_routes}
 use Rattle.net_addr.specs.Tailnet.{tailnet_v4, tailnet_v6}
 use Rattle.net_addr.proofs.BlockLemmas.{holds_parts}
 use Rattle.net_rows.specs.Damage.{address_eq, damage}
@@ -27,6 +25,7 @@ use Rattle.route_rules.specs.Tailnets.{is_tailnet}
 use Rattle.route_rules.proofs.LawLemmas.{addresses_outside, internet_outside}
 use Rattle.policy_eval.specs.Sites.{AreApart, AreDistinct, is_among, serves_beyond, site_has, site_of, sites_of}
 use Rattle.policy_eval.specs.declared.site.Site.{Site}
+use Rattle.policy_eval.proofs.RouteLemmas.{kept}
 
 -- what a mapped list has comes from an element
 pub map_member : {A B : Type 0} (f : A → B) (xs : List A) (b : B) → Contains (map f xs) b → (a : A) × Contains xs a × (f a ≡ b)
@@ -102,30 +101,28 @@ one_site policy rows live sound addr a b m n h k =
 
 -- ---- what sites serve beside their own addresses
 
--- given that the routes in order are those that were given
-module _ (kept : (test : Block → Bool) (routes : List Block) → list_any test (sorted_routes routes) ≡ list_any test routes) where
-  -- it is no address of tailnets
-  beyond_outside : (policy : Option Policy) (users : List User) (m : Machine) (addr : Address) → serves_beyond (site_of policy users m) addr ≡ true → is_tailnet addr ≡ false
-  beyond_outside policy users m addr h =
-      let site = site_of policy users m in
-      elim (or_cases (some_holds site.approved addr) (site.exit && is_internet addr) h) [
-        | inl route ↦ addresses_outside kept policy (machine_login users m) m addr route
-        | inr public ↦ internet_outside addr (and_parts site.exit (is_internet addr) public).1
-      ]
+-- it is no address of tailnets
+beyond_outside : (policy : Option Policy) (users : List User) (m : Machine) (addr : Address) → serves_beyond (site_of policy users m) addr ≡ true → is_tailnet addr ≡ false
+beyond_outside policy users m addr h =
+    let site = site_of policy users m in
+    elim (or_cases (some_holds site.approved addr) (site.exit && is_internet addr) h) [
+      | inl route ↦ addresses_outside kept policy (machine_login users m) m addr route
+      | inr public ↦ internet_outside addr (and_parts site.exit (is_internet addr) public).1
+    ]
 
-  own_inside : (policy : Option Policy) (users : List User) (m : Machine) (addr : Address) → MachineKeeps users m → site_has addr (site_of policy users m) ≡ true → is_tailnet addr ≡ true
-  own_inside policy users m addr keeps h =
-      elim (or_cases (address_eq m.v4 addr) (address_eq m.v6 addr) h) [
-        | inl p ↦ or_left (holds tailnet_v4 addr) (holds tailnet_v6 addr) (ap (holds tailnet_v4) (sym (address_of m.v4 addr p)) ∙ keeps.v4)
-        | inr q ↦ or_right (holds tailnet_v4 addr) (holds tailnet_v6 addr) (ap (holds tailnet_v6) (sym (address_of m.v6 addr q)) ∙ keeps.v6)
-      ]
+own_inside : (policy : Option Policy) (users : List User) (m : Machine) (addr : Address) → MachineKeeps users m → site_has addr (site_of policy users m) ≡ true → is_tailnet addr ≡ true
+own_inside policy users m addr keeps h =
+    elim (or_cases (address_eq m.v4 addr) (address_eq m.v6 addr) h) [
+      | inl p ↦ or_left (holds tailnet_v4 addr) (holds tailnet_v6 addr) (ap (holds tailnet_v4) (sym (address_of m.v4 addr p)) ∙ keeps.v4)
+      | inr q ↦ or_right (holds tailnet_v4 addr) (holds tailnet_v6 addr) (ap (holds tailnet_v6) (sym (address_of m.v6 addr q)) ∙ keeps.v6)
+    ]
 
-  pub sites_apart : (policy : Option Policy) (rows : Rows) (live : List ℕ) → damage rows ≡ None → AreApart (sites_of policy rows live)
-  sites_apart policy rows live sound addr a b m n h =
-      let p = machine_at policy rows live a m in
-      let q = machine_at policy rows live b n in
-      let beyond : serves_beyond (site_of policy rows.users p.0) addr ≡ true = subst (λ (s : Site). serves_beyond s addr ≡ true) (sym p.2) h in
-      let outside = beyond_outside policy rows.users p.0 addr beyond in
-      let keeps = (sound_of rows sound).machines.keeps q.0 q.1 in
-      let apart : site_has addr (site_of policy rows.users q.0) ≡ false = false_from_ne_true (site_has addr (site_of policy rows.users q.0)) (λ has. both_ways (is_tailnet addr) outside (own_inside policy rows.users q.0 addr keeps has)) in
-      subst (λ (s : Site). site_has addr s ≡ false) q.2 apart
+pub sites_apart : (policy : Option Policy) (rows : Rows) (live : List ℕ) → damage rows ≡ None → AreApart (sites_of policy rows live)
+sites_apart policy rows live sound addr a b m n h =
+    let p = machine_at policy rows live a m in
+    let q = machine_at policy rows live b n in
+    let beyond : serves_beyond (site_of policy rows.users p.0) addr ≡ true = subst (λ (s : Site). serves_beyond s addr ≡ true) (sym p.2) h in
+    let outside = beyond_outside policy rows.users p.0 addr beyond in
+    let keeps = (sound_of rows sound).machines.keeps q.0 q.1 in
+    let apart : site_has addr (site_of policy rows.users q.0) ≡ false = false_from_ne_true (site_has addr (site_of policy rows.users q.0)) (λ has. both_ways (is_tailnet addr) outside (own_inside policy rows.users q.0 addr keeps has)) in
+    subst (λ (s : Site). site_has addr s ≡ false) q.2 apart

@@ -12,8 +12,6 @@ ghost use Rattle.policy_eval.specs.Sites.{AreApart, AreDistinct, serves_beyond, 
 ghost use Rattle.policy_eval.specs.declared.end.End.{End};
 ghost use Rattle.policy_eval.specs.declared.site.Site.{Site};
 
-use net_addr::sorted_routes_rise;
-
 /// A search over protocols, ports and addresses is one over rules and their destinations.
 pub fn a_reach_is_by_rules()
     ensures same { (policy : Option Policy) (sites : List Site) (target : Address → Bool) (s : End)
@@ -36,6 +34,4 @@ pub fn an_address_has_one_site()
     ensures free { (sites : List Site) (addr : Address) (site : Site) → AreApart sites
         → Contains sites site → serves_beyond site addr ≡ true
         → end_at sites addr ≡ free_end addr }
-{
-    sorted_routes_rise();
-}
+{}

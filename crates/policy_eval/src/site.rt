@@ -8,7 +8,7 @@ ghost use Rattle.route_rules.specs.Owners.{login_or_empty, machine_login};
 ghost use Rattle.policy_eval.specs.Sites.{AreApart, AreDistinct, is_among, site_of, sites_of};
 
 use crate::id_list::IdList;
-use net_addr::{Addr, Prefix, sorted_routes_rise};
+use net_addr::{Addr, Prefix};
 use net_rows::{Machine, Tables, User};
 use policy_rows::Policy;
 use route_rules::{approved, is_exit};
@@ -161,8 +161,6 @@ pub fn sites_of(
     ensures apart { IfOk result AreApart }
 {
     let machines = tables.machines();
-    // For what it states, that routes in order are those that were given.
-    sorted_routes_rise();
     let listed = IdList::of(live);
     let sites = sites_among(alloc, policy, tables, machines, &listed)?;
     Ok(sites)

@@ -6,6 +6,6 @@ pub returns : goal.returns
 returns c = record {
   one = one_site;
   own = λ sites addr site h inside has. own_end sites h addr site inside has;
-  apart = sites_apart c.sorted_routes_rise.ensures.same;
+  apart = sites_apart;
   free = λ sites addr site h inside beyond. beyond_end sites h addr site inside beyond;
 }

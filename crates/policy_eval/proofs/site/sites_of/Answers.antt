@@ -17,4 +17,4 @@ pub returns-clause-apart : goal.returns-clause-apart
 returns-clause-apart c =
     let live = ap (λ (ids : List ℕ). map (site_of (option_copied c.args.policy) c.args.tables.now.rows.users) (filter (is_among ids) c.machines-machines.result.now)) c.of-listed.ensures.value in
     let all = ap (λ (ms : List Machine). map (site_of (option_copied c.args.policy) c.args.tables.now.rows.users) (filter (is_among c.args.live.now) ms)) c.machines-machines.ensures.value in
-    subst (λ (ss : List Site). AreApart ss) (sym (c.in_ok-sites.ensures.value ∙ live ∙ all)) (sites_apart c.sorted_routes_rise.ensures.same (option_copied c.args.policy) c.args.tables.now.rows c.args.live.now c.machines-machines.ensures.sound)
+    subst (λ (ss : List Site). AreApart ss) (sym (c.in_ok-sites.ensures.value ∙ live ∙ all)) (sites_apart (option_copied c.args.policy) c.args.tables.now.rows c.args.live.now c.machines-machines.ensures.sound)
