@@ -3,7 +3,7 @@ use Rattle.std.proofs.Common.{◌≡◌, ◌<◌, ◌⊎◌, ◌&&◌, ◌||◌,
 use Rattle.std.specs.Prelude.{Contains, flat_map}
 use Rattle.std.specs.List.{list_any}
 use Rattle.std.proofs.lemmas.List.Folds.{list_any-append}
-use Rattle.std.proofs.lemmas.Bool.{and_from, and_parts, cases_Bool, ne_eqb, or_cases, or_left, or_right}
+use Rattle.std.proofs.lemmas.Bool.{and_from, and_parts, both_ways, cases_Bool, ne_eqb, or_cases, or_left, or_right}
 use Rattle.net_addr.specs.Bits.{Address, Block, family_size}
 use Rattle.net_addr.specs.Blocks.{holds}
 use Rattle.port_sets.specs.Protocols.{has_member, is_ported, members}
@@ -28,10 +28,10 @@ use Rattle.policy_eval.specs.Ends.{end_at}
 use Rattle.policy_eval.specs.Expansion.{entry_covers, source_covers}
 use Rattle.policy_eval.specs.Grants.{entry_grants, ports_hold, rule_grants, some_source}
 use Rattle.policy_eval.specs.Reach.{AreSoundRules, IsSoundRule}
-use Rattle.policy_eval.specs.Sites.{AreDistinct, serves, site_has}
+use Rattle.policy_eval.specs.Sites.{AreApart, AreDistinct, serves, site_has}
 use Rattle.policy_eval.specs.declared.end.End.{End}
 use Rattle.policy_eval.specs.declared.site.Site.{Site}
-use Rattle.policy_eval.proofs.EndLemmas.{own_end}
+use Rattle.policy_eval.proofs.EndLemmas.{beyond_end, joins_nobody, own_end, served_cases}
 use Rattle.filter_compile.specs.Admits.{AdmitsGranted, dest_admits, rule_admits, source_admits}
 use Rattle.filter_compile.specs.Filters.{entry_dests, is_of_own, own_dests, own_rule, own_source_covers, plain_rule, rule_filter, rules_filter, sources_of}
 use Rattle.filter_compile.specs.Parts.{dest_ranges, is_all, rule_or_none, with_ports}
@@ -200,15 +200,21 @@ own_grants groups sites m x y proto port e distinct inside own h =
           (dest_split groups e.to s d ∙ or_right (covers groups e.to d) (is_own_devices e.to && joins_own s d) (and_from (is_own_devices e.to) (joins_own s d) p.0 joins)) q.1,
     )
 
--- as long as machines serve no routes: what a machine serves is its own address
-served_is_own : (m : Site) (y : Address) → serves m y ≡ true → site_has y m ≡ true
-served_is_own m y h = h
+-- `autogroup:self` joins a machine to what another serves of its own addresses alone: beside them nobody holds the end
+joined_own : (sites : List Site) (m : Site) (s : End) (y : Address) → AreApart sites → Contains sites m → serves m y ≡ true → joins_own s (end_at sites y) ≡ true → site_has y m ≡ true
+joined_own sites m s y apart inside served joined =
+    elim (served_cases m y served) [
+      | inl own ↦ own
+      | inr beyond ↦
+          let free : joins_own s (end_at sites y) ≡ false = ap (λ (e : End). joins_own s e) (beyond_end sites apart y m inside beyond) ∙ joins_nobody s y in
+          absurd (both_ways (joins_own s (end_at sites y)) free joined)
+    ]
 
 -- what is granted is a hit of the one kind or the other
-grants_hit : (groups : List Group) (sites : List Site) (m : Site) (x y : Address) (proto port : ℕ) (e : Dest) → AreDistinct sites → Contains sites m → serves m y ≡ true
+grants_hit : (groups : List Group) (sites : List Site) (m : Site) (x y : Address) (proto port : ℕ) (e : Dest) → AreDistinct sites → AreApart sites → Contains sites m → serves m y ≡ true
     → entry_grants groups (end_at sites x) (end_at sites y) proto port e ≡ true
     → (plain_hit groups sites m y proto port e ≡ true) ⊎ ((is_of_own sites m x ≡ true) × (own_hit m y proto port e ≡ true))
-grants_hit groups sites m x y proto port e distinct inside served h =
+grants_hit groups sites m x y proto port e distinct apart inside served h =
     let s = end_at sites x in
     let d = end_at sites y in
     let p = and_parts (dest_covers groups e.to s d) (ports_hold e.ports proto port) h in
@@ -216,7 +222,7 @@ grants_hit groups sites m x y proto port e distinct inside served h =
       | inl covered ↦ inl (and_from (entry_covers groups sites e y && serves m y) (ports_hold e.ports proto port) (and_from (entry_covers groups sites e y) (serves m y) covered served) p.1)
       | inr self ↦
           let q = and_parts (is_own_devices e.to) (joins_own s d) self in
-          let own = served_is_own m y served in
+          let own = joined_own sites m s y apart inside served q.1 in
           inr (
             sym (own_joins sites m x y distinct inside own) ∙ q.1,
             and_from (is_own_devices e.to) ((site_has y m && serves m y) && ports_hold e.ports proto port) q.0
@@ -224,9 +230,9 @@ grants_hit groups sites m x y proto port e distinct inside served h =
           )
     ]
 
-rule_passes : (groups : List Group) (sites : List Site) (m : Site) (x y : Address) (proto port : ℕ) (r : Rule) → AreDistinct sites → Contains sites m
+rule_passes : (groups : List Group) (sites : List Site) (m : Site) (x y : Address) (proto port : ℕ) (r : Rule) → AreDistinct sites → AreApart sites → Contains sites m
     → (plain_passes groups sites m x y proto port r || own_passes groups sites m x y proto port r) ≡ (serves m y && rule_grants groups (end_at sites x) (end_at sites y) proto port r)
-rule_passes groups sites m x y proto port r distinct inside =
+rule_passes groups sites m x y proto port r distinct apart inside =
     let s = end_at sites x in
     let d = end_at sites y in
     let has = has_member r.protos proto in
@@ -253,7 +259,7 @@ rule_passes groups sites m x y proto port r distinct inside =
     let q = and_parts (has && from) (list_any granted r.dests) p.1 in
     let k = and_parts has from q.0 in
     let hit = list_any_found granted r.dests q.1 in
-    elim (grants_hit groups sites m x y proto port hit.0 distinct inside p.0 hit.2) [
+    elim (grants_hit groups sites m x y proto port hit.0 distinct apart inside p.0 hit.2) [
       | inl plain ↦ or_left (plain_passes groups sites m x y proto port r) (own_passes groups sites m x y proto port r)
           (and_from (has && from) (list_any (plain_hit groups sites m y proto port) r.dests) q.0 (list_any_is (plain_hit groups sites m y proto port) r.dests hit.0 hit.1 plain))
       | inr self ↦ or_right (plain_passes groups sites m x y proto port r) (own_passes groups sites m x y proto port r)
@@ -261,11 +267,11 @@ rule_passes groups sites m x y proto port r distinct inside =
     ])
 
 -- A machine's filter admits exactly the flows to what the machine serves that are granted.
-pub filter_admits : (groups : List Group) (rules : List Rule) (sites : List Site) (m : Site) → AreDistinct sites → AreSoundRules rules → Contains sites m
+pub filter_admits : (groups : List Group) (rules : List Rule) (sites : List Site) (m : Site) → AreDistinct sites → AreApart sites → AreSoundRules rules → Contains sites m
     → AdmitsGranted (record { groups = groups; rules = rules; sites = sites }) m (rules_filter groups rules sites m)
-filter_admits groups rules sites m distinct sound inside x y proto port from small =
+filter_admits groups rules sites m distinct apart sound inside x y proto port from small =
     let granted = rule_grants groups (end_at sites x) (end_at sites y) proto port in
     any_flat_map (rule_admits x y proto port) (rule_filter groups sites m) rules
     ∙ (any_same (λ r. list_any (rule_admits x y proto port) (rule_filter groups sites m r)) (λ r. serves m y && granted r) rules
-    (λ r at. rule_filter_admits groups sites m x y proto port r from small (sound r at) ∙ rule_passes groups sites m x y proto port r distinct inside)
+    (λ r at. rule_filter_admits groups sites m x y proto port r from small (sound r at) ∙ rule_passes groups sites m x y proto port r distinct apart inside)
     ∙ any_and (serves m y) granted rules)

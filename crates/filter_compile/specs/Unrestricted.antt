@@ -1,10 +1,12 @@
 -- The packet filter of a machine if no policy is in force.
-use Rattle.std.specs.Prelude.{◌≡◌, ◌<◌, ◌^◌, true, false, List, [], ◌∷◌}
+use Rattle.std.specs.Prelude.{◌≡◌, ◌<◌, ◌^◌, true, false, List, [], ◌∷◌, map}
 use Rattle.net_addr.specs.Bits.{Block}
 use Rattle.net_addr.specs.Blocks.{prefix_of_addr}
+use Rattle.range_sets.specs.Canonical.{canonical}
 use Rattle.tailcfg.specs.declared.filter.DestRange.{DestRange}
 use Rattle.tailcfg.specs.declared.filter.FilterRule.{FilterRule}
 use Rattle.tailcfg.specs.declared.filter.Sources.TheVariants as src
+use Rattle.policy_eval.specs.Sites.{serves}
 use Rattle.policy_eval.specs.declared.site.Site.{Site}
 
 -- one of the machine's addresses is of IPv4, and the other of IPv6
@@ -18,10 +20,14 @@ pub record HasBothFamilies (m : Site) : Type 0 where
 abbrev pub at_all_ports : Block → DestRange
 at_all_ports to = record { to = to; ports = record { first = 0; last = 65535 } }
 
--- one rule: from everywhere to the machine's two addresses, by ICMP, TCP, UDP and ICMPv6
+-- the prefixes of the machine's two addresses
+abbrev pub own_two : Site → List Block
+own_two m = prefix_of_addr m.v4 ∷ prefix_of_addr m.v6 ∷ []
+
+-- one rule: from everywhere to what the machine serves, by ICMP, TCP, UDP and ICMPv6
 abbrev pub unrestricted : Site → List FilterRule
 unrestricted m = record {
   sources = src.Any;
-  dests = at_all_ports (prefix_of_addr m.v4) ∷ at_all_ports (prefix_of_addr m.v6) ∷ [];
+  dests = map at_all_ports (canonical (serves m));
   protos = 1 ∷ 6 ∷ 17 ∷ 58 ∷ [];
 } ∷ []

@@ -161,6 +161,7 @@ pub fn filter_for(
     ensures exact { IfOk result (AdmitsGranted expanded.now machine.now) }
 {
     let rules = expanded.rules();
+    // The sites also promise that nobody has an address that a route serves.
     let place = place_of(expanded.sites(), machine);
     let mut out = Items::new(alloc);
     for (at, rule) in rules.iter().enumerate() {

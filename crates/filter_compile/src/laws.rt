@@ -1,44 +1,48 @@
 //! Laws of the definitions. None of these functions does anything: each states a law.
-ghost use Rattle.std.specs.Prelude.{◌≡◌, ◌<◌, ◌&&◌, ℕ, Contains, List, None, Option, Some};
+ghost use Rattle.std.specs.Prelude.{◌≡◌, ◌<◌, ◌&&◌, ℕ, [], Contains, List, None, Option, Some, false};
 ghost use Rattle.net_addr.specs.Bits.{Address, family_size};
 ghost use Rattle.net_rows.specs.Damage.{damage};
 ghost use Rattle.net_rows.specs.declared.rows.Rows.{Rows};
+ghost use Rattle.range_sets.specs.Canonical.{canonical};
 ghost use Rattle.policy_rows.specs.declared.group.Group.{Group};
 ghost use Rattle.policy_rows.specs.declared.policy.Policy.{Policy};
 ghost use Rattle.policy_rows.specs.declared.rule.Rule.{Rule};
 ghost use Rattle.policy_eval.specs.Ends.{end_at};
 ghost use Rattle.policy_eval.specs.Grants.{grants, rules_of, some_rule_grants};
 ghost use Rattle.policy_eval.specs.Reach.{AreSoundRules};
-ghost use Rattle.policy_eval.specs.Sites.{AreDistinct, serves, sites_of};
+ghost use Rattle.policy_eval.specs.Sites.{AreApart, AreDistinct, serves, sites_of};
 ghost use Rattle.policy_eval.specs.declared.site.Site.{Site};
 ghost use Rattle.filter_compile.specs.Admits.{admits};
 ghost use Rattle.filter_compile.specs.Filters.{filter_of, rules_filter};
-ghost use Rattle.filter_compile.specs.Unrestricted.{HasBothFamilies, unrestricted};
+ghost use Rattle.filter_compile.specs.Unrestricted.{HasBothFamilies, own_two, unrestricted};
 
 /// A machine's filter admits exactly the flows to what the machine serves that are granted: by rules,
 /// and so by a policy.
 pub fn a_filter_admits_what_is_granted()
     ensures by_rules { (groups : List Group) (rules : List Rule) (sites : List Site) (m : Site)
-        → AreDistinct sites → AreSoundRules rules → Contains sites m
+        → AreDistinct sites → AreApart sites → AreSoundRules rules → Contains sites m
         → (x y : Address) (proto port : ℕ) → x.bits < family_size x.v6 → y.bits < family_size y.v6
         → admits (rules_filter groups rules sites m) x y proto port ≡ (serves m y
         && some_rule_grants groups rules (end_at sites x) (end_at sites y) proto port) }
     ensures by_policy { (policy : Option Policy) (sites : List Site) (m : Site)
-        → AreDistinct sites → AreSoundRules (rules_of policy) → Contains sites m
+        → AreDistinct sites → AreApart sites → AreSoundRules (rules_of policy)
+        → Contains sites m
         → (x y : Address) (proto port : ℕ) → x.bits < family_size x.v6 → y.bits < family_size y.v6
         → admits (filter_of policy sites m) x y proto port
         ≡ (serves m y && grants policy (end_at sites x) (end_at sites y) proto port) }
 {}
 
-/// Without a policy, or under one without `acls`, a machine's filter lets everybody in. It asks that
-/// the machine has an address of each family, which each live machine has in tables that keep their
-/// rules.
+/// Without a policy, or under one without `acls`, a machine's filter lets everybody in to what the
+/// machine serves; to its two addresses, if it serves no routes and is no exit node. It asks that the
+/// machine has an address of each family, which each live machine has in tables that keep their rules.
 pub fn a_filter_without_rules_is_open()
     ensures without_policy { (sites : List Site) (m : Site) → HasBothFamilies m
         → filter_of None sites m ≡ unrestricted m }
     ensures without_rules { (policy : Policy) (sites : List Site) (m : Site)
         → policy.rules ≡ None → HasBothFamilies m
         → filter_of (Some policy) sites m ≡ unrestricted m }
-    ensures families { (rows : Rows) (live : List ℕ) (m : Site) → damage rows ≡ None
-        → Contains (sites_of rows live) m → HasBothFamilies m }
+    ensures alone { (m : Site) → HasBothFamilies m → m.approved ≡ [] → m.exit ≡ false
+        → canonical (serves m) ≡ own_two m }
+    ensures families { (policy : Option Policy) (rows : Rows) (live : List ℕ) (m : Site)
+        → damage rows ≡ None → Contains (sites_of policy rows live) m → HasBothFamilies m }
 {}

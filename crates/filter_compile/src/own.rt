@@ -11,6 +11,7 @@ use crate::dest_ranges::shared_prefixes;
 use net_addr::Prefix;
 use policy_eval::{Site, are_own};
 use range_sets::RangeSet;
+use route_rules::served_with;
 use std::alloc::Global;
 use tail_base::{Items, NoMemory};
 
@@ -34,12 +35,13 @@ fn address_set(alloc: Global, machine: &Site) -> Result<RangeSet, NoMemory>
     RangeSet::of_prefixes(alloc, list.as_slice())
 }
 
-/// What a machine serves.
+/// What a machine serves: its own addresses, its approved routes, and as an exit node the internet.
 pub(crate) fn served_set(alloc: Global, machine: &Site) -> Result<RangeSet, NoMemory>
     ensures held { IfOk result (λ set. (addr : Address)
         → has set addr ≡ serves machine.now addr) }
 {
-    address_set(alloc, machine)
+    let approved = machine.approved.as_slice();
+    served_with(alloc, machine.v4, machine.v6, approved, machine.exit)
 }
 
 /// The canonical prefixes of what a machine serves of its own addresses.

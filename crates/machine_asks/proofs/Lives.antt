@@ -28,7 +28,7 @@ live_found s m kept h =
     let inside : Contains ids m.id = map_member (λ (r : Machine). r.id) (filter (is_live s) machines) m alive in
     let listed : is_among ids m ≡ true = list_any_is (λ (other : ℕ). other == m.id) ids m.id inside (eq-eqb m.id m.id refl) in
     let here : Contains (filter (is_among ids) machines) m = filtered_member (is_among ids) machines m h.inside listed in
-    let there : Contains (world_of s).nodes (node_in s m) = map_member (live_node s.rows.users (online_ids s.presence)) (filter (is_among ids) machines) m here in
+    let there : Contains (world_of s).nodes (node_in s m) = map_member (live_node s.policy s.rows.users (online_ids s.presence)) (filter (is_among ids) machines) m here in
     row_at_is (λ (n : Node). n.row.id) (world_of s).nodes (node_in s m) (seen_sound s.settings s.policy s.rows ids (online_ids s.presence) kept).nodes there
 
 -- the world of the state's parts is the state's

@@ -32,7 +32,7 @@ world_of s = seen_of s.settings s.policy s.rows (live_ids s) (online_ids s.prese
 
 -- a machine of the state, as it is seen
 abbrev pub node_in : State → Machine → Node
-node_in s m = live_node s.rows.users (online_ids s.presence) m
+node_in s m = live_node s.policy s.rows.users (online_ids s.presence) m
 
 -- the map of a machine, computed afresh
 abbrev pub fresh_for : State → Machine → View

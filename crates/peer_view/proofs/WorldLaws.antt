@@ -31,8 +31,8 @@ use Rattle.peer_view.proofs.LiveLaws.{pair_is, sites_ascend}
 pub world_ascends : (made : Expansion) (policy : Option Policy) (rows : Rows) (live : List ℕ) (sites : List Site) → IsWorld made policy rows live → sites ≡ made.sites
     → IsAscending (λ (s : Site). s.id) sites
 world_ascends made policy rows live sites world is =
-    let whole : sites ≡ sites_of rows live = is ∙ ap (λ (x : Expansion). x.sites) world.fits in
-    subst (λ (ss : List Site). IsAscending (λ (s : Site). s.id) ss) (sym whole) (sites_ascend rows live world.sound)
+    let whole : sites ≡ sites_of policy rows live = is ∙ ap (λ (x : Expansion). x.sites) world.fits in
+    subst (λ (ss : List Site). IsAscending (λ (s : Site). s.id) ss) (sym whole) (sites_ascend policy rows live world.sound)
 
 pub world_pair : (settings : SettingsFields) (policy : Option Policy) (rows : Rows) (live online : List ℕ) (made : Expansion) (w : Seen) → IsWorld made policy rows live
     → seen_of settings policy rows live online ≡ w → AreSoundRules made.rules
@@ -41,15 +41,15 @@ pub world_pair : (settings : SettingsFields) (policy : Option Policy) (rows : Ro
 world_pair settings policy rows live online made w world seen sound groups rules sites gs rs ss a b result is =
     let g : groups ≡ groups_of policy = gs ∙ ap (λ (x : Expansion). x.groups) world.fits in
     let r : rules ≡ rules_of policy = rs ∙ ap (λ (x : Expansion). x.rules) world.fits in
-    let s : sites ≡ sites_of rows live = ss ∙ ap (λ (x : Expansion). x.sites) world.fits in
+    let s : sites ≡ sites_of policy rows live = ss ∙ ap (λ (x : Expansion). x.sites) world.fits in
     let sound' : AreSoundRules (rules_of policy) = subst (λ (x : Expansion). AreSoundRules x.rules) world.fits sound in
-    let moved : id_reaches groups rules sites a b ≡ id_reaches (groups_of policy) (rules_of policy) (sites_of rows live) a b = λ i. id_reaches (g i) (r i) (s i) a b in
+    let moved : id_reaches groups rules sites a b ≡ id_reaches (groups_of policy) (rules_of policy) (sites_of policy rows live) a b = λ i. id_reaches (g i) (r i) (s i) a b in
     is ∙ (moved ∙ (sym (pair_is settings policy rows live online a b sound' world.sound) ∙ ap (λ (x : Seen). of_ids (node_reaches x) x a b) seen))
 
 -- ---- what is lent of it
 
-pub sites_are : (settings : SettingsFields) (policy : Option Policy) (rows : Rows) (live online : List ℕ) → sites_seen (seen_of settings policy rows live online) ≡ sites_of rows live
-sites_are settings policy rows live online = map_twice (live_node rows.users online) (λ (n : Node). n.site) (filter (is_among live) rows.machines)
+pub sites_are : (settings : SettingsFields) (policy : Option Policy) (rows : Rows) (live online : List ℕ) → sites_seen (seen_of settings policy rows live online) ≡ sites_of policy rows live
+sites_are settings policy rows live online = map_twice (live_node policy rows.users online) (λ (n : Node). n.site) (filter (is_among live) rows.machines)
 
 pub expansion_is : (settings : SettingsFields) (policy : Option Policy) (rows : Rows) (live online : List ℕ) (made : Expansion) (w : Seen) → IsWorld made policy rows live
     → seen_of settings policy rows live online ≡ w → made ≡ expansion_seen w
@@ -59,17 +59,17 @@ expansion_is settings policy rows live online made w world seen =
 
 nodes_ascend : (settings : SettingsFields) (policy : Option Policy) (rows : Rows) (live online : List ℕ) → damage rows ≡ None → IsAscending (λ (n : Node). n.row.id) (seen_of settings policy rows live online).nodes
 nodes_ascend settings policy rows live online sound =
-    ascending_map (λ (m : Machine). m.id) (live_node rows.users online) (λ (n : Node). n.row.id) (λ m. refl) (filter (is_among live) rows.machines)
+    ascending_map (λ (m : Machine). m.id) (live_node policy rows.users online) (λ (n : Node). n.row.id) (λ m. refl) (filter (is_among live) rows.machines)
     (ascending_filter (λ (m : Machine). m.id) (is_among live) rows.machines (sound_of rows sound).machines.ascend)
 
 -- the row of a live machine
 pub row_of_node : (settings : SettingsFields) (policy : Option Policy) (rows : Rows) (live online : List ℕ) (n : Node) → Contains (seen_of settings policy rows live online).nodes n
-    → Contains rows.machines n.row × (live_node rows.users online n.row ≡ n)
+    → Contains rows.machines n.row × (live_node policy rows.users online n.row ≡ n)
 row_of_node settings policy rows live online n inside =
-    let at = mapped_member (live_node rows.users online) (filter (is_among live) rows.machines) n inside in
+    let at = mapped_member (live_node policy rows.users online) (filter (is_among live) rows.machines) n inside in
     let row : at.0 ≡ n.row = ap (λ (z : Node). z.row) at.2 in
     let here : Contains rows.machines at.0 = filter_member (is_among live) rows.machines at.0 at.1 in
-    (subst (λ (m : Machine). Contains rows.machines m) row here, ap (live_node rows.users online) (sym row) ∙ at.2)
+    (subst (λ (m : Machine). Contains rows.machines m) row here, ap (live_node policy rows.users online) (sym row) ∙ at.2)
 
 -- What is seen of tables that keep their rules.
 pub seen_sound : (settings : SettingsFields) (policy : Option Policy) (rows : Rows) (live online : List ℕ) → damage rows ≡ None → IsSoundSeen (seen_of settings policy rows live online)
@@ -94,26 +94,31 @@ node_is settings policy rows live online s sound inside =
     let at = mapped_member (λ (n : Node). n.site) w.nodes s inside in
     let n = at.0 in
     let own = row_of_node settings policy rows live online n at.1 in
-    let site : site_of rows.users n.row ≡ s = ap (λ (z : Node). z.site) own.1 ∙ at.2 in
+    let site : site_of policy rows.users n.row ≡ s = ap (λ (z : Node). z.site) own.1 ∙ at.2 in
     let id : n.row.id ≡ s.id = ap (λ (z : Site). z.id) site in
     let row : machine_with rows.machines n.row.id ≡ Some n.row = row_at_is (λ (m : Machine). m.id) rows.machines n.row (sound_of rows sound).machines.ascend own.0 in
     let node : node_with w n.row.id ≡ Some n = row_at_is (λ (z : Node). z.row.id) w.nodes n (nodes_ascend settings policy rows live online sound) at.1 in
-    let whole : live_node rows.users online n.row ≡ record { row = n.row; site = s; online = is_listed online s.id } =
+    let whole : live_node policy rows.users online n.row ≡ record { row = n.row; site = s; online = is_listed online s.id } =
     λ i. record { row = n.row; site = site i; online = is_listed online (id i) } in
     (n.row, ap (λ (k : ℕ). machine_with rows.machines k) (sym id) ∙ row, ap (λ (k : ℕ). node_with w k) (sym id) ∙ (node ∙ ap (λ (z : Node). Some z) (sym own.1 ∙ whole)))
 
 -- an id without a site is no live machine's
-pub site_absent : (settings : SettingsFields) (policy : Option Policy) (rows : Rows) (live online : List ℕ) (k : ℕ) → site_with (sites_of rows live) k ≡ None → node_with (seen_of settings policy rows live online) k ≡ None
+pub site_absent : (settings : SettingsFields) (policy : Option Policy) (rows : Rows) (live online : List ℕ) (k : ℕ) → site_with (sites_of policy rows live) k ≡ None → node_with (seen_of settings policy rows live online) k ≡ None
 site_absent settings policy rows live online k none =
     let machines = filter (is_among live) rows.machines in
     let at : Option Machine = find (λ (m : Machine). m.id == k) machines in
-    let nodes : node_with (seen_of settings policy rows live online) k ≡ option_map (live_node rows.users online) at = find_map (live_node rows.users online) (λ (n : Node). n.row.id == k) machines in
-    let sites : site_with (sites_of rows live) k ≡ option_map (site_of rows.users) at = find_map (site_of rows.users) (λ (s : Site). s.id == k) machines in
+    let nodes : node_with (seen_of settings policy rows live online) k ≡ option_map (live_node policy rows.users online) at = find_map (live_node policy rows.users online) (λ (n : Node). n.row.id == k) machines in
+    let sites : site_with (sites_of policy rows live) k ≡ option_map (site_of policy rows.users) at = find_map (site_of policy rows.users) (λ (s : Site). s.id == k) machines in
     nodes ∙ go at (sym sites ∙ none)
   where
-    go : (o : Option Machine) → option_map (site_of rows.users) o ≡ None → option_map (live_node rows.users online) o ≡ None
+    go : (o : Option Machine) → option_map (site_of policy rows.users) o ≡ None → option_map (live_node policy rows.users online) o ≡ None
     go None e = refl
     go (Some m) e = absurd (cc)
+
+-- a row that was found, with the site and whether it is online
+row_matched : (s : Site) (online : List ℕ) (m n : Machine) (b : Bool) (o : Option Node) → m ≡ n → b ≡ is_listed online s.id
+    → o ≡ Some (record { row = n; site = s; online = is_listed online s.id }) → Some (record { row = m; site = s; online = b }) ≡ o
+row_matched s online m n b o same listed at = (λ i. Some (record { row = same i; site = s; online = listed i })) ∙ sym at
 
 -- what a lookup of the row gives
 pub row_looked_up : (settings : SettingsFields) (policy : Option Policy) (rows : Rows) (live online : List ℕ) (w : Seen) → seen_of settings policy rows live online ≡ w → damage rows ≡ None
@@ -124,8 +129,7 @@ row_looked_up settings policy rows live online w seen sound s inside o is m foun
     let at = node_is settings policy rows live online s sound here in
     let both : Some m ≡ Some at.0 = sym found ∙ (is ∙ at.1) in
     let same : m ≡ at.0 = cc in
-    let whole : record { row = m; site = s; online = b } ≡ record { row = at.0; site = s; online = is_listed online s.id } = λ i. record { row = same i; site = s; online = listed i } in
-    ap (λ (n : Node). Some n) whole ∙ (sym at.2 ∙ ap (λ (x : Seen). node_with x s.id) seen)
+    row_matched s online m at.0 b (node_with (seen_of settings policy rows live online) s.id) same listed at.2 ∙ ap (λ (x : Seen). node_with x s.id) seen
 
 pub row_missing : (settings : SettingsFields) (policy : Option Policy) (rows : Rows) (live online : List ℕ) (w : Seen) → seen_of settings policy rows live online ≡ w → damage rows ≡ None
     → (s : Site) → Contains (sites_seen w) s → (o : Option Machine) → o ≡ machine_with rows.machines s.id → o ≡ None → None ≡ node_with w s.id
@@ -144,8 +148,8 @@ world_sites settings policy rows live online made w world seen sites is =
 pub site_missing : (settings : SettingsFields) (policy : Option Policy) (rows : Rows) (live online : List ℕ) (made : Expansion) (w : Seen) → IsWorld made policy rows live
     → seen_of settings policy rows live online ≡ w → (sites : List Site) → sites ≡ made.sites → (k : ℕ) (o : Option Site) → o ≡ site_with sites k → o ≡ None → None ≡ node_with w k
 site_missing settings policy rows live online made w world seen sites is k o looked found =
-    let whole : sites ≡ sites_of rows live = is ∙ ap (λ (x : Expansion). x.sites) world.fits in
-    let none : site_with (sites_of rows live) k ≡ None = ap (λ (ss : List Site). site_with ss k) (sym whole) ∙ (sym looked ∙ found) in
+    let whole : sites ≡ sites_of policy rows live = is ∙ ap (λ (x : Expansion). x.sites) world.fits in
+    let none : site_with (sites_of policy rows live) k ≡ None = ap (λ (ss : List Site). site_with ss k) (sym whole) ∙ (sym looked ∙ found) in
     sym (site_absent settings policy rows live online k none) ∙ ap (λ (x : Seen). node_with x k) seen
 
 pub site_looked_up : (settings : SettingsFields) (policy : Option Policy) (rows : Rows) (live online : List ℕ) (made : Expansion) (w : Seen) → IsWorld made policy rows live
@@ -159,7 +163,18 @@ site_looked_up settings policy rows live online made w world seen sites is k o l
 -- ---- by places
 
 pub any_site : Site
-any_site = record { id = 0; user = 0; login = []; v4 = record { v6 = false; bits = 0 }; v6 = record { v6 = true; bits = 0 }; tags = [] }
+any_site = record {
+  id = 0;
+  user = 0;
+  login = [];
+  v4 = record { v6 = false; bits = 0 };
+  v6 = record { v6 = true; bits = 0 };
+  tags = [];
+  routes = [];
+  by_operator = [];
+  approved = [];
+  exit = false;
+}
 
 -- what stands at the places of two ids
 pub places_reach : (groups : List Group) (rules : List Rule) (sites slice : List Site) (a b i j : ℕ) → slice ≡ sites → StandsAt (λ (s : Site). s.id) slice a i → StandsAt (λ (s : Site). s.id) slice b j

@@ -29,9 +29,9 @@ pub record Seen : Type 0 where
   pub extras : List DnsExtra
   pub nodes : List Node
 
--- the node of a machine's row, by the ids of those that are online
-abbrev pub live_node : List User → List ℕ → Machine → Node
-live_node users online m = record { row = m; site = site_of users m; online = is_among online m }
+-- the node of a machine's row under a policy, by the ids of those that are online
+abbrev pub live_node : Option Policy → List User → List ℕ → Machine → Node
+live_node policy users online m = record { row = m; site = site_of policy users m; online = is_among online m }
 
 -- what is seen of settings, a policy and tables, by the ids of the live machines and of those online
 abbrev pub seen_of : SettingsFields → Option Policy → Rows → List ℕ → List ℕ → Seen
@@ -40,7 +40,7 @@ seen_of settings policy rows live online = record {
   policy = policy;
   users = rows.users;
   extras = rows.extras;
-  nodes = map (live_node rows.users online) (filter (is_among live) rows.machines);
+  nodes = map (live_node policy rows.users online) (filter (is_among live) rows.machines);
 }
 
 -- the live machines as policies see them

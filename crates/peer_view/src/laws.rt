@@ -5,7 +5,7 @@ ghost use Rattle.net_rows.specs.declared.rows.Rows.{Rows};
 ghost use Rattle.policy_rows.specs.declared.policy.Policy.{Policy};
 ghost use Rattle.policy_eval.specs.Grants.{groups_of, rules_of};
 ghost use Rattle.policy_eval.specs.Reach.{AreSoundRules};
-ghost use Rattle.policy_eval.specs.Sites.{AreDistinct, sites_of};
+ghost use Rattle.policy_eval.specs.Sites.{AreApart, AreDistinct, sites_of};
 ghost use Rattle.policy_eval.specs.declared.site.Site.{Site};
 ghost use Rattle.settings.specs.declared.fields.SettingsFields.{SettingsFields};
 ghost use Rattle.peer_view.specs.Seen.{Node, Seen, node_reaches, seen_of, sees};
@@ -16,13 +16,13 @@ ghost use Rattle.peer_view.specs.Reaches.{reaches};
 /// other machines there are.
 pub fn reach_is_local()
     ensures sites { (policy : Option Policy) (sites : List Site) (a b : Site)
-        → AreSoundRules (rules_of policy) → AreDistinct sites
+        → AreSoundRules (rules_of policy) → AreDistinct sites → AreApart sites
         → Contains sites a → Contains sites b → IsSoundSite b
         → reaches policy sites a b ≡ site_reaches (groups_of policy) (rules_of policy) a b }
     ensures tables { (policy : Option Policy) (rows : Rows) (live : List ℕ) (a b : Site)
         → AreSoundRules (rules_of policy) → damage rows ≡ None
-        → Contains (sites_of rows live) a → Contains (sites_of rows live) b
-        → reaches policy (sites_of rows live) a b
+        → Contains (sites_of policy rows live) a → Contains (sites_of policy rows live) b
+        → reaches policy (sites_of policy rows live) a b
         ≡ site_reaches (groups_of policy) (rules_of policy) a b }
     ensures nodes { (settings : SettingsFields) (policy : Option Policy) (rows : Rows)
         (live online : List ℕ) (a b : Node)

@@ -25,7 +25,7 @@ or_refused (Err fault) = Err (PolicyRefused fault.code fault.place)
 
 -- the policy's tests, over the tables and the machines that are live
 abbrev pub tested_in : State → Policy → Result (Unit {0}) PolicyFault
-tested_in s policy = tested policy (sites_of s.rows (live_ids s))
+tested_in s policy = tested policy (sites_of (Some policy) s.rows (live_ids s))
 
 -- this is the text that is kept
 abbrev pub is_kept : Option (List ℕ) → List ℕ → Bool

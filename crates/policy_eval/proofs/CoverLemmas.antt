@@ -10,12 +10,13 @@ use Rattle.range_sets.specs.Sets.{Ranges, has, some_holds}
 use Rattle.policy_rows.specs.declared.group.Group.{Group}
 use Rattle.policy_rows.specs.declared.rule.Rule.{Rule}
 use Rattle.policy_rows.specs.declared.selector.Selector.{Selector}
-use Rattle.policy_eval.specs.ByRule.{IsSoundSite, covers_site, site_end}
-use Rattle.policy_eval.specs.Covering.{AreIndexed, Covering, IsCovering, IsGrown, cover_flag, flag_at, has_site, place_nets, some_flag}
+use Rattle.policy_eval.specs.Beyond.{covers_into}
+use Rattle.policy_eval.specs.ByRule.{IsSoundSite, covers_served, covers_site, site_end}
+use Rattle.policy_eval.specs.Covering.{AreIndexed, Covering, IsCovering, IsGrown, beyond_at, cover_flag, covers_by, flag_at, flags_by, has_site, place_nets, served_at, some_flag}
 use Rattle.policy_eval.specs.Covers.{covers}
 use Rattle.policy_eval.specs.Ends.{end_at}
 use Rattle.policy_eval.specs.Expansion.{AreFlags, AreMatched, CoverFits, IsCoverAt, IsSetOf, source_covers}
-use Rattle.policy_eval.specs.Sites.{AreDistinct}
+use Rattle.policy_eval.specs.Sites.{AreDistinct, serves_beyond}
 use Rattle.policy_eval.specs.declared.cover.Cover.{Cover}
 use Rattle.policy_eval.specs.declared.end.End.{End}
 use Rattle.policy_eval.specs.declared.site.Site.{Site}
@@ -122,22 +123,36 @@ flags_fit groups sites selector set flags distinct sound is made at site there =
     let flag = site_flag groups sites selector set site distinct inside (sound site inside) is in
     ap (λ (bs : List Bool). slice_get bs at) made ∙ (get_map (has_site set) sites at site there ∙ ap (λ (b : Bool). Some b) flag)
 
+-- what it covers that sites serve
+pub served_fit : (groups : List Group) (sites : List Site) (selector : Selector) (flags slice served : List Bool) → AreFlags (λ site. covers_site groups site selector) sites flags → slice ≡ flags
+    → AreIndexed (served_at slice sites selector) (length sites) served → AreFlags (λ site. covers_served groups site selector) sites served
+served_fit groups sites selector flags slice served fit same made at site there =
+    let own : flag_at slice at ≡ covers_site groups site selector =
+    ap (λ (bs : List Bool). flag_at bs at) same ∙ ap (λ (o : Option Bool). option_map_or (λ b. b) o false) (fit at site there) in
+    let beyond : beyond_at sites selector at ≡ covers_into (serves_beyond site) selector = ap (λ (o : Option Site). option_map_or (λ s. covers_into (serves_beyond s) selector) o false) there in
+    made.at at (get_inside sites at site there) ∙ (λ i. Some (own i || beyond i))
+
+by_fits : (served : Bool) (groups : List Group) (sites : List Site) (selector : Selector) (cover : Cover) → CoverFits groups sites selector cover
+    → AreFlags (λ site. covers_by served groups site selector) sites (flags_by served cover)
+by_fits true groups sites selector cover fits = fits.served
+by_fits false groups sites selector cover fits = fits.flags
+
 -- the flag of what stands at a place
-at_place : (groups : List Group) (sites : List Site) (list : List Cover) (selector : Selector) (place at : ℕ) (site : Site) → slice_get sites at ≡ Some site
-    → IsCoverAt groups sites list selector place → covers_site groups site selector ≡ cover_flag list at place
-at_place groups sites list selector place at site there fits =
-    let flag : flag_at (fits.0).flags at ≡ covers_site groups site selector = ap (λ (o : Option Bool). option_map_or (λ b. b) o false) (fits.2.flags at site there) in
-    let whole : cover_flag list at place ≡ flag_at (fits.0).flags at = ap (λ (o : Option Cover). option_map_or (λ c. flag_at c.flags at) o false) fits.1 in
+at_place : (served : Bool) (groups : List Group) (sites : List Site) (list : List Cover) (selector : Selector) (place at : ℕ) (site : Site) → slice_get sites at ≡ Some site
+    → IsCoverAt groups sites list selector place → covers_by served groups site selector ≡ cover_flag served list at place
+at_place served groups sites list selector place at site there fits =
+    let flag : flag_at (flags_by served (fits.0)) at ≡ covers_by served groups site selector = ap (λ (o : Option Bool). option_map_or (λ b. b) o false) (by_fits served groups sites selector (fits.0) fits.2 at site there) in
+    let whole : cover_flag served list at place ≡ flag_at (flags_by served (fits.0)) at = ap (λ (o : Option Cover). option_map_or (λ c. flag_at (flags_by served c) at) o false) fits.1 in
     sym (whole ∙ flag)
 
 -- flags of what stands at several places are those of all that it covers
-pub some_flags_fit : {A : Type 0} (to : A → Selector) (groups : List Group) (sites : List Site) (list : List Cover) (xs : List A) (places : List ℕ) (flags : List Bool)
-    → AreMatched (λ x place. IsCoverAt groups sites list (to x) place) xs places → AreIndexed (some_flag list places) (length sites) flags
-    → AreFlags (λ site. list_any (λ x. covers_site groups site (to x)) xs) sites flags
-some_flags_fit {A} to groups sites list xs places flags matched made at site there =
+pub some_flags_fit : {A : Type 0} (served : Bool) (to : A → Selector) (groups : List Group) (sites : List Site) (list : List Cover) (xs : List A) (places : List ℕ) (flags : List Bool)
+    → AreMatched (λ x place. IsCoverAt groups sites list (to x) place) xs places → AreIndexed (some_flag served list places) (length sites) flags
+    → AreFlags (λ site. list_any (λ x. covers_by served groups site (to x)) xs) sites flags
+some_flags_fit {A} served to groups sites list xs places flags matched made at site there =
     let inside = get_inside sites at site there in
-    let same = matched_any (λ x place. IsCoverAt groups sites list (to x) place) (λ x. covers_site groups site (to x)) (cover_flag list at)
-    (λ x place fits. at_place groups sites list (to x) place at site there fits) xs places matched in
+    let same = matched_any (λ x place. IsCoverAt groups sites list (to x) place) (λ x. covers_by served groups site (to x)) (cover_flag served list at)
+    (λ x place fits. at_place served groups sites list (to x) place at site there fits) xs places matched in
     made.at at inside ∙ ap (λ (b : Bool). Some b) (sym same)
 
 -- ---- lists of covers that grow
@@ -195,15 +210,15 @@ sources_held groups sites list slice r places addr small is h =
     ∙ sym (matched_any (IsCoverAt groups sites list) (λ s. covers groups s (end_at sites addr)) (λ place. some_holds (place_nets list place) addr)
     (one_held groups sites list addr small) r.sources places h)
 
-pub flags_of_places : {A : Type 0} (to : A → Selector) (groups : List Group) (sites slice : List Site) (list covers : List Cover) (xs : List A) (places looked : List ℕ) (flags : List Bool)
-    → slice ≡ sites → covers ≡ list → looked ≡ places → AreMatched (λ x place. IsCoverAt groups sites list (to x) place) xs places → AreIndexed (some_flag covers looked) (length slice) flags
-    → AreFlags (λ site. list_any (λ x. covers_site groups site (to x)) xs) sites flags
-flags_of_places {A} to groups sites slice list covers xs places looked flags one two three matched made =
-    let moved : AreIndexed (some_flag list places) (length sites) flags =
-    subst (λ (ss : List Site). AreIndexed (some_flag list places) (length ss) flags) one
-    (subst (λ (ps : List ℕ). AreIndexed (some_flag list ps) (length slice) flags) three
-    (subst (λ (cs : List Cover). AreIndexed (some_flag cs looked) (length slice) flags) two made)) in
-    some_flags_fit to groups sites list xs places flags matched moved
+pub flags_of_places : {A : Type 0} (served : Bool) (to : A → Selector) (groups : List Group) (sites slice : List Site) (list covers : List Cover) (xs : List A) (places looked : List ℕ) (flags : List Bool)
+    → slice ≡ sites → covers ≡ list → looked ≡ places → AreMatched (λ x place. IsCoverAt groups sites list (to x) place) xs places → AreIndexed (some_flag served covers looked) (length slice) flags
+    → AreFlags (λ site. list_any (λ x. covers_by served groups site (to x)) xs) sites flags
+flags_of_places {A} served to groups sites slice list covers xs places looked flags one two three matched made =
+    let moved : AreIndexed (some_flag served list places) (length sites) flags =
+    subst (λ (ss : List Site). AreIndexed (some_flag served list places) (length ss) flags) one
+    (subst (λ (ps : List ℕ). AreIndexed (some_flag served list ps) (length slice) flags) three
+    (subst (λ (cs : List Cover). AreIndexed (some_flag served cs looked) (length slice) flags) two made)) in
+    some_flags_fit served to groups sites list xs places flags matched moved
 
 -- one place more
 pub places_more : {A : Type 0} (to : A → Selector) (start x y : Covering) (xs : List A) (i : ℕ) (places new : List ℕ) (item : A) (place : ℕ) → i < length xs → item ≡ get_or xs i item

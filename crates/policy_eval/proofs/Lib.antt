@@ -3,8 +3,11 @@ pub mod EndLemmas
 pub mod FitLemmas
 pub mod FittingLemmas
 pub mod IdLemmas
+pub mod InternetLemmas
+pub mod IntoLemmas
 pub mod MatchLemmas
 pub mod OwnLemmas
 pub mod ReachLemmas
+pub mod RouteLemmas
 pub mod SetLemmas
 pub mod SiteLemmas

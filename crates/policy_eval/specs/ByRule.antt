@@ -5,8 +5,10 @@ use Rattle.net_addr.specs.Bits.{Address, family_size}
 use Rattle.policy_rows.specs.declared.group.Group.{Group}
 use Rattle.policy_rows.specs.declared.rule.Rule.{Rule}
 use Rattle.policy_rows.specs.declared.selector.Selector.{Selector}
+use Rattle.policy_eval.specs.Beyond.{covers_into}
 use Rattle.policy_eval.specs.Covers.{covers, is_own, is_own_devices}
 use Rattle.policy_eval.specs.Ends.{holder_of}
+use Rattle.policy_eval.specs.Sites.{serves_beyond}
 use Rattle.policy_eval.specs.declared.end.End.{End}
 use Rattle.policy_eval.specs.declared.site.Site.{Site}
 
@@ -22,14 +24,19 @@ site_end site addr = record { addr = Some addr; holder = Some (holder_of site) }
 abbrev pub covers_site : List Group → Site → Selector → Bool
 covers_site groups site selector = list_any (λ x. covers groups selector (site_end site x)) (site_addresses site)
 
+-- the selector covers something that the machine serves: one of its own ends, or an address beside these, of which no
+-- machine has one
+abbrev pub covers_served : List Group → Site → Selector → Bool
+covers_served groups site selector = covers_site groups site selector || covers_into (serves_beyond site) selector
+
 -- by its sources, the machine may send by the rule
 abbrev pub sends : List Group → Rule → Site → Bool
 sends groups r site = list_any (covers_site groups site) r.sources
 
--- by its destinations, the rule lets anybody whom it lets send through to the machine; `autogroup:self`
--- covers no end alone
+-- by its destinations, the rule lets anybody whom it lets send through to something that the machine serves;
+-- `autogroup:self` covers no end alone
 abbrev pub takes : List Group → Rule → Site → Bool
-takes groups r site = list_any (λ entry. covers_site groups site entry.to) r.dests
+takes groups r site = list_any (λ entry. covers_served groups site entry.to) r.dests
 
 -- `autogroup:self` is a destination of the rule
 abbrev pub has_own_devices : Rule → Bool

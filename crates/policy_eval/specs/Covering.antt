@@ -1,13 +1,15 @@
 -- What the selectors of rules cover, each found once.
-use Rattle.std.specs.Prelude.{◌≡◌, ◌<◌, ◌&&◌, ◌||◌, Bool, false, ℕ, List, [], ◌++◌, Some, Contains, length, slice_get}
+use Rattle.std.specs.Prelude.{◌≡◌, ◌<◌, ◌&&◌, ◌||◌, Bool, false, ℕ, List, [], ◌++◌, Some, Contains, length, slice_get, if◌then◌else◌}
 use Rattle.std.specs.List.{list_any}
 use Rattle.std.specs.Option.{option_map_or}
 use Rattle.net_addr.specs.Bits.{Block}
 use Rattle.range_sets.specs.Sets.{Ranges, has}
 use Rattle.policy_rows.specs.declared.group.Group.{Group}
-use Rattle.policy_eval.specs.ByRule.{IsSoundSite}
+use Rattle.policy_rows.specs.declared.selector.Selector.{Selector}
+use Rattle.policy_eval.specs.Beyond.{covers_into}
+use Rattle.policy_eval.specs.ByRule.{IsSoundSite, covers_served, covers_site}
 use Rattle.policy_eval.specs.Expansion.{CoverFits}
-use Rattle.policy_eval.specs.Sites.{AreDistinct}
+use Rattle.policy_eval.specs.Sites.{AreDistinct, serves_beyond}
 use Rattle.policy_eval.specs.declared.cover.Cover.{Cover}
 use Rattle.policy_eval.specs.declared.rule_sets.RuleSets.{RuleSets}
 use Rattle.policy_eval.specs.declared.site.Site.{Site}
@@ -51,13 +53,29 @@ pub record AreIndexed (test : ℕ → Bool) (count : ℕ) (flags : List Bool) : 
 abbrev pub flag_at : List Bool → ℕ → Bool
 flag_at flags at = option_map_or (λ flag. flag) (slice_get flags at) false
 
+-- of each site whether the selector covers something that it serves, or one of its own ends
+abbrev pub flags_by : Bool → Cover → List Bool
+flags_by served cover = if served then cover.served else cover.flags
+
+-- the same of a selector and a site
+abbrev pub covers_by : Bool → List Group → Site → Selector → Bool
+covers_by served groups site selector = if served then covers_served groups site selector else covers_site groups site selector
+
 -- the flag of a cover, which stands at the first place, for the site at the second
-abbrev pub cover_flag : List Cover → ℕ → ℕ → Bool
-cover_flag list at place = option_map_or (λ cover. flag_at cover.flags at) (slice_get list place) false
+abbrev pub cover_flag : Bool → List Cover → ℕ → ℕ → Bool
+cover_flag served list at place = option_map_or (λ cover. flag_at (flags_by served cover) at) (slice_get list place) false
 
 -- one of the covers at these places has the flag for the site at that place
-abbrev pub some_flag : List Cover → List ℕ → ℕ → Bool
-some_flag list places at = list_any (cover_flag list at) places
+abbrev pub some_flag : Bool → List Cover → List ℕ → ℕ → Bool
+some_flag served list places at = list_any (cover_flag served list at) places
+
+-- the selector covers something that the site at that place serves beside its own addresses
+abbrev pub beyond_at : List Site → Selector → ℕ → Bool
+beyond_at sites selector at = option_map_or (λ site. covers_into (serves_beyond site) selector) (slice_get sites at) false
+
+-- it has the flag, or covers something beside
+abbrev pub served_at : List Bool → List Site → Selector → ℕ → Bool
+served_at flags sites selector at = flag_at flags at || beyond_at sites selector at
 
 -- by what is known of a rule it lets one site through to the other; the last word is whether they are of one login
 abbrev pub sets_let : ℕ → ℕ → Bool → RuleSets → Bool

@@ -8,12 +8,12 @@ use Rattle.policy_rows.specs.declared.policy.Policy.{Policy}
 use Rattle.policy_rows.specs.declared.rule.Rule.{Rule}
 use Rattle.policy_rows.specs.declared.selector.Selector.{Selector}
 use Rattle.net_rows.specs.declared.rows.Rows.{Rows}
-use Rattle.policy_eval.specs.ByRule.{covers_site, has_own_devices, sends, takes}
+use Rattle.policy_eval.specs.ByRule.{covers_served, covers_site, has_own_devices, sends, takes}
 use Rattle.policy_eval.specs.Covers.{covers, names_holder}
 use Rattle.policy_eval.specs.Ends.{end_at, holder_of}
 use Rattle.policy_eval.specs.Grants.{groups_of, rules_of, some_source}
 use Rattle.policy_eval.specs.Reach.{AreSoundRules}
-use Rattle.policy_eval.specs.Sites.{AreDistinct, site_has, sites_of}
+use Rattle.policy_eval.specs.Sites.{AreApart, AreDistinct, site_has, sites_of}
 use Rattle.policy_eval.specs.declared.cover.Cover.{Cover}
 use Rattle.policy_eval.specs.declared.rule_sets.RuleSets.{RuleSets}
 use Rattle.policy_eval.specs.declared.site.Site.{Site}
@@ -29,7 +29,7 @@ abbrev pub expansion_of : Option Policy → Rows → List ℕ → Expansion
 expansion_of policy rows live = record {
   groups = groups_of policy;
   rules = rules_of policy;
-  sites = sites_of rows live;
+  sites = sites_of policy rows live;
 }
 
 -- of the addresses that there are, the set has those that pass the test
@@ -59,11 +59,13 @@ AreMatched Fits (x ∷ xs) (y ∷ ys) = Fits x y × AreMatched Fits xs ys
 abbrev pub AreFlags : (Site → Bool) → List Site → List Bool → Type 0
 AreFlags test sites flags = (at : ℕ) (site : Site) → slice_get sites at ≡ Some site → slice_get flags at ≡ Some (test site)
 
--- what the selector covers: as prefixes, as a set, and of each site whether it covers one of its own ends
+-- what the selector covers: as prefixes, as a set, and of each site whether it covers one of its own ends, and whether
+-- it covers something that the site serves
 pub record CoverFits (groups : List Group) (sites : List Site) (selector : Selector) (cover : Cover) : Type 0 where
   pub nets : (addr : Address) → addr.bits < family_size addr.v6 → some_holds cover.nets addr ≡ covers groups selector (end_at sites addr)
   pub set : IsSetOf cover.set (λ addr. covers groups selector (end_at sites addr))
   pub flags : AreFlags (λ site. covers_site groups site selector) sites cover.flags
+  pub served : AreFlags (λ site. covers_served groups site selector) sites cover.served
 
 -- what the selector covers stands at that place
 abbrev pub IsCoverAt : List Group → List Site → List Cover → Selector → ℕ → Type 0
@@ -84,5 +86,6 @@ pub record RuleFits (groups : List Group) (sites : List Site) (list : List Cover
 -- what is known of the rules, place by place
 pub record SetsFit (x : Expansion) (list : List Cover) (sets : List RuleSets) : Type 0 where
   pub distinct : AreDistinct x.sites
+  pub apart : AreApart x.sites
   pub sound : AreSoundRules x.rules
   pub matched : AreMatched (RuleFits x.groups x.sites list) x.rules sets

@@ -1,3 +1,4 @@
+pub mod Beyond
 pub mod ByRule
 pub mod Covering
 pub mod Covers

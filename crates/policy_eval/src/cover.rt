@@ -11,6 +11,7 @@ ghost use Rattle.policy_eval.specs.Expansion.{CoverFits};
 ghost use Rattle.policy_eval.specs.Sites.{AreDistinct};
 ghost use Rattle.policy_eval.specs.declared.site.Site.{Site};
 
+use crate::flags::served_flags;
 use crate::listing::add_covered;
 use crate::site::Site;
 use net_addr::Prefix;
@@ -20,13 +21,14 @@ use std::alloc::Global;
 use tail_base::{Duplicate, Items, NoMemory};
 
 /// A selector, and what it covers: the addresses, as prefixes and as a set, and of each site whether it
-/// covers one of its own.
+/// covers one of its own, and whether it covers something that the site serves.
 #[derive(Drop)]
 pub(crate) struct Cover {
     pub(crate) selector: Selector,
     pub(crate) nets: Items<Prefix>,
     pub(crate) set: RangeSet,
     pub(crate) flags: Items<bool>,
+    pub(crate) served: Items<bool>,
 }
 
 /// Whether both selectors are the same.
@@ -121,10 +123,12 @@ pub(crate) fn cover_of(
     let nets = covered_nets(alloc, groups, sites, selector)?;
     let set = RangeSet::of_prefixes(alloc, nets.as_slice())?;
     let flags = site_flags(alloc, &set, sites)?;
+    let served = served_flags(alloc, flags.as_slice(), sites, selector)?;
     Ok(Cover {
         selector: selector.copy(alloc)?,
         nets,
         set,
         flags,
+        served,
     })
 }

@@ -9,7 +9,7 @@ ghost use Rattle.policy_eval.specs.Covering.{sets_let};
 ghost use Rattle.policy_eval.specs.Expansion.{Expansion, IsSetOf, entry_covers, expansion_of, source_covers};
 ghost use Rattle.policy_eval.specs.Grants.{some_rule_grants};
 ghost use Rattle.policy_eval.specs.Reach.{AreSoundRules};
-ghost use Rattle.policy_eval.specs.Sites.{AreDistinct};
+ghost use Rattle.policy_eval.specs.Sites.{AreApart, AreDistinct};
 ghost use Rattle.policy_eval.specs.declared.cover.Cover.{Cover};
 ghost use Rattle.policy_eval.specs.declared.rule_sets.RuleSets.{RuleSets};
 ghost use Rattle.policy_eval.specs.declared.site.Site.{Site};
@@ -102,7 +102,7 @@ impl Expanded {
     {
         let groups = groups_of(alloc, policy)?;
         let rules = rules_of(alloc, policy)?;
-        let sites = sites_of(alloc, tables, live)?;
+        let sites = sites_of(alloc, policy, tables, live)?;
         look_at_rules(rules.as_slice());
         let mut found = Covers::new(alloc, groups.as_slice(), sites.as_slice());
         let sets = sets_of_rules(alloc, &mut found, rules.as_slice())?;
@@ -135,6 +135,7 @@ impl Expanded {
     pub fn sites(&self) -> &[Site]
         ensures value { result.now ≡ self.now.sites }
         ensures distinct { AreDistinct self.now.sites }
+        ensures apart { AreApart self.now.sites }
     {
         self.sites.as_slice()
     }
@@ -174,7 +175,8 @@ impl Expanded {
         flag_at(sets.sends.as_slice(), site)
     }
 
-    /// Whether that rule lets through to the machine at that place whoever may send by it.
+    /// Whether that rule lets through to something that the machine at that place serves whoever may
+    /// send by it.
     pub fn takes(&self, rule: usize, site: usize) -> bool
         requires rule_inside { rule < length self.now.rules }
         requires site_inside { site < length self.now.sites }

@@ -5,10 +5,10 @@ ghost use Rattle.net_addr.specs.Bits.{Address};
 ghost use Rattle.net_rows.specs.Damage.{damage};
 ghost use Rattle.net_rows.specs.declared.rows.Rows.{Rows};
 ghost use Rattle.policy_rows.specs.declared.policy.Policy.{Policy};
-ghost use Rattle.policy_eval.specs.Ends.{end_at, holder_of};
+ghost use Rattle.policy_eval.specs.Ends.{end_at, free_end, holder_of};
 ghost use Rattle.policy_eval.specs.Grants.{groups_of, rules_of};
 ghost use Rattle.policy_eval.specs.Reach.{AreSoundRules, reaches_into, rule_reaches};
-ghost use Rattle.policy_eval.specs.Sites.{AreDistinct, site_has, sites_of};
+ghost use Rattle.policy_eval.specs.Sites.{AreApart, AreDistinct, serves_beyond, site_has, sites_of};
 ghost use Rattle.policy_eval.specs.declared.end.End.{End};
 ghost use Rattle.policy_eval.specs.declared.site.Site.{Site};
 
@@ -21,11 +21,17 @@ pub fn a_reach_is_by_rules()
 {}
 
 /// In tables that keep their rules an address has at most one site; and where it has one, that site
-/// holds the end.
+/// holds the end. No site has an address that another one, or itself, serves beside its own: nobody
+/// holds the end there.
 pub fn an_address_has_one_site()
-    ensures one { (rows : Rows) (live : List ℕ) → damage rows ≡ None
-        → AreDistinct (sites_of rows live) }
+    ensures one { (policy : Option Policy) (rows : Rows) (live : List ℕ) → damage rows ≡ None
+        → AreDistinct (sites_of policy rows live) }
     ensures own { (sites : List Site) (addr : Address) (site : Site) → AreDistinct sites
         → Contains sites site → site_has addr site ≡ true
         → end_at sites addr ≡ record { addr = Some addr; holder = Some (holder_of site) } }
+    ensures apart { (policy : Option Policy) (rows : Rows) (live : List ℕ)
+        → damage rows ≡ None → AreApart (sites_of policy rows live) }
+    ensures free { (sites : List Site) (addr : Address) (site : Site) → AreApart sites
+        → Contains sites site → serves_beyond site addr ≡ true
+        → end_at sites addr ≡ free_end addr }
 {}

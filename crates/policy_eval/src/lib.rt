@@ -2,6 +2,7 @@
 //! their rules cover.
 #![tactic(auto)]
 
+mod beyond;
 mod cover;
 mod covering;
 mod covers;
@@ -17,6 +18,7 @@ mod listing;
 mod rule_sets;
 mod rules;
 mod site;
+mod touching;
 
 pub use covering::is_own_devices;
 pub use end::{End, Holder};
@@ -26,3 +28,4 @@ pub use in_force::InForce;
 pub use laws::{a_reach_is_by_rules, an_address_has_one_site};
 pub use rule_sets::has_own_devices;
 pub use site::{Site, are_own, sites_of};
+pub use touching::{covers_internet, covers_route};

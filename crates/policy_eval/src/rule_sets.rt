@@ -95,8 +95,8 @@ fn sets_at(
 {
     let count = covers.sites().len();
     let set = source_set(alloc, covers, rule, sources)?;
-    let sends = some_flags(alloc, covers.list(), sources, count)?;
-    let takes = some_flags(alloc, covers.list(), dests.as_slice(), count)?;
+    let sends = some_flags(alloc, covers.list(), false, sources, count)?;
+    let takes = some_flags(alloc, covers.list(), true, dests.as_slice(), count)?;
     Ok(RuleSets {
         sources: set,
         dests,

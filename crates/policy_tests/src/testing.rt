@@ -111,11 +111,11 @@ pub fn first_failure(
     live: &[u32],
 ) -> Result<Option<TestFailure>, NoMemory>
     ensures value { IfOk result (λ failure.
-        failure ≡ first_failure policy.now (sites_of tables.now.rows live.now)) }
+        failure ≡ first_failure policy.now (sites_of (Some policy.now) tables.now.rows live.now)) }
     ensures lasting { IfOk result (λ failure. failure ≡ None → AcceptsLast policy.now) }
 {
     let x = Expanded::of(alloc, Some(policy), tables, &[])?;
-    let sites = sites_of(alloc, tables, live)?;
+    let sites = sites_of(alloc, Some(policy), tables, live)?;
     let failure = first_of_tests(alloc, &x, sites.as_slice(), policy.tests.as_slice())?;
     Ok(failure)
 }
@@ -143,7 +143,7 @@ pub fn tested(
     live: &[u32],
 ) -> Result<(), Failure<PolicyFault>>
     ensures value { Gives (λ t. t) result
-        (tested policy.now (sites_of tables.now.rows live.now)) }
+        (tested policy.now (sites_of (Some policy.now) tables.now.rows live.now)) }
 {
     match first_failure(alloc, policy, tables, live)? {
         Some(failure) => {

@@ -1,9 +1,9 @@
-use Rattle.std.proofs.Common.{◌≡◌, drop}
-use Rattle.policy_eval.specs.Fitting.{live_sites}
+use Rattle.std.specs.Prelude.{Option}
+use Rattle.policy_rows.specs.declared.policy.Policy.{Policy}
+use Rattle.policy_eval.specs.Fitting.{AreApproved}
+use Rattle.policy_eval.proofs.FittingLemmas.{AreUpTo}
 use Rattle.policy_eval.proofs.fitting.are_sites_of.Given as goal
 
--- if the sites to come are those of the machines to come, then all are those of all
 abbrev pub invariant-loop-machine : goal.invariant-loop-machine
 invariant-loop-machine l =
-    l.rest ≡ live_sites l.tables.rows.users l.live (drop l.machine-index l.machines)
-    → l.fn.sites ≡ live_sites l.tables.rows.users l.live l.machines
+    (policy : Option Policy) → AreApproved policy l.fn.sites → AreUpTo policy l.tables.rows.users l.live l.machines l.machine-index l.fn.sites l.rest

@@ -10,5 +10,5 @@ returns-then-same_site c =
     let front : c.args.sites.now ≡ c.in_ok-site.site.now ∷ c.in_ok-site.rest.now = search rules in
     let same : same_site c.args.tables.now.rows.users c.in_ok-site.site.now c.args.machine.now ≡ true = search rules in
     record {
-      fits = behind_same c.args.tables.now.rows.users c.args.live.now c.args.machine.now c.args.sites.now c.in_ok-site.site.now c.in_ok-site.rest.now passes front same;
+      behind = behind_same c.args.tables.now.rows.users c.args.live.now c.args.machine.now c.args.sites.now c.in_ok-site.site.now c.in_ok-site.rest.now passes front same;
     }

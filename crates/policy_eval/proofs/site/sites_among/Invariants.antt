@@ -1,4 +1,5 @@
 use Rattle.std.proofs.Common.{◌≡◌, ◌++◌, drop}
+use Rattle.std.specs.Option.{option_copied}
 use Rattle.std.specs.Prelude.{map, filter}
 use Rattle.policy_eval.specs.Sites.{is_among, site_of}
 use Rattle.policy_eval.proofs.site.sites_among.Given as goal
@@ -6,5 +7,5 @@ use Rattle.policy_eval.proofs.site.sites_among.Given as goal
 -- with the sites of the machines to come these are all
 abbrev pub invariant-loop-machine : goal.invariant-loop-machine
 invariant-loop-machine l =
-    l.sites ++ map (site_of l.tables.rows.users) (filter (is_among l.live) (drop l.machine-index l.machines))
-    ≡ map (site_of l.tables.rows.users) (filter (is_among l.live) l.machines)
+    l.sites ++ map (site_of (option_copied l.policy) l.tables.rows.users) (filter (is_among l.live) (drop l.machine-index l.machines))
+    ≡ map (site_of (option_copied l.policy) l.tables.rows.users) (filter (is_among l.live) l.machines)
