@@ -4,4 +4,5 @@ pub mod ListLemmas
 pub mod OwnLemmas
 pub mod RuleLemmas
 pub mod StepLemmas
+pub mod TakeLemmas
 pub mod UnrestrictedLemmas

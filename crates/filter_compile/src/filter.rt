@@ -1,6 +1,8 @@
 //! Packet filters.
 ghost use Rattle.std.specs.Prelude.{◌≡◌, ◌<◌, ◌++◌, Contains, IfOk, OnOk, length, slice_index_or};
 ghost use Rattle.policy_rows.specs.declared.rule.Rule.{Rule};
+ghost use Rattle.policy_eval.specs.Sites.{AreDistinct};
+ghost use Rattle.policy_eval.specs.declared.site.Site.{Site};
 ghost use Rattle.range_sets.specs.Canonical.{canonical};
 ghost use Rattle.filter_compile.specs.Admits.{AdmitsGranted};
 ghost use Rattle.filter_compile.specs.Filters.{own_rule, own_source_covers, plain_rule, rule_filter, rules_filter, sources_of};
@@ -10,7 +12,7 @@ use crate::dests::{own_dests, plain_dests};
 use crate::own::own_set;
 use crate::rule_parts::{add_rule, sources_covering};
 use net_addr::Prefix;
-use policy_eval::{Expanded, Site};
+use policy_eval::{Expanded, Site, has_own_devices};
 use policy_rows::Rule;
 use std::alloc::Global;
 use tail_base::{Items, NoMemory};
@@ -52,7 +54,23 @@ fn own_sources(
     Ok(prefixes)
 }
 
-/// Adds the filter rule of the rule, without its destinations `autogroup:self`.
+/// Where the machine stands among the sites.
+fn place_of(sites: &[Site], machine: &Site) -> usize
+    requires distinct { AreDistinct sites.now }
+    requires among { Contains sites.now machine.now }
+    ensures inside { result < length sites.now }
+    ensures there { (s : Site) → slice_index_or sites.now result s ≡ machine.now }
+{
+    for (place, site) in sites.iter().enumerate() {
+        if site.v4 == machine.v4 {
+            return place;
+        }
+    }
+    unreachable!()
+}
+
+/// Adds the filter rule of the rule, without its destinations `autogroup:self`. It looks at those by
+/// which the machine, which stands at that place among the sites, takes.
 #[tactic(auto, using(crate::proofs::KeptLemmas::kept_steps))]
 fn add_plain_rule(
     alloc: Global,
@@ -60,13 +78,21 @@ fn add_plain_rule(
     expanded: &Expanded,
     at: usize,
     rule: &Rule,
+    place: usize,
     machine: &Site,
 ) -> Result<(), NoMemory>
     requires inside { at < length expanded.now.rules }
     requires same { (d : Rule) → slice_index_or expanded.now.rules at d ≡ rule.now }
+    requires place_inside { place < length expanded.now.sites }
+    requires there { (s : Site) → slice_index_or expanded.now.sites place s ≡ machine.now }
     ensures ok { OnOk result (out.new ≡ out.old
         ++ plain_rule expanded.now.groups expanded.now.sites machine.now rule.now) }
 {
+    // For what it promises, that an address has at most one site, and none where it is a route's.
+    let _sites = expanded.sites();
+    if !expanded.takes(at, place) {
+        return Ok(());
+    }
     let dests = plain_dests(alloc, expanded, at, rule, machine)?;
     if dests.is_empty() {
         return Ok(());
@@ -90,6 +116,9 @@ fn add_own_rule(
     ensures ok { OnOk result (out.new ≡ out.old
         ++ own_rule expanded.now.groups expanded.now.sites machine.now rule.now) }
 {
+    if !has_own_devices(rule) {
+        return Ok(());
+    }
     let dests = own_dests(alloc, rule, machine)?;
     if dests.is_empty() {
         return Ok(());
@@ -105,14 +134,17 @@ fn add_rules(
     expanded: &Expanded,
     at: usize,
     rule: &Rule,
+    place: usize,
     machine: &Site,
 ) -> Result<(), NoMemory>
     requires inside { at < length expanded.now.rules }
     requires same { (d : Rule) → slice_index_or expanded.now.rules at d ≡ rule.now }
+    requires place_inside { place < length expanded.now.sites }
+    requires there { (s : Site) → slice_index_or expanded.now.sites place s ≡ machine.now }
     ensures ok { OnOk result (out.new ≡ out.old
         ++ rule_filter expanded.now.groups expanded.now.sites machine.now rule.now) }
 {
-    add_plain_rule(alloc, out, expanded, at, rule, machine)?;
+    add_plain_rule(alloc, out, expanded, at, rule, place, machine)?;
     add_own_rule(alloc, out, expanded, at, rule, machine)
 }
 
@@ -129,11 +161,10 @@ pub fn filter_for(
     ensures exact { IfOk result (AdmitsGranted expanded.now machine.now) }
 {
     let rules = expanded.rules();
-    // For what it promises, that an address has at most one site, and none where it is a route's.
-    let _sites = expanded.sites();
+    let place = place_of(expanded.sites(), machine);
     let mut out = Items::new(alloc);
     for (at, rule) in rules.iter().enumerate() {
-        add_rules(alloc, &mut out, expanded, at, rule, machine)?;
+        add_rules(alloc, &mut out, expanded, at, rule, place, machine)?;
     }
     Ok(out)
 }

@@ -23,24 +23,11 @@ use Rattle.policy_eval.specs.Sites.{AreApart, AreDistinct, serves, serves_beyond
 use Rattle.policy_eval.specs.declared.end.End.{End}
 use Rattle.policy_eval.specs.declared.site.Site.{Site}
 use Rattle.policy_eval.proofs.EndLemmas.{beyond_end, joins_nobody, own_end, served_cases, serves_more, serves_own}
-use Rattle.policy_eval.proofs.OwnLemmas.{has_v4, has_v6}
+use Rattle.policy_eval.proofs.OwnLemmas.{has_v4, has_v6, own_two}
 use Rattle.policy_eval.proofs.ReachLemmas.{reach_is}
 use Rattle.policy_eval.specs.ByRule.{IsSoundSite, covers_served, covers_site, site_end, joins_own_by, site_addresses, sends, site_reaches, takes}
 use Rattle.peer_view.specs.Reaches.{reaches}
 use Rattle.peer_view.proofs.AnyLemmas.{any_and, any_or, any_pair, any_same, either_and, either_or, or_none}
-
-address_of : (a b : Address) → address_eq a b ≡ true → a ≡ b
-address_of a b h =
-    let p = and_parts (beq a.v6 b.v6) (a.bits == b.bits) h in
-    ap (λ (x : Bool). record a { v6 = x }) (beq-true a.v6 b.v6 p.0) ∙ ap (λ (n : ℕ). record b { bits = n }) (eqb-true a.bits b.bits p.1)
-
--- an address that a site has is one of its two
-own_two : (b : Site) (addr : Address) → site_has addr b ≡ true → (b.v4 ≡ addr) ⊎ (b.v6 ≡ addr)
-own_two b addr h =
-    elim (or_cases (address_eq b.v4 addr) (address_eq b.v6 addr) h) [
-      | inl p ↦ inl (address_of b.v4 addr p)
-      | inr q ↦ inr (address_of b.v6 addr q)
-    ]
 
 -- the destination covers one of the machine's own ends
 abbrev covers_own : List Group → Site → End → Dest → Bool

@@ -70,7 +70,8 @@ fn source_set(
     Ok(set)
 }
 
-fn has_own_devices(rule: &Rule) -> bool
+/// Whether `autogroup:self` is a destination of the rule.
+pub fn has_own_devices(rule: &Rule) -> bool
     ensures value { result ≡ has_own_devices rule.now }
 {
     let entries = rule.dests.as_slice();

@@ -11,4 +11,4 @@ returns-clause-exact c =
     let x = c.args.expanded.now in
     let m = c.args.machine.now in
     let done = flat_end (rule_filter x.groups x.sites m) x.rules c.rules-rules.result.now c.loop-at.at c.loop-at.out _ c.rules-rules.ensures.value c.loop-at-test.false c.loop-at.invariant in
-    subst (λ (filter : List FilterRule). AdmitsGranted x m filter) (sym done) (filter_admits x.groups x.rules x.sites m c.sites-sites.ensures.distinct c.sites-sites.ensures.apart c.rules-rules.ensures.sound c.requires.among)
+    subst (λ (filter : List FilterRule). AdmitsGranted x m filter) (sym done) (filter_admits x.groups x.rules x.sites m c.sites.ensures.distinct c.sites.ensures.apart c.rules-rules.ensures.sound c.requires.among)
