@@ -22,7 +22,7 @@ use Rattle.policy_eval.specs.Sites.{AreApart, AreDistinct, serves}
 use Rattle.policy_eval.specs.declared.site.Site.{Site}
 use Rattle.policy_eval.proofs.CoverLemmas.{get_is, get_member, get_or_of}
 use Rattle.policy_eval.proofs.MatchLemmas.{told_all}
-use Rattle.policy_eval.proofs.OwnLemmas.{has_v4, own_address, served_covered}
+use Rattle.policy_eval.proofs.OwnLemmas.{covered_served, has_v4, own_address}
 use Rattle.filter_compile.specs.Filters.{entry_dests, own_dests, own_rule, own_source_covers, plain_rule, sources_of}
 use Rattle.filter_compile.specs.Parts.{with_ports}
 use Rattle.filter_compile.proofs.KeptLemmas.{left_out}
@@ -37,18 +37,16 @@ nothing_held held none = go (canonical held) (λ p inside. ((canonical_is held).
     go : (ps : List Block) → ((p : Block) → Contains ps p → IsGreatest held p) → ps ≡ []
     go [] told = refl
     go (p ∷ ps) told =
-        let first = told p (first_member p ps) in
-        absurd (both_ways (held p.base) (none p.base first.block.in_family) (first.inside p.base (own_base p)))
+        let greatest = told p (first_member p ps) in
+        absurd (both_ways (held p.base) (none p.base greatest.block.in_family) (greatest.inside p.base (own_base p)))
 
--- of what a machine serves the destination covers nothing
-entry_none : (groups : List Group) (sites : List Site) (m : Site) (entry : Dest) → AreDistinct sites → AreApart sites → Contains sites m → covers_served groups m entry.to ≡ false
-    → entry_dests groups sites m entry ≡ []
+entry_none : (groups : List Group) (sites : List Site) (m : Site) (entry : Dest) → AreDistinct sites → AreApart sites → Contains sites m → covers_served groups m entry.to ≡ false → entry_dests groups sites m entry ≡ []
 entry_none groups sites m entry distinct apart inside not_taken =
     let held : Address → Bool = λ addr. entry_covers groups sites entry addr && serves m addr in
     ap (λ (ps : List Block). flat_map (with_ports entry.ports) ps)
     (nothing_held held (λ addr small. false_from_ne_true (held addr) (λ h.
     let p = and_parts (entry_covers groups sites entry addr) (serves m addr) h in
-    both_ways (covers_served groups m entry.to) not_taken (served_covered groups sites m entry.to addr small distinct apart inside p.1 p.0))))
+    both_ways (covers_served groups m entry.to) not_taken (covered_served groups sites m entry.to addr distinct apart inside small p.1 p.0))))
 
 entries_none : (groups : List Group) (sites : List Site) (m : Site) (entries : List Dest) → AreDistinct sites → AreApart sites → Contains sites m
     → list_any (λ entry. covers_served groups m entry.to) entries ≡ false → flat_map (entry_dests groups sites m) entries ≡ []

@@ -88,7 +88,7 @@ fn add_plain_rule(
     ensures ok { OnOk result (out.new ≡ out.old
         ++ plain_rule expanded.now.groups expanded.now.sites machine.now rule.now) }
 {
-    // For what it promises, that an address has at most one site.
+    // For what it promises, that an address has at most one site, and none where it is a route's.
     let _sites = expanded.sites();
     if !expanded.takes(at, place) {
         return Ok(());
@@ -161,7 +161,6 @@ pub fn filter_for(
     ensures exact { IfOk result (AdmitsGranted expanded.now machine.now) }
 {
     let rules = expanded.rules();
-    // The sites also promise that nobody has an address that a route serves.
     let place = place_of(expanded.sites(), machine);
     let mut out = Items::new(alloc);
     for (at, rule) in rules.iter().enumerate() {

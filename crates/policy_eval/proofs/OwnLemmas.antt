@@ -1,5 +1,5 @@
 -- A site's own two addresses, and what selectors cover of them.
-use Rattle.std.proofs.Common.{◌≡◌, ◌<◌, ◌==◌, ◌&&◌, ◌||◌, ◌⊎◌, ℕ, Bool, true, false, List, refl, ap, sym, ◌∙◌, inl, inr}
+use Rattle.std.proofs.Common.{◌≡◌, ◌<◌, ◌&&◌, ◌==◌, ◌||◌, ◌⊎◌, ℕ, Bool, true, false, List, refl, ap, sym, ◌∙◌, inl, inr}
 use Rattle.std.specs.Prelude.{Contains}
 use Rattle.std.specs.Bool.{beq}
 use Rattle.std.proofs.lemmas.Bool.{and_from, and_parts, eq-eqb, eqb-true, or_cases, or_left, or_right}
@@ -41,21 +41,10 @@ own_two b addr h =
       | inr q ↦ inr (address_of b.v6 addr q)
     ]
 
--- groups don't matter where nobody has the address
-free_cover : (groups : List Group) (selector : Selector) (addr : Address) → covers groups selector (free_end addr) ≡ covers_free selector addr
-free_cover groups sel.All addr = refl
-free_cover groups (sel.Net net) addr = refl
-free_cover groups (sel.User login) addr = refl
-free_cover groups (sel.Group name) addr = refl
-free_cover groups (sel.Tagged tag) addr = refl
-free_cover groups sel.Member addr = refl
-free_cover groups sel.AllTagged addr = refl
-free_cover groups sel.Internet addr = refl
-free_cover groups sel.OwnDevices addr = refl
-
-own_covered : (groups : List Group) (sites : List Site) (m : Site) (selector : Selector) (addr : Address) → AreDistinct sites → Contains sites m → site_has addr m ≡ true
+-- what covers one of a machine's own addresses covers one of its own ends
+covered_own : (groups : List Group) (sites : List Site) (m : Site) (selector : Selector) (addr : Address) → AreDistinct sites → Contains sites m → site_has addr m ≡ true
     → covers groups selector (end_at sites addr) ≡ true → covers_site groups m selector ≡ true
-own_covered groups sites m selector addr distinct inside has covered =
+covered_own groups sites m selector addr distinct inside has covered =
     let f : Address → Bool = λ y. covers groups selector (site_end m y) in
     let here : f addr ≡ true = ap (λ (e : End). covers groups selector e) (sym (own_end sites distinct addr m inside has)) ∙ covered in
     elim (own_two m addr has) [
@@ -63,17 +52,26 @@ own_covered groups sites m selector addr distinct inside has covered =
       | inr e ↦ or_right (f m.v4) (f m.v6 || false) (or_left (f m.v6) false (ap f e ∙ here))
     ]
 
-beyond_covered : (groups : List Group) (sites : List Site) (m : Site) (selector : Selector) (addr : Address) → addr.bits < family_size addr.v6 → AreApart sites → Contains sites m → serves_beyond m addr ≡ true
-    → covers groups selector (end_at sites addr) ≡ true → covers_into (serves_beyond m) selector ≡ true
-beyond_covered groups sites m selector addr small apart inside beyond covered =
-    let here : covers_free selector addr ≡ true = sym (free_cover groups selector addr) ∙ (ap (λ (e : End). covers groups selector e) (sym (beyond_end sites apart addr m inside beyond)) ∙ covered) in
-    address_found (λ y. serves_beyond m y && covers_free selector y) addr small (and_from (serves_beyond m addr) (covers_free selector addr) beyond here)
+-- an end that nobody holds is covered by its address alone
+free_covers : (groups : List Group) (selector : Selector) (addr : Address) → covers groups selector (free_end addr) ≡ covers_free selector addr
+free_covers groups sel.All addr = refl
+free_covers groups (sel.Net net) addr = refl
+free_covers groups (sel.User login) addr = refl
+free_covers groups (sel.Group name) addr = refl
+free_covers groups (sel.Tagged tag) addr = refl
+free_covers groups sel.Member addr = refl
+free_covers groups sel.AllTagged addr = refl
+free_covers groups sel.Internet addr = refl
+free_covers groups sel.OwnDevices addr = refl
 
--- what covers an address that the machine serves covers something that it serves
-pub served_covered : (groups : List Group) (sites : List Site) (m : Site) (selector : Selector) (addr : Address) → addr.bits < family_size addr.v6 → AreDistinct sites → AreApart sites → Contains sites m
-    → serves m addr ≡ true → covers groups selector (end_at sites addr) ≡ true → covers_served groups m selector ≡ true
-served_covered groups sites m selector addr small distinct apart inside served covered =
+-- what covers an address that the machine serves covers something that it serves, seen from the machine alone
+pub covered_served : (groups : List Group) (sites : List Site) (m : Site) (selector : Selector) (addr : Address) → AreDistinct sites → AreApart sites → Contains sites m
+    → addr.bits < family_size addr.v6 → serves m addr ≡ true → covers groups selector (end_at sites addr) ≡ true → covers_served groups m selector ≡ true
+covered_served groups sites m selector addr distinct apart inside small served covered =
     elim (served_cases m addr served) [
-      | inl own ↦ or_left (covers_site groups m selector) (covers_into (serves_beyond m) selector) (own_covered groups sites m selector addr distinct inside own covered)
-      | inr beyond ↦ or_right (covers_site groups m selector) (covers_into (serves_beyond m) selector) (beyond_covered groups sites m selector addr small apart inside beyond covered)
+      | inl own ↦ or_left (covers_site groups m selector) (covers_into (serves_beyond m) selector) (covered_own groups sites m selector addr distinct inside own covered)
+      | inr beyond ↦
+          let free : covers_free selector addr ≡ true = sym (free_covers groups selector addr) ∙ (ap (λ (e : End). covers groups selector e) (sym (beyond_end sites apart addr m inside beyond)) ∙ covered) in
+          or_right (covers_site groups m selector) (covers_into (serves_beyond m) selector)
+          (address_found (λ y. serves_beyond m y && covers_free selector y) addr small (and_from (serves_beyond m addr) (covers_free selector addr) beyond free))
     ]

@@ -28,4 +28,3 @@ pub use in_force::InForce;
 pub use laws::{a_reach_is_by_rules, an_address_has_one_site};
 pub use rule_sets::has_own_devices;
 pub use site::{Site, are_own, sites_of};
-pub use touching::{covers_internet, covers_route};

@@ -69,7 +69,7 @@ fn route_met(selector: &Selector, route: &Prefix) -> bool
 
 /// Whether the selector covers some address of the route, of which no machine has one.
 #[tactic(auto, using(crate::proofs::IntoLemmas::route_into))]
-pub fn covers_route(selector: &Selector, route: &Prefix) -> bool
+pub(crate) fn covers_route(selector: &Selector, route: &Prefix) -> bool
     ensures value { result ≡ covers_into (holds route.now) selector.now }
 {
     // For what it promises, that the route ends within its family.
@@ -95,7 +95,7 @@ fn internet_met(selector: &Selector) -> bool
 
 /// Whether the selector covers some address of the internet.
 #[tactic(auto, using(crate::proofs::IntoLemmas::internet_into))]
-pub fn covers_internet(selector: &Selector) -> bool
+pub(crate) fn covers_internet(selector: &Selector) -> bool
     ensures value { result ≡ covers_into is_internet selector.now }
 {
     internet_met(selector)
