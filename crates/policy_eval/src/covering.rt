@@ -26,7 +26,7 @@ fn is_held(groups: &[Group], selector: &Selector, end: &End) -> bool
 }
 
 /// Whether the selector covers the end.
-pub(crate) fn covers(groups: &[Group], selector: &Selector, end: &End) -> bool
+pub fn covers(groups: &[Group], selector: &Selector, end: &End) -> bool
     ensures value { result ≡ covers groups.now selector.now end.now }
 {
     match selector {
@@ -71,7 +71,8 @@ fn is_own(a: &Holder, b: &Holder) -> bool
     a.tags.is_empty() && b.tags.is_empty() && a.login.as_slice() == b.login.as_slice()
 }
 
-fn joins_own(source: &End, dest: &End) -> bool
+/// Whether `autogroup:self` joins the two ends: both are held, untagged, and by one login.
+pub fn joins_own(source: &End, dest: &End) -> bool
     ensures value { result ≡ joins_own source.now dest.now }
 {
     match (&source.holder, &dest.holder) {

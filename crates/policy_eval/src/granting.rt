@@ -16,13 +16,15 @@ fn is_ported(proto: u8) -> bool
     proto == 6 || proto == 17 || proto == 132
 }
 
-fn ports_hold(ports: &Ports, proto: u8, port: u16) -> bool
+/// Whether the ports hold the port, or the protocol has none.
+pub fn ports_hold(ports: &Ports, proto: u8, port: u16) -> bool
     ensures value { result ≡ ports_hold ports.now proto port }
 {
     !is_ported(proto) || ports.holds(port)
 }
 
-fn some_source(groups: &[Group], rule: &Rule, source: &End) -> bool
+/// Whether one of the rule's sources covers the end.
+pub fn some_source(groups: &[Group], rule: &Rule, source: &End) -> bool
     ensures value { result ≡ some_source groups.now rule.now source.now }
 {
     let sources = rule.sources.as_slice();

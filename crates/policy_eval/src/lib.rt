@@ -20,9 +20,10 @@ mod rules;
 mod site;
 mod touching;
 
-pub use covering::is_own_devices;
+pub use covering::{covers, is_own_devices, joins_own};
 pub use end::{End, Holder};
 pub use expanded::Expanded;
+pub use granting::{ports_hold, some_source};
 pub use id_list::IdList;
 pub use in_force::InForce;
 pub use laws::{a_reach_is_by_rules, an_address_has_one_site};

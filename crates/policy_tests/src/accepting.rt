@@ -3,8 +3,8 @@ ghost use Rattle.std.specs.Prelude.{◌≡◌, IfOk};
 ghost use Rattle.std.specs.List.{list_all};
 ghost use Rattle.policy_tests.specs.Trials.{accepted_by, all_pass, core_of, pair_passes};
 
-use crate::covering::port_of;
 use crate::ends::core_of;
+use crate::opening::port_of;
 use policy_eval::{End, Expanded, Site};
 use policy_rows::{Dest, Test};
 use std::alloc::Global;

@@ -7,9 +7,9 @@ ghost use Rattle.policy_eval.specs.declared.end.End.{End};
 ghost use Rattle.policy_tests.specs.TestEnds.{ends_of};
 ghost use Rattle.policy_tests.specs.Trials.{denied_by, is_met, lets_some, some_passes};
 
-use crate::covering::{is_covered, is_open, is_source, joins_own, port_of};
 use crate::ends::{core_of, ends_of};
-use policy_eval::{End, Expanded, Site, is_own_devices};
+use crate::opening::{is_open, port_of};
+use policy_eval::{End, Expanded, Site, covers, is_own_devices, joins_own, some_source};
 use policy_rows::{Dest, Group, Rule, Test};
 use std::alloc::Global;
 use tail_base::NoMemory;
@@ -17,13 +17,13 @@ use tail_base::NoMemory;
 fn has_source(groups: &[Group], rule: &Rule, sources: &[End]) -> bool
     ensures value { result ≡ list_any (some_source groups.now rule.now) sources.now }
 {
-    sources.iter().any(|end| is_source(groups, rule, end))
+    sources.iter().any(|end| some_source(groups, rule, end))
 }
 
 fn has_covered(groups: &[Group], entry: &Dest, dests: &[End]) -> bool
     ensures value { result ≡ list_any (λ d. covers groups.now entry.now.to d) dests.now }
 {
-    dests.iter().any(|end| is_covered(groups, &entry.to, end))
+    dests.iter().any(|end| covers(groups, &entry.to, end))
 }
 
 fn has_own(source: &End, dests: &[End]) -> bool
@@ -37,7 +37,7 @@ fn joins_some(groups: &[Group], rule: &Rule, sources: &[End], dests: &[End]) -> 
     ensures value { result ≡ list_any (λ s. some_source groups.now rule.now s
         && list_any (joins_own s) dests.now) sources.now }
 {
-    sources.iter().any(|source| is_source(groups, rule, source) && has_own(source, dests))
+    sources.iter().any(|source| some_source(groups, rule, source) && has_own(source, dests))
 }
 
 /// Whether some end is a source of the rule, and the destination covers some of the others by itself.

@@ -7,7 +7,7 @@ ghost use Rattle.policy_eval.specs.Sites.{site_has};
 ghost use Rattle.policy_tests.specs.Trials.{core_of};
 ghost use Rattle.policy_tests.specs.TestEnds.{ends_of, has_tag, is_users, machine_end, phantom, site_ends, tag_ends, tag_phantom, user_ends, user_phantom};
 
-use crate::covering::is_lasting;
+use crate::opening::is_lasting;
 use net_addr::Addr;
 use policy_eval::{End, Holder, Site};
 use policy_rows::{Group, Selector, members_of};

@@ -3,11 +3,11 @@
 #![tactic(auto)]
 
 mod accepting;
-mod covering;
 mod denying;
 mod ends;
 mod failure;
 mod laws;
+mod opening;
 mod testing;
 
 pub use failure::TestFailure;
