@@ -1,7 +1,7 @@
 """What a policy grants, and the first of its tests that fails, by docs/POLICY.md."""
 
 import ipaddress
-from dataclasses import dataclass
+from dataclasses import dataclass, field
 
 USUAL = (1, 6, 17, 58)
 PORTED = (6, 17, 132)
@@ -10,6 +10,14 @@ PUBLIC = [ipaddress.ip_network(net) for net in ("0.0.0.0/0", "2000::/3")]
 PRIVATE = [
     ipaddress.ip_network(net) for net in ("10.0.0.0/8", "172.16.0.0/12", "192.168.0.0/16", "169.254.0.0/16", "100.64.0.0/10")
 ]
+
+
+@dataclass(frozen=True)
+class NoPolicy:
+    """What is in force as long as no policy is kept: everything goes through."""
+
+    groups: dict = field(default_factory=dict)
+    rules: list | None = None
 
 
 @dataclass(frozen=True)
@@ -31,14 +39,18 @@ def names(policy, selector, login, tags):
     return selector in ("autogroup:member", login) or login in policy.groups.get(selector, [])
 
 
+def is_internet(address):
+    inside = lambda nets: any(address in net for net in nets)
+    return inside(PUBLIC) and not inside(PRIVATE)
+
+
 def covers(policy, selector, end):
     if selector == "*":
         return True
     if not isinstance(selector, str):
         return end.address is not None and end.address in selector
     if selector == "autogroup:internet":
-        inside = lambda nets: any(end.address in net for net in nets)
-        return end.address is not None and inside(PUBLIC) and not inside(PRIVATE)
+        return end.address is not None and is_internet(end.address)
     return end.holder is not None and names(policy, selector, *end.holder)
 
 
@@ -49,22 +61,33 @@ def joins_own(source, dest):
     return source.holder[0] == dest.holder[0]
 
 
+def rules_of(policy):
+    return OPEN if policy.rules is None else policy.rules
+
+
+def sends(policy, rule, source):
+    """Whether the end is a source of the rule."""
+    return any(covers(policy, selector, source) for selector in rule[1])
+
+
+def dest_covers(policy, selector, source, dest):
+    """Whether a destination covers the end of a flow from that source."""
+    return joins_own(source, dest) if selector == "autogroup:self" else covers(policy, selector, dest)
+
+
 def lets_through(policy, rule, source, dest, proto, port):
-    only, sources, dests = rule
-    if proto not in (USUAL if only is None else (only,)):
+    only, _, dests = rule
+    if proto not in (USUAL if only is None else (only,)) or not sends(policy, rule, source):
         return False
-    if not any(covers(policy, selector, source) for selector in sources):
-        return False
-    for selector, ranges in dests:
-        covered = joins_own(source, dest) if selector == "autogroup:self" else covers(policy, selector, dest)
-        if covered and (proto not in PORTED or any(first <= port <= last for first, last in ranges)):
-            return True
-    return False
+    return any(
+        dest_covers(policy, selector, source, dest)
+        and (proto not in PORTED or any(first <= port <= last for first, last in ranges))
+        for selector, ranges in dests
+    )
 
 
 def granted(policy, source, dest, proto, port):
-    rules = OPEN if policy.rules is None else policy.rules
-    return any(lets_through(policy, rule, source, dest, proto, port) for rule in rules)
+    return any(lets_through(policy, rule, source, dest, proto, port) for rule in rules_of(policy))
 
 
 def ends_of(policy, machines, selector):

@@ -15,7 +15,7 @@ ghost use Rattle.policy_eval.specs.declared.rule_sets.RuleSets.{RuleSets};
 ghost use Rattle.policy_eval.specs.declared.site.Site.{Site};
 
 use crate::cover::Cover;
-use crate::covers::Covers;
+use crate::cover_list::Covers;
 use crate::end::End;
 use crate::flags::flag_at;
 use crate::granting::some_rule_grants;

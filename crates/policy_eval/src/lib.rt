@@ -4,8 +4,8 @@
 
 mod beyond;
 mod cover;
+mod cover_list;
 mod covering;
-mod covers;
 mod end;
 mod expanded;
 mod fitting;

@@ -8,8 +8,8 @@ ghost use Rattle.policy_eval.specs.Covering.{IsGrown, place_nets, sets_let};
 ghost use Rattle.policy_eval.specs.Expansion.{AreMatched, IsCoverAt, IsEntryAt, IsSetOf, RuleFits, source_covers};
 
 use crate::cover::Cover;
+use crate::cover_list::Covers;
 use crate::covering::is_own_devices;
-use crate::covers::Covers;
 use crate::flags::{flag_at, some_flags};
 use crate::listing::add_all;
 use net_addr::Prefix;

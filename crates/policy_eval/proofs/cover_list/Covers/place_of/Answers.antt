@@ -2,7 +2,7 @@ use Rattle.std.proofs.Common.{◌∙◌, List, ap}
 use Rattle.policy_eval.proofs.CoverLemmas.{covering_more, get_end}
 use Rattle.policy_eval.specs.declared.cover.Cover.{Cover}
 use Rattle.std.specs.Prelude.{slice_get}
-use Rattle.policy_eval.proofs.covers.Covers.place_of.Goals as goal
+use Rattle.policy_eval.proofs.cover_list.Covers.place_of.Goals as goal
 
 pub invariant_of-self-2 : goal.invariant_of-self-2
 invariant_of-self-2 c =

@@ -1,6 +1,6 @@
 use Rattle.policy_rows.specs.declared.selector.Selector.{Selector}
 use Rattle.policy_eval.proofs.CoverLemmas.{places_more}
-use Rattle.policy_eval.proofs.covers.Covers.source_places.Goals as goal
+use Rattle.policy_eval.proofs.cover_list.Covers.source_places.Goals as goal
 
 pub loop-selector-preserved : goal.loop-selector-preserved
 loop-selector-preserved c =

@@ -1,6 +1,6 @@
 use Rattle.policy_rows.specs.declared.dest.Dest.{Dest}
 use Rattle.policy_eval.proofs.CoverLemmas.{places_more}
-use Rattle.policy_eval.proofs.covers.Covers.dest_places.Goals as goal
+use Rattle.policy_eval.proofs.cover_list.Covers.dest_places.Goals as goal
 
 pub loop-entry-preserved : goal.loop-entry-preserved
 loop-entry-preserved c =

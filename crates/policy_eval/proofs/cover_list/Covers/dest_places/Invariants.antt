@@ -1,7 +1,7 @@
 use Rattle.std.proofs.Common.{take}
 use Rattle.policy_eval.specs.Covering.{IsGrown}
 use Rattle.policy_eval.specs.Expansion.{AreMatched, IsEntryAt}
-use Rattle.policy_eval.proofs.covers.Covers.dest_places.Given as goal
+use Rattle.policy_eval.proofs.cover_list.Covers.dest_places.Given as goal
 
 abbrev pub invariant-loop-entry : goal.invariant-loop-entry
 invariant-loop-entry l =

@@ -1,7 +1,7 @@
 use Rattle.std.proofs.Common.{◌∙◌, ap, refl, subst}
 use Rattle.policy_eval.specs.Covering.{Covering, IsCovering}
 use Rattle.policy_eval.proofs.CoverLemmas.{found_at}
-use Rattle.policy_eval.proofs.covers.Covers.place_found.Goals as goal
+use Rattle.policy_eval.proofs.cover_list.Covers.place_found.Goals as goal
 
 pub returns-then-same_selector : goal.returns-then-same_selector
 returns-then-same_selector c =
