@@ -1,10 +1,9 @@
-//! The objects of the outside, in memory and over the process.
+//! The objects of the outside over the process, and what none of the conversations asks of those in memory.
 ghost use Rattle.std.specs.Prelude.{◌≡◌, length, IfOk};
 
 use io_edge::{
     Clock, Entropy, Failed, FileFault, Files, HostClock, HostEntropy, HostFiles, MemoryClock,
-    MemoryEntropy, MemoryFiles, MemorySink, MemorySource, NamedBytes, ReadSource, Sink, Source,
-    WriteSink,
+    MemoryEntropy, ReadSource, Sink, Source, WriteSink,
 };
 use std::alloc::Global;
 use std::cell::Cell;
@@ -12,67 +11,31 @@ use std::random::RandomSource;
 use std::test::Fail;
 use std::time::Duration;
 use std::{env, fs, io, rt};
-use tail_base::{Bytes, Items, NoMemory, Text};
+use tail_base::{Items, NoMemory};
 
-fn items<T: Drop, const N: usize>(alloc: Global, values: [T; N]) -> Result<Items<T>, Fail>
-    ensures length { IfOk result (λ made. length made ≡ N) }
-{
-    Ok(Items::from_vec(Vec::from_array(alloc, values)?))
-}
-
-/// What a read into three dots gives: how many bytes, and what then stands there.
-fn read_three<S: Source>(source: &mut S) -> Result<(usize, [u8; 3]), Failed> {
+/// What a read into three dots says, and what then stands there.
+fn read_three<S: Source>(source: &mut S) -> (Result<usize, Failed>, [u8; 3]) {
     let mut piece = *b"...";
-    let n = source.read(&mut piece)?;
-    Ok((n, piece))
-}
-
-#[test]
-fn memory_source(rt: HostRuntime) -> Result<(), Fail> {
-    let alloc = rt.alloc();
-    let bytes = Bytes::from_slice(alloc, b"hello")?;
-    let mut memory = MemorySource::new(bytes, items(alloc, [2])?);
-    let reads = [read_three(&mut memory), read_three(&mut memory)];
-    assert_eq!(rt; reads, [Ok((3, *b"hel")), Err(Failed)]);
-    let reads = [read_three(&mut memory), read_three(&mut memory)];
-    assert_eq!(rt; reads, [Ok((2, *b"lo.")), Ok((0, *b"..."))]);
-    Ok(())
+    let said = source.read(&mut piece);
+    (said, piece)
 }
 
 #[test]
 fn read_source(rt: HostRuntime) {
     let mut reader = ReadSource::new(b"hello".as_slice());
-    let reads = [
-        read_three(&mut reader),
-        read_three(&mut reader),
-        read_three(&mut reader),
-    ];
-    assert_eq!(rt;
-        reads,
-        [Ok((3, *b"hel")), Ok((2, *b"lo.")), Ok((0, *b"..."))]
-    );
-}
-
-/// What three writes of two bytes each give.
-fn write_twos<S: Sink>(sink: &mut S) -> [Result<usize, Failed>; 3] {
-    [sink.write(b"ab"), sink.write(b"cd"), sink.write(b"ef")]
-}
-
-#[test]
-fn memory_sink(rt: HostRuntime) -> Result<(), Fail> {
-    let alloc = rt.alloc();
-    let mut memory = MemorySink::new(alloc, items(alloc, [2])?);
-    assert_eq!(rt; write_twos(&mut memory), [Ok(2), Err(Failed), Ok(2)]);
-    assert_eq!(rt; memory.bytes(), b"abef".as_slice());
-    Ok(())
+    assert_eq!(rt; read_three(&mut reader), (Ok(3), *b"hel"));
+    assert_eq!(rt; read_three(&mut reader), (Ok(2), *b"lo."));
+    assert_eq!(rt; read_three(&mut reader), (Ok(0), *b"..."));
 }
 
 /// A slice takes three bytes and then no more, which is a fault.
 #[test]
 fn write_sink(rt: HostRuntime) {
     let mut room = *b"...";
-    let wrote = write_twos(&mut WriteSink::new(room.as_mut_slice()));
-    assert_eq!(rt; wrote, [Ok(2), Ok(1), Err(Failed)]);
+    let mut sink = WriteSink::new(room.as_mut_slice());
+    assert_eq!(rt; sink.write(b"ab"), Ok(2));
+    assert_eq!(rt; sink.write(b"cd"), Ok(1));
+    assert_eq!(rt; sink.write(b"ef"), Err(Failed));
     assert_eq!(rt; room, *b"abc");
 }
 
@@ -103,11 +66,17 @@ fn answers<C: Clock + Drop>(clock: &mut C, alloc: Global) -> Result<[i64; 4], No
     Ok([first[0], first[1], first[2], other.seconds()])
 }
 
+/// A clock with these answers.
+fn clock_of(alloc: Global) -> Result<MemoryClock, NoMemory> {
+    let mut moments = Items::from_slice(alloc, &[7, -1])?;
+    moments.push(8)?;
+    Ok(MemoryClock::new(moments))
+}
+
 #[test]
 fn memory_clock(rt: HostRuntime) -> Result<(), Fail> {
-    let alloc = rt.alloc();
-    let mut memory = MemoryClock::new(items(alloc, [7, -1, 8])?);
-    assert_eq!(rt; answers(&mut memory, alloc)?, [7, -1, 8, 8]);
+    let mut memory = clock_of(rt.alloc())?;
+    assert_eq!(rt; answers(&mut memory, rt.alloc())?, [7, -1, 8, 8]);
     Ok(())
 }
 
@@ -137,20 +106,31 @@ impl RandomSource for Counting<'_> {
     }
 }
 
+/// Random words with two answers.
+fn entropy_of(alloc: Global) -> Result<MemoryEntropy, NoMemory> {
+    let mut words = Items::from_slice(alloc, &[[1, 2, 3, 4]])?;
+    words.push([5, 6, 7, 8])?;
+    Ok(MemoryEntropy::new(words, Items::new(alloc)))
+}
+
+/// Whether one that was split off draws the words that come next here.
+fn is_split<N: Entropy>(alloc: Global, words: &mut N) -> bool {
+    match words.split(alloc) {
+        Ok(mut other) => {
+            let is_same = other.words() == words.words();
+            words.join(other);
+            is_same
+        }
+        Err(_) => false,
+    }
+}
+
 #[test]
 fn memory_entropy(rt: HostRuntime) -> Result<(), Fail> {
-    let alloc = rt.alloc();
-    let answers = items(alloc, [[1, 2, 3, 4], [5, 6, 7, 8]])?;
-    let mut memory = MemoryEntropy::new(answers, items(alloc, [2])?);
-    let first = [memory.words(), memory.words()];
-    assert_eq!(rt; first, [Ok([1, 2, 3, 4]), Err(Failed)]);
-    if let Ok(mut other) = memory.split(alloc) {
-        let later = [memory.words(), memory.words(), other.words(), other.words()];
-        assert_eq!(rt; later, [Ok([5, 6, 7, 8]); 4]);
-        memory.join(other);
-        return Ok(());
-    }
-    Err(Fail::from("no second one"))
+    let mut memory = entropy_of(rt.alloc())?;
+    assert_eq!(rt; memory.words(), Ok([1, 2, 3, 4]));
+    assert!(rt; is_split(rt.alloc(), &mut memory));
+    Ok(())
 }
 
 #[test]
@@ -168,13 +148,6 @@ fn host_entropy(rt: HostRuntime) -> Result<(), Fail> {
     Ok(())
 }
 
-fn named(alloc: Global, name: &str, bytes: &[u8]) -> Result<NamedBytes, Fail> {
-    Ok(NamedBytes {
-        name: Text::from_str(alloc, name)?,
-        bytes: Bytes::from_slice(alloc, bytes)?,
-    })
-}
-
 /// Whether a read answers so.
 fn gives<F: Files>(
     files: &mut F,
@@ -188,30 +161,6 @@ fn gives<F: Files>(
         (Err(fault), Err(want)) => fault == want,
         _ => false,
     }
-}
-
-/// Whether three files, of which two have one name, are read as they are to be; the fifth read fails.
-fn reads_by_name<F: Files>(files: &mut F, alloc: Global) -> bool {
-    let first = Ok(b"12345".as_slice());
-    gives(files, alloc, "a", 5, first)
-        && gives(files, alloc, "a", 4, Err(FileFault::TooLarge))
-        && gives(files, alloc, "b", 0, Ok(b"".as_slice()))
-        && gives(files, alloc, "c", 9, Err(FileFault::Failed))
-        && gives(files, alloc, "a", 5, Err(FileFault::Failed))
-        && gives(files, alloc, "a", 6, first)
-}
-
-#[test]
-fn memory_files(rt: HostRuntime) -> Result<(), Fail> {
-    let alloc = rt.alloc();
-    let all = [
-        named(alloc, "a", b"12345")?,
-        named(alloc, "b", b"")?,
-        named(alloc, "a", b"other")?,
-    ];
-    let mut memory = MemoryFiles::new(items(alloc, all)?, items(alloc, [5])?);
-    assert!(rt; reads_by_name(&mut memory, alloc));
-    Ok(())
 }
 
 /// Whether a file of five digits is read as it is to be, while it is there and once it is gone.

@@ -4,22 +4,42 @@ use http_front::{Buffer, Taken, no_memory_answer, plain_answer, take_request};
 use io_edge::MemorySource;
 use std::alloc::Global;
 use std::test::Fail;
-use tail_base::{Bytes, Items};
+use tail_base::{Bytes, Items, NoMemory};
 
-/// What the first request of the bytes comes to: 200 for a request, the status of a refusal, 0 for
-/// the end, 1 for a cut, 2 for another answer.
-fn status_of(alloc: Global, bytes: Vec<u8>) -> Result<u16, Fail> {
-    let mut source = MemorySource::new(Bytes::from_vec(bytes), Items::new(alloc));
-    let Ok(mut buffer) = Buffer::new(alloc) else {
-        return Ok(2);
-    };
-    Ok(match take_request(alloc, &mut source, &mut buffer) {
+/// What a connection's next bytes are: 200 for a request, the status of a refusal, 0 for the end, 1
+/// for a cut, 2 for a fault of the source, 3 where memory is refused.
+fn number_of(taken: &Taken) -> u16 {
+    match taken {
         Taken::Request(_) => 200,
         Taken::End => 0,
         Taken::Cut => 1,
         Taken::Bad(fault) => fault.status().as_u16(),
-        Taken::ReadFault | Taken::NoMemory => 2,
-    })
+        Taken::ReadFault => 2,
+        Taken::NoMemory => 3,
+    }
+}
+
+/// The numbers of the next four calls.
+fn numbers(alloc: Global, source: &mut MemorySource, buffer: &mut Buffer) -> [u16; 4] {
+    let mut numbers = [0; 4];
+    for number in numbers.iter_mut() {
+        *number = number_of(&take_request(alloc, source, buffer));
+    }
+    numbers
+}
+
+/// A source of these bytes.
+fn source_of(alloc: Global, bytes: &[u8], fails: &[u32]) -> Result<MemorySource, NoMemory> {
+    let fails = Items::from_slice(alloc, fails)?;
+    let bytes = Bytes::from_slice(alloc, bytes)?;
+    Ok(MemorySource::new(bytes, fails))
+}
+
+/// The numbers of four calls over these bytes, where the reads with these numbers fail.
+fn four(alloc: Global, bytes: &[u8], fails: &[u32]) -> Result<[u16; 4], NoMemory> {
+    let mut buffer = Buffer::new(alloc)?;
+    let mut source = source_of(alloc, bytes, fails)?;
+    Ok(numbers(alloc, &mut source, &mut buffer))
 }
 
 #[test]
@@ -66,89 +86,59 @@ fn each_rule_at_its_edge(rt: HostRuntime) -> Result<(), Fail> {
         ),
     ];
     for (bytes, wanted) in table {
-        let status = status_of(rt.alloc(), Vec::from_slice(rt.alloc(), bytes)?)?;
-        assert_eq!(rt; status, wanted);
+        let numbers = four(rt.alloc(), bytes, &[])?;
+        assert_eq!(rt; numbers[0], wanted);
     }
-    Ok(())
-}
-
-#[test]
-fn long_heads(rt: HostRuntime) -> Result<(), Fail> {
-    let lines = b"GET / HTTP/1.1\r\nHost: a\r\n".as_slice();
-    for (count, wanted) in [(63, 200), (64, 431)] {
-        let mut bytes = Vec::from_slice(rt.alloc(), lines)?;
-        for _ in 0..count {
-            bytes.extend_from_slice(b"a:\r\n")?;
-        }
-        bytes.extend_from_slice(b"\r\n")?;
-        assert_eq!(rt; status_of(rt.alloc(), bytes)?, wanted);
-    }
-    let start = b"GET / HTTP/1.1\r\nHost: a\r\nb: ".as_slice();
-    for (length, wanted) in [(16384, 200), (16385, 431)] {
-        let mut bytes = Vec::from_slice(rt.alloc(), start)?;
-        for _ in 0..length - 32 {
-            bytes.push(b'c')?;
-        }
-        bytes.extend_from_slice(b"\r\n\r\n")?;
-        assert_eq!(rt; bytes.len(), length);
-        assert_eq!(rt; status_of(rt.alloc(), bytes)?, wanted);
-    }
-    Ok(())
-}
-
-#[test]
-fn pipelined(rt: HostRuntime) -> Result<(), Fail> {
-    let text =
-        b"POST /a?b HTTP/1.1\r\nHost: a\r\nContent-Length: 3\r\nConnection: Close\r\nts-machine-key: k\r\nAuthorization: t\r\nAuthorization: u\r\n\r\nabcGET /d HTTP/1.1\nHost:\n\n".as_slice();
-    let alloc = rt.alloc();
-    let bytes = Bytes::from_vec(Vec::from_slice(alloc, text)?);
-    let mut source = MemorySource::new(bytes, Items::new(alloc));
-    let Ok(mut buffer) = Buffer::new(alloc) else {
-        return Ok(());
-    };
-    let first = take_request(alloc, &mut source, &mut buffer);
-    assert!(rt;
-        matches!(&first, Taken::Request(request) if request.method.as_str() == "POST"
-        && request.path.as_slice() == b"/a".as_slice() && request.body.as_slice() == b"abc".as_slice()
-        && request.close)
-    );
-    let second = take_request(alloc, &mut source, &mut buffer);
-    assert!(rt;
-        matches!(&second, Taken::Request(request) if request.method.as_str() == "GET"
-        && request.path.as_slice() == b"/d".as_slice() && request.machine.is_none() && !request.close)
-    );
-    let third = take_request(alloc, &mut source, &mut buffer);
-    assert!(rt; matches!(&third, Taken::End));
     Ok(())
 }
 
 #[test]
 fn a_fault_loses_nothing(rt: HostRuntime) -> Result<(), Fail> {
-    let alloc = rt.alloc();
-    let bytes = Bytes::from_vec(Vec::from_slice(alloc, b"GET / HTTP/1.1\r\nHost:\r\n\r\nGET")?);
-    let mut source = MemorySource::new(bytes, Items::from_vec(vec![in alloc; 1, 3]?));
-    let Ok(mut buffer) = Buffer::new(alloc) else {
-        return Ok(());
+    let numbers = four(rt.alloc(), b"GET / HTTP/1.1\r\nHost:\r\n\r\nGET", &[1, 3])?;
+    assert_eq!(rt; numbers, [2, 200, 2, 1]);
+    Ok(())
+}
+
+/// Two requests, one directly behind the other.
+const BOTH: &[u8] =
+    b"POST /a?b HTTP/1.1\r\nHost: a\r\nContent-Length: 3\r\nConnection: Close\r\nts-machine-key: k\r\nAuthorization: t\r\nAuthorization: u\r\n\r\nabcGET /d HTTP/1.1\nHost:\n\n";
+
+fn is_first(taken: &Taken) -> bool {
+    let Taken::Request(request) = taken else {
+        return false;
     };
-    assert!(rt;
-        matches!(
-            take_request(alloc, &mut source, &mut buffer),
-            Taken::ReadFault
-        )
-    );
-    assert!(rt;
-        matches!(
-            take_request(alloc, &mut source, &mut buffer),
-            Taken::Request(_)
-        )
-    );
-    assert!(rt;
-        matches!(
-            take_request(alloc, &mut source, &mut buffer),
-            Taken::ReadFault
-        )
-    );
-    assert!(rt; matches!(take_request(alloc, &mut source, &mut buffer), Taken::Cut));
+    request.method.as_str() == "POST"
+        && request.path.as_slice() == b"/a".as_slice()
+        && request.body.as_slice() == b"abc".as_slice()
+        && request.close
+}
+
+fn is_second(taken: &Taken) -> bool {
+    let Taken::Request(request) = taken else {
+        return false;
+    };
+    request.method.as_str() == "GET"
+        && request.path.as_slice() == b"/d".as_slice()
+        && request.machine.is_none()
+        && !request.close
+}
+
+/// Whether both are taken, and then the end.
+fn takes_both(alloc: Global, source: &mut MemorySource, buffer: &mut Buffer) -> bool {
+    is_first(&take_request(alloc, source, buffer))
+        && is_second(&take_request(alloc, source, buffer))
+        && matches!(take_request(alloc, source, buffer), Taken::End)
+}
+
+fn is_pipelined(alloc: Global) -> Result<bool, NoMemory> {
+    let mut buffer = Buffer::new(alloc)?;
+    let mut source = source_of(alloc, BOTH, &[])?;
+    Ok(takes_both(alloc, &mut source, &mut buffer))
+}
+
+#[test]
+fn pipelined(rt: HostRuntime) -> Result<(), Fail> {
+    assert!(rt; is_pipelined(rt.alloc())?);
     Ok(())
 }
 

@@ -79,7 +79,14 @@ fn in_file(rt: &HostRuntime, name: &str) -> Result<HostKeeper, EdgeFault>
         Err(_) => return Err(EdgeFault::Failed),
     }
     match Connection::open(rt, name) {
-        Ok(conn) => Ok(HostKeeper::File(SqliteKeeper::adopt(conn))),
+        // Written out: to call `adopt` at this store costs a proof half a minute, since its type is
+        // large.
+        Ok(conn) => Ok(HostKeeper::File(SqliteKeeper {
+            conn,
+            is_loaded: false,
+            faults: 0,
+            calls: 0,
+        })),
         Err(error) => Err(fault_of(error)),
     }
 }

@@ -17,10 +17,10 @@ use std::alloc::Global;
 /// Keeps the tables in the database of a connection. Before it has loaded them it takes no change.
 #[derive(Drop)]
 pub struct SqliteKeeper<S: Alter> {
-    conn: Connection<S>,
-    is_loaded: bool,
-    faults: u64,
-    calls: u64,
+    pub(crate) conn: Connection<S>,
+    pub(crate) is_loaded: bool,
+    pub(crate) faults: u64,
+    pub(crate) calls: u64,
 }
 
 impl<S: Alter> SqliteKeeper<S> {

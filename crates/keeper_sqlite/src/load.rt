@@ -182,14 +182,25 @@ fn read_texts<S: Alter>(
     Ok(())
 }
 
+/// Reads all rows, in this order.
+fn read_each<S: Alter>(
+    conn: &mut Connection<S>,
+    alloc: Global,
+    rows: &mut Rows,
+) -> Result<(), LoadFault> {
+    read_users(conn, alloc, rows)?;
+    read_machines(conn, alloc, rows)?;
+    read_texts(conn, alloc, rows)
+}
+
 /// All rows that the database keeps. The first in the order of reading that is no stored row is
 /// damaged.
 fn read_rows<S: Alter>(conn: &mut Connection<S>, alloc: Global) -> Result<Rows, LoadFault> {
     let mut rows = no_rows(alloc);
-    read_users(conn, alloc, &mut rows)?;
-    read_machines(conn, alloc, &mut rows)?;
-    read_texts(conn, alloc, &mut rows)?;
-    Ok(rows)
+    match read_each(conn, alloc, &mut rows) {
+        Ok(()) => Ok(rows),
+        Err(fault) => Err(fault),
+    }
 }
 
 /// Makes the tables in a database that has nothing. One that has what the store doesn't read is left

@@ -5,41 +5,36 @@ use std::alloc::Global;
 use std::test::Fail;
 use tail_base::{Duplicate, Items, NoMemory, Text};
 use tailcfg::Response;
-use wire_text::{login_at_text, registered_text, response_text};
+use wire_text::response_text;
 
-// Whole maps are among the conversations of the program.
+/// The text of a response, if it was filled.
+fn text_if(alloc: Global, filled: Result<(), Fail>, response: &Response) -> Result<Text, Fail> {
+    filled?;
+    Ok(response_text(alloc, response)?)
+}
+
+/// An empty filter, and a peer that is gone.
+fn add_change(alloc: Global, response: &mut Response) -> Result<(), Fail> {
+    response.removed = Items::from_slice(alloc, &[2])?;
+    response.filter = Some(Items::new(alloc));
+    response.seq = Some(2);
+    Ok(())
+}
+
+fn change_text(alloc: Global) -> Result<Text, Fail> {
+    let mut response = empty(alloc);
+    let filled = add_change(alloc, &mut response);
+    text_if(alloc, filled, &response)
+}
+
+// Whole maps, answers to registrations and those to machines that wait are among the conversations
+// of the program.
 #[test]
 fn a_change(rt: HostRuntime) -> Result<(), Fail> {
-    let alloc = rt.alloc();
-    let mut closing = empty(alloc);
-    closing.seq = Some(2);
-    closing.filter = Some(Items::new(alloc));
-    closing.removed = Items::from_slice(alloc, &[2])?;
-    let text = response_text(alloc, &closing)?;
-    assert!(rt; text.as_str() == "{\"PacketFilter\":[],\"PeersRemoved\":[2],\"Seq\":2}");
-    Ok(())
-}
-
-#[test]
-fn a_registration(rt: HostRuntime) -> Result<(), Fail> {
-    let alloc = rt.alloc();
-    let registered = registered_text(alloc, &profile(alloc, 1, "seed@", "seed")?, false)?;
-    assert!(rt;
-        registered.as_str()
-            == "{\"AuthURL\":\"\",\"Error\":\"\",\"Login\":{\"ID\":1,\"LoginName\":\"seed@\"},\"MachineAuthorized\":true,\"NodeKeyExpired\":false,\"User\":{\"DisplayName\":\"seed\",\"ID\":1}}"
-    );
-    Ok(())
-}
-
-#[test]
-fn a_waiting_machine(rt: HostRuntime) -> Result<(), Fail> {
-    let alloc = rt.alloc();
-    let server = Text::from_str(alloc, "http://tail.example")?;
-    let pending = Text::from_str(alloc, "reg-1-00000000000000010000000000000002")?;
-    let waiting = login_at_text(alloc, &server, &pending)?;
-    assert!(rt;
-        waiting.as_str()
-            == "{\"AuthURL\":\"http://tail.example/register/reg-1-00000000000000010000000000000002\",\"Error\":\"\",\"Login\":{\"ID\":0,\"LoginName\":\"\"},\"MachineAuthorized\":false,\"NodeKeyExpired\":false,\"User\":{\"DisplayName\":\"\",\"ID\":0}}"
+    let text = change_text(rt.alloc())?;
+    assert_eq!(rt;
+        text.as_str(),
+        "{\"PacketFilter\":[],\"PeersRemoved\":[2],\"Seq\":2}"
     );
     Ok(())
 }
@@ -83,19 +78,18 @@ fn add_profile(alloc: Global, response: &mut Response) -> Result<(), NoMemory> {
     Ok(())
 }
 
-/// A response in which each kind of member stands.
-fn full(alloc: Global) -> Result<Response, Fail> {
-    let mut response = empty(alloc);
-    add_texts(alloc, &mut response)?;
-    add_changed(alloc, &mut response)?;
-    add_patch(alloc, &mut response)?;
-    add_rule(alloc, &mut response)?;
-    add_dns(alloc, &mut response)?;
-    add_profile(alloc, &mut response)?;
-    Ok(response)
+/// Each kind of member.
+fn add_all(alloc: Global, response: &mut Response) -> Result<(), Fail> {
+    add_texts(alloc, response)?;
+    add_changed(alloc, response)?;
+    add_patch(alloc, response)?;
+    add_rule(alloc, response)?;
+    add_dns(alloc, response)?;
+    add_profile(alloc, response)?;
+    Ok(())
 }
 
-/// The text of that response, a member a line.
+/// The text of a response in which each kind of member stands, a member a line.
 const FULL: &str =
     r#"{"DNSConfig":{"Domains":["tail.example"],"ExtraRecords":[{"Name":"nas.tail.example","Type":"A","Value":"100.64.0.9"},{"Name":"six.tail.example","Type":"AAAA","Value":"fd7a:115c:a1e0::9"}],"Proxied":true,"Resolvers":[{"Addr":"1.1.1.1"},{"Addr":"2606:4700:4700::1111"}],"Routes":{"corp.example":[{"Addr":"fd00::53"}],"example.net":[{"Addr":"10.0.0.55"}],"example.org":[{"Addr":"10.0.0.53"}]}},
 "Domain":"tail.example",
@@ -117,9 +111,9 @@ fn joined(alloc: Global, text: &str) -> Result<String, Fail> {
 }
 
 fn full_text(alloc: Global) -> Result<Text, Fail> {
-    let full = full(alloc)?;
-    let text = response_text(alloc, &full)?;
-    Ok(text)
+    let mut response = empty(alloc);
+    let filled = add_all(alloc, &mut response);
+    text_if(alloc, filled, &response)
 }
 
 #[test]
@@ -130,12 +124,27 @@ fn a_whole_response(rt: HostRuntime) -> Result<(), Fail> {
     Ok(())
 }
 
+fn add_greeting(alloc: Global, response: &mut Response) -> Result<(), NoMemory> {
+    let handle = Text::from_str(alloc, "s1-0000000000000001")?;
+    response.handle = Some(handle);
+    Ok(())
+}
+
+/// The frame of a response, if it was filled.
+fn frame_if(
+    alloc: Global,
+    filled: Result<(), NoMemory>,
+    response: &Response,
+) -> Result<Vec<u8>, NoMemory> {
+    filled?;
+    frame_bytes(alloc, response)
+}
+
 /// A response that greets, as a frame.
 fn greeting(alloc: Global) -> Result<Vec<u8>, NoMemory> {
-    let handle = Text::from_str(alloc, "s1-0000000000000001")?;
     let mut response = empty(alloc);
-    response.handle = Some(handle);
-    frame_bytes(alloc, &response)
+    let filled = add_greeting(alloc, &mut response);
+    frame_if(alloc, filled, &response)
 }
 
 #[test]

@@ -6,11 +6,19 @@ use tail_base::NoMemory;
 use tail_words::{Command, SettingsFault, read_command, read_settings};
 use tailcfg::DnsSettings;
 
-/// The rule and key of the fault of a settings file.
+/// Whether the fault is that of this rule at this key.
+fn is_fault(fault: &SettingsFault, rule: u8, key: &str) -> bool {
+    match fault {
+        SettingsFault::Refused { rule: r, key: k } => r.number() == rule && k.as_str() == key,
+        SettingsFault::NoMemory => false,
+    }
+}
+
+/// Whether a settings file is refused by this rule at this key.
 fn is_refused(rt: &HostRuntime, text: &[u8], rule: u8, key: &str) -> bool {
     match read_settings(rt.alloc(), text) {
-        Err(SettingsFault::Refused { rule: r, key: k }) => r.number() == rule && k.as_str() == key,
-        _ => false,
+        Ok(_) => false,
+        Err(fault) => is_fault(&fault, rule, key),
     }
 }
 
@@ -56,14 +64,24 @@ fn file_of(alloc: Global, text: &str) -> Result<String, Fail> {
     Ok(file)
 }
 
+/// The rule, the key and the text of a line of the table.
+fn parts_of(line: &str) -> Option<(u8, &str, &str)> {
+    let (rule, rest) = line.split_once(" ")?;
+    let (key, text) = rest.split_once(" ")?;
+    Some((rule.parse::<u8>().ok()?, key, text))
+}
+
+/// Whether the file of a line has the fault of the line.
+fn is_line_refused(rt: &HostRuntime, line: &str) -> Result<bool, Fail> {
+    let (rule, key, text) = parts_of(line).ok_or("no line")?;
+    let file = file_of(rt.alloc(), text)?;
+    Ok(is_refused(rt, file.as_bytes(), rule, key))
+}
+
 #[test]
 fn files_and_their_first_faults(rt: HostRuntime) -> Result<(), Fail> {
     for line in FAULTY.lines() {
-        let (rule, rest) = line.split_once(" ").ok_or("no rule")?;
-        let (key, text) = rest.split_once(" ").ok_or("no key")?;
-        let file = file_of(rt.alloc(), text)?;
-        let rule = rule.parse::<u8>().ok().ok_or("no number")?;
-        assert!(rt; is_refused(&rt, file.as_bytes(), rule, key), "{line}");
+        assert!(rt; is_line_refused(&rt, line)?, "{line}");
     }
     assert!(rt; is_refused(&rt, b"token = \"\xff\"", 1, "text"));
     Ok(())
@@ -83,12 +101,21 @@ fn are_defaults(fields: &SettingsFields) -> bool {
         && fields.dns.domains.as_slice()[0].as_str() == "ts.example"
 }
 
+/// The keys that each file has, and nothing else.
+const NEEDED: &[u8] =
+    b"base_domain = \"ts.example\"\nserver_url = \"https://a.example\"\ntoken = \"t\"\n";
+
+/// Whether a file with the needed keys alone has the defaults.
+fn has_defaults(alloc: Global) -> bool {
+    match read_settings(alloc, NEEDED) {
+        Ok(settings) => are_defaults(settings.fields()),
+        Err(_) => false,
+    }
+}
+
 #[test]
-fn a_whole_file(rt: HostRuntime) -> Result<(), Fail> {
-    let text = b"base_domain = \"ts.example\"\nserver_url = \"https://a.example\"\ntoken = \"t\"\n";
-    let settings = read_settings(rt.alloc(), text).ok().ok_or("a good file")?;
-    assert!(rt; are_defaults(settings.fields()));
-    Ok(())
+fn a_whole_file(rt: HostRuntime) {
+    assert!(rt; has_defaults(rt.alloc()));
 }
 
 const ALL_KEYS: &[u8] =
@@ -123,26 +150,27 @@ fn is_all_dns(dns: &DnsSettings) -> bool {
         && dns.domains.as_slice()[0].as_str() == "x.y"
 }
 
+/// Whether all keys of the file are read.
+fn has_all_keys(alloc: Global) -> bool {
+    match read_settings(alloc, ALL_KEYS) {
+        Ok(settings) => are_all_keys(settings.fields()) && is_all_dns(&settings.fields().dns),
+        Err(_) => false,
+    }
+}
+
 #[test]
-fn all_keys_of_a_file(rt: HostRuntime) -> Result<(), Fail> {
-    let settings = read_settings(rt.alloc(), ALL_KEYS)
-        .ok()
-        .ok_or("a good file")?;
-    assert!(rt; are_all_keys(settings.fields()));
-    assert!(rt; is_all_dns(&settings.fields().dns));
-    Ok(())
+fn all_keys_of_a_file(rt: HostRuntime) {
+    assert!(rt; has_all_keys(rt.alloc()));
 }
 
 /// Words, and the command that they are.
-const WORDS: [(&str, &str); 7] = [
-    ("pipe", "-"),
-    ("pipe a.toml", "pipe a.toml without a seed"),
-    ("pipe a.toml --seed", "-"),
-    ("pipe a.toml --seed k1", "pipe a.toml with k1"),
-    ("pipe a.toml --seed k1 ", "-"),
-    ("policy-check", "-"),
-    ("policy-check a.hujson", "policy-check a.hujson"),
-];
+const WORDS: &str = "pipe => -
+pipe a.toml => pipe a.toml without a seed
+pipe a.toml --seed => -
+pipe a.toml --seed k1 => pipe a.toml with k1
+pipe a.toml --seed k1  => -
+policy-check => -
+policy-check a.hujson => policy-check a.hujson";
 
 fn words_of(alloc: Global, line: &str) -> Result<Vec<String>, NoMemory> {
     let mut words = Vec::new(alloc);
@@ -164,11 +192,17 @@ fn shown(alloc: Global, command: Option<Command<'_>>) -> Result<String, NoMemory
     }
 }
 
+/// The command that a line of words is, in the words of the table.
+fn command_of(alloc: Global, line: &str) -> Result<String, NoMemory> {
+    let words = words_of(alloc, line)?;
+    shown(alloc, read_command(&words))
+}
+
 #[test]
 fn words_of_the_command_line(rt: HostRuntime) -> Result<(), Fail> {
-    for (line, command) in WORDS {
-        let words = words_of(rt.alloc(), line)?;
-        let found = shown(rt.alloc(), read_command(&words))?;
+    for line in WORDS.lines() {
+        let (words, command) = line.split_once(" => ").ok_or("no command")?;
+        let found = command_of(rt.alloc(), words)?;
         assert_eq!(rt; found.as_str(), command, "{line}");
     }
     Ok(())
