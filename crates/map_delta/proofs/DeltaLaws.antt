@@ -1,5 +1,5 @@
 -- Folding a delta brings the old view to the new one.
-use Rattle.std.proofs.Common.{◌≡◌, ◌+◌, ℕ, Bool, true, List, [], ◌∷◌, sym, ◌∙◌, ap, refl, ◌==◌, filter, not, ◌||◌, if◌then◌else◌, inl, inr}
+use Rattle.std.proofs.Common.{◌≡◌, ◌+◌, ℕ, Bool, true, List, [], ◌∷◌, sym, ◌∙◌, ap, refl, ◌==◌, filter, ◌||◌, if◌then◌else◌, inl, inr}
 use Rattle.std.specs.Prelude.{Option, Some, None, is_none, is_some, unwrap_or}
 use Rattle.std.specs.Option.{option_map}
 use Rattle.std.proofs.lemmas.Bool.{cases_Bool, false≢true}
@@ -21,7 +21,7 @@ use Rattle.fresh_maps.specs.Profiles.{owns_any}
 use Rattle.fresh_maps.specs.declared.view.View.{View}
 use Rattle.map_delta.specs.Delta.{change, delta, is_empty, is_nil, new_profiles, patches_between, patching, then_patch, new_unless}
 use Rattle.map_delta.specs.Fold.{applied, fold_all, left_rows, patch_rows, peers_after, start}
-use Rattle.map_delta.specs.Puts.{node_id, profile_id, put_rows}
+use Rattle.map_delta.specs.Puts.{profile_id, put_rows}
 use Rattle.map_delta.proofs.PatchLemmas.{owners_patched}
 use Rattle.map_delta.proofs.PeerLemmas.{middle_rows, nothing_changed, nothing_patched, nothing_removed, rows_are}
 use Rattle.map_delta.proofs.ProfileLemmas.{nothing_new, profiles_are, profiles_stay}

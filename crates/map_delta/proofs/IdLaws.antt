@@ -1,9 +1,9 @@
 -- What is at each id, in lists by ascending id.
-use Rattle.std.proofs.Common.{◌≡◌, ◌<◌, ℕ, Bool, true, false, List, [], ◌∷◌, arith, inl, inr, sym, ◌∙◌, ap, subst, refl, ◌==◌, ◌&&◌, if◌then◌else◌}
+use Rattle.std.proofs.Common.{◌≡◌, ◌<◌, ℕ, Bool, true, false, List, [], ◌∷◌, arith, inl, inr, sym, ◌∙◌, ap, refl, ◌==◌, ◌&&◌, if◌then◌else◌}
 use Rattle.std.specs.Prelude.{Contains, Option, Some, None, filter, is_some, map}
 use Rattle.std.specs.List.{cons_option, filter_map, list_any}
 use Rattle.std.specs.Option.{option_and_then, option_map, option_or}
-use Rattle.std.proofs.lemmas.Bool.{cases_Bool, eqb-true, eq-eqb}
+use Rattle.std.proofs.lemmas.Bool.{cases_Bool, eqb-true}
 use Rattle.net_rows.specs.Shelf.{IsAscending, put_row, row_at}
 use Rattle.net_rows.proofs.Members.{cut_member, find_member, first_member, no_member, rest_member}
 use Rattle.net_rows.proofs.MapLemmas.{row_at-put_row}

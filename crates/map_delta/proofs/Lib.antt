@@ -1,5 +1,6 @@
 pub mod IdLaws
 pub mod PlaceLemmas
+pub mod LoopLemmas
 pub mod PatchLemmas
 pub mod PeerLemmas
 pub mod ProfileLemmas

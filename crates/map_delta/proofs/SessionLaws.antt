@@ -1,11 +1,11 @@
 -- The responses of a session.
-use Rattle.std.proofs.Common.{◌≡◌, ◌+◌, ℕ, Bool, true, false, List, [], ◌∷◌, ◌∙◌, ap, arith, refl, inl, inr, subst, if◌then◌else◌}
+use Rattle.std.proofs.Common.{◌≡◌, ◌+◌, ℕ, Bool, true, false, List, [], ◌∷◌, arith, refl, subst, if◌then◌else◌}
 use Rattle.std.specs.Prelude.{IfSome, Option, Some, None}
 use Rattle.tailcfg.specs.declared.patch.Patch.{Patch}
 use Rattle.tailcfg.specs.declared.response.Response.{Response}
 use Rattle.fresh_maps.specs.InOrder.{IsInOrder}
 use Rattle.fresh_maps.specs.declared.view.View.{View}
-use Rattle.map_delta.specs.Delta.{AreNumbered, change, delta, is_empty, patches_between, responses_for, then_patch}
+use Rattle.map_delta.specs.Delta.{AreNumbered, change, is_empty, patches_between, responses_for, then_patch}
 use Rattle.map_delta.specs.Fold.{fold_all}
 use Rattle.map_delta.proofs.DeltaLaws.{delta_law}
 use Rattle.map_delta.proofs.FirstLaws.{first_law}

@@ -1,5 +1,5 @@
 -- The responses that bring a view to a newer one.
-use Rattle.std.specs.Prelude.{◌≡◌, ◌+◌, ℕ, Bool, true, false, List, [], ◌∷◌, ◌==◌, ◌&&◌, ◌||◌, not, filter, map, if◌then◌else◌, Option, Some, None, is_none, is_some}
+use Rattle.std.specs.Prelude.{◌≡◌, ◌+◌, ℕ, Bool, true, false, List, [], ◌∷◌, ◌==◌, ◌&&◌, ◌||◌, not, filter, map, if◌then◌else◌, Option, Some, None, is_none}
 use Rattle.std.specs.Bool.{beq}
 use Rattle.std.specs.Cmp.Lexicographic.{pointwise}
 use Rattle.std.specs.List.{filter_map}
@@ -120,12 +120,13 @@ abbrev pub then_patch : List Patch → ℕ → List Response
 then_patch [] seq = []
 then_patch (p ∷ ps) seq = patching (p ∷ ps) seq ∷ []
 
+-- a change, if it has content, and then patches, if there are any, numbered behind the last response
+abbrev pub responses_of : Response → List Patch → ℕ → List Response
+responses_of c ps seq = if is_empty c then then_patch ps (seq + 1) else c ∷ then_patch ps (seq + 2)
+
 -- At most a change and then patches, numbered behind the last one; nothing where nothing differs.
 abbrev pub delta : View → View → ℕ → List Response
-delta old new seq =
-    let c = change old new (seq + 1) in
-    let ps = patches_between old.peers new.peers in
-    if is_empty c then then_patch ps (seq + 1) else c ∷ then_patch ps (seq + 2)
+delta old new seq = responses_of (change old new (seq + 1)) (patches_between old.peers new.peers) seq
 
 -- The responses of a session: the whole map where nothing was sent, and else what brings the sent map to the new one.
 abbrev pub responses_for : List ℕ → ℕ → Option View → View → List Response
