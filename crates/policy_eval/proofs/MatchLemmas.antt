@@ -1,9 +1,11 @@
 -- Lists that go together place by place.
-use Rattle.std.proofs.Common.{◌≡◌, ◌<◌, ◌≤◌, ◌+◌, ℕ, zero, suc, Bool, List, [], ◌∷◌, ◌++◌, length, add-one, drop, drop-cons, get_or, take, append_assoc, arith, refl, ap, sym, ◌∙◌, inl, inr, subst, if◌then◌else◌}
+use Rattle.std.proofs.Common.{◌≡◌, ◌<◌, ◌≤◌, ◌+◌, ◌||◌, ℕ, zero, suc, Bool, false, List, [], ◌∷◌, ◌++◌, length, add-one, drop, drop-cons, get_or, take, append_assoc, arith, refl, ap, sym, ◌∙◌, inl, inr, subst, if◌then◌else◌}
 use Rattle.std.specs.Prelude.{Contains, filter, map, slice_index_or}
 use Rattle.std.proofs.lemmas.Bool.{cases_Bool}
 use Rattle.std.proofs.Math.Seq.{take-length}
+use Rattle.std.specs.List.{list_any}
 use Rattle.std.proofs.lemmas.List.{take_more}
+use Rattle.std.proofs.lemmas.List.Folds.{list_any-append}
 use Rattle.net_rows.proofs.Members.{cut_last}
 use Rattle.policy_eval.specs.Expansion.{AreMatched}
 
@@ -70,3 +72,19 @@ told_all {A} P xs i below past told a m =
     let end : i ≡ length xs = omega arith in
     let whole : take i xs ≡ xs = ap (λ (n : ℕ). take n xs) end ∙ take-length xs in
     told a (subst (λ (zs : List A). Contains zs a) (sym whole) m)
+
+-- one more that doesn't pass
+pub any_more : {A : Type 0} (f : A → Bool) (xs items : List A) (i : ℕ) (x : A) → items ≡ xs → i < length items → x ≡ get_or items i x → list_any f (take i xs) ≡ false → false ≡ f x
+    → list_any f (take (i + 1) xs) ≡ false
+any_more {A} f xs items i x same lt is told fails =
+    let less : i < length xs = subst (λ (zs : List A). i < length zs) same lt in
+    let item : x ≡ get_or xs i x = subst (λ (zs : List A). x ≡ get_or zs i x) same is in
+    let step : take (i + 1) xs ≡ take i xs ++ x ∷ [] = take_more xs i x less ∙ ap (λ (z : A). take i xs ++ z ∷ []) (sym item) in
+    ap (list_any f) step ∙ (list_any-append f (take i xs) (x ∷ []) ∙ (λ j. told j || (sym fails j || false)))
+
+-- where none passed up to the end none does
+pub any_end : {A : Type 0} (f : A → Bool) (xs items : List A) (i : ℕ) → items ≡ xs → i ≤ length items → length items ≤ i → list_any f (take i xs) ≡ false → false ≡ list_any f xs
+any_end {A} f xs items i same below past told =
+    let end : i ≡ length items = omega arith in
+    let whole : take i xs ≡ xs = ap (λ (n : ℕ). take n xs) (end ∙ ap length same) ∙ take-length xs in
+    sym told ∙ ap (list_any f) whole

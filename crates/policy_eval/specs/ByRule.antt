@@ -1,7 +1,9 @@
 -- What a rule says of two machines, seen from these alone.
-use Rattle.std.specs.Prelude.{◌<◌, ◌&&◌, ◌||◌, Bool, List, [], ◌∷◌, Some}
+use Rattle.std.specs.Prelude.{◌<◌, ◌&&◌, ◌||◌, Bool, List, [], ◌∷◌, Option, Some, None}
 use Rattle.std.specs.List.{list_any}
-use Rattle.net_addr.specs.Bits.{Address, family_size}
+use Rattle.net_addr.specs.Bits.{Address, Block, family_size}
+use Rattle.net_addr.specs.Blocks.{holds}
+use Rattle.policy_rows.specs.Internet.{is_internet}
 use Rattle.policy_rows.specs.declared.group.Group.{Group}
 use Rattle.policy_rows.specs.declared.rule.Rule.{Rule}
 use Rattle.policy_rows.specs.declared.selector.Selector.{Selector}
@@ -37,6 +39,19 @@ sends groups r site = list_any (covers_site groups site) r.sources
 -- `autogroup:self` covers no end alone
 abbrev pub takes : List Group → Rule → Site → Bool
 takes groups r site = list_any (λ entry. covers_served groups site entry.to) r.dests
+
+-- Where a machine may send to besides to machines: into a route, or, without one, into the internet.
+abbrev pub target_of : Option Block → Address → Bool
+target_of None addr = is_internet addr
+target_of (Some route) addr = holds route addr
+
+-- by the rule the machine sends to some address of the set, of which no machine has one
+abbrev pub sends_into : List Group → (Address → Bool) → Site → Rule → Bool
+sends_into groups target site r = sends groups r site && list_any (λ entry. covers_into target entry.to) r.dests
+
+-- it does so by some rule
+abbrev pub site_sends_into : List Group → List Rule → (Address → Bool) → Site → Bool
+site_sends_into groups rules target site = list_any (sends_into groups target site) rules
 
 -- `autogroup:self` is a destination of the rule
 abbrev pub has_own_devices : Rule → Bool

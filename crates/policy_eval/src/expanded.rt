@@ -4,7 +4,7 @@ ghost use Rattle.std.specs.List.{list_any};
 ghost use Rattle.std.specs.Option.{option_copied};
 ghost use Rattle.policy_rows.specs.declared.dest.Dest.{Dest};
 ghost use Rattle.policy_rows.specs.declared.rule.Rule.{Rule};
-ghost use Rattle.policy_eval.specs.ByRule.{sends, site_reaches, takes};
+ghost use Rattle.policy_eval.specs.ByRule.{sends, sends_into, site_reaches, site_sends_into, takes, target_of};
 ghost use Rattle.policy_eval.specs.Covering.{sets_let};
 ghost use Rattle.policy_eval.specs.Expansion.{Expansion, IsSetOf, entry_covers, expansion_of, source_covers};
 ghost use Rattle.policy_eval.specs.Grants.{some_rule_grants};
@@ -22,6 +22,8 @@ use crate::granting::some_rule_grants;
 use crate::rule_sets::{RuleSets, sets_let, sets_of_rules};
 use crate::rules::{groups_of, look_at_rules, rules_of};
 use crate::site::{Site, are_own, sites_of};
+use crate::touching::dests_into;
+use net_addr::Prefix;
 use net_rows::Tables;
 use policy_rows::{Group, Policy, Rule};
 use range_sets::RangeSet;
@@ -185,6 +187,35 @@ impl Expanded {
     {
         let sets = sets_of(self.sets.as_slice(), rule);
         flag_at(sets.takes.as_slice(), site)
+    }
+
+    /// Whether by that rule the machine at that place sends into the route, or, without one, into the
+    /// internet.
+    fn rule_sends_into(&self, at: usize, rule: &Rule, site: usize, target: Option<&Prefix>) -> bool
+        requires rule_inside { at < length self.now.rules }
+        requires rule_is { (r : Rule) → slice_index_or self.now.rules at r ≡ rule.now }
+        requires site_inside { site < length self.now.sites }
+        ensures value { (s : Site) → result
+            ≡ sends_into self.now.groups (target_of (option_copied target.entry))
+            (slice_index_or self.now.sites site s) rule.now }
+    {
+        self.sends(at, site) && dests_into(rule, target)
+    }
+
+    /// Whether some rule lets the machine at that place send into the route, or, without one, into the
+    /// internet, where no machine has the address.
+    pub fn sends_into(&self, site: usize, target: Option<&Prefix>) -> bool
+        requires site_inside { site < length self.now.sites }
+        ensures value { (s : Site) → result
+            ≡ site_sends_into self.now.groups self.now.rules
+            (target_of (option_copied target.entry)) (slice_index_or self.now.sites site s) }
+    {
+        for (at, rule) in self.rules().iter().enumerate() {
+            if self.rule_sends_into(at, rule, site, target) {
+                return true;
+            }
+        }
+        false
     }
 
     /// Whether some rule lets the machine at one place through to that at the other. It looks at flags,

@@ -3,10 +3,12 @@ ghost use Rattle.std.specs.Prelude.{◌≡◌, ◌&&◌, not, true};
 ghost use Rattle.std.specs.List.{list_any};
 ghost use Rattle.net_addr.specs.Blocks.{holds, is_within, overlap};
 ghost use Rattle.policy_rows.specs.Internet.{internet_nets, is_internet, not_internet};
+ghost use Rattle.std.specs.Option.{option_copied};
+ghost use Rattle.policy_eval.specs.ByRule.{target_of};
 ghost use Rattle.policy_eval.specs.Beyond.{covers_into, met_by, shares_internet, shares_net};
 
 use net_addr::Prefix;
-use policy_rows::{Selector, internet_nets, not_internet};
+use policy_rows::{Rule, Selector, internet_nets, not_internet};
 
 /// Whether some address is one of the route's and one of the prefix's.
 #[tactic(auto, using(crate::proofs::InternetLemmas::shared_address))]
@@ -99,4 +101,23 @@ pub(crate) fn covers_internet(selector: &Selector) -> bool
     ensures value { result ≡ covers_into is_internet selector.now }
 {
     internet_met(selector)
+}
+
+/// Whether the selector covers some address of the route, or, without a route, of the internet.
+fn covers_target(selector: &Selector, target: Option<&Prefix>) -> bool
+    ensures value { result ≡ covers_into (target_of (option_copied target.entry)) selector.now }
+{
+    match target {
+        Some(route) => covers_route(selector, route),
+        None => covers_internet(selector),
+    }
+}
+
+/// Whether some destination of the rule does.
+pub(crate) fn dests_into(rule: &Rule, target: Option<&Prefix>) -> bool
+    ensures value { result ≡ list_any
+        (λ entry. covers_into (target_of (option_copied target.entry)) entry.to) rule.now.dests }
+{
+    let entries = rule.dests.as_slice();
+    entries.iter().any(|entry| covers_target(&entry.to, target))
 }
