@@ -1,6 +1,6 @@
 -- An accept entry passes exactly where the ends without machines pass.
 use Rattle.std.proofs.Common.{◌≡◌, ℕ, Bool, true, List, [], inl, inr, refl, sym, ap, subst, ◌∙◌}
-use Rattle.std.specs.Prelude.{Contains, Some, Option}
+use Rattle.std.specs.Prelude.{Some, Option}
 use Rattle.std.specs.List.{list_all}
 use Rattle.std.proofs.lemmas.Bool.{and_parts}
 use Rattle.tail_base.proofs.Bools.{same_tests}

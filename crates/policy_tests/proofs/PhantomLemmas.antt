@@ -1,5 +1,5 @@
 -- Whatever grants a phantom grants each machine's end that it stands for.
-use Rattle.std.proofs.Common.{◌≡◌, ◌==◌, ◌&&◌, ◌||◌, ℕ, Bool, true, false, not, List, [], ◌∷◌, length, ◌⊎◌, inl, inr, arith, refl, sym, ap, subst, ◌∙◌}
+use Rattle.std.proofs.Common.{◌≡◌, ◌==◌, ◌&&◌, ℕ, true, false, not, List, [], ◌∷◌, length, inl, inr, arith, refl, sym, subst}
 use Rattle.std.specs.Prelude.{Contains, Option, Some, None}
 use Rattle.std.specs.List.{list_any}
 use Rattle.std.specs.Option.{option_map_or}
@@ -21,8 +21,8 @@ use Rattle.policy_eval.specs.Grants.{entry_grants, ports_hold, rule_grants, some
 use Rattle.policy_eval.specs.declared.end.End.{End}
 use Rattle.policy_eval.specs.declared.end.Holder.{Holder}
 use Rattle.policy_eval.specs.declared.site.Site.{Site}
-use Rattle.policy_tests.specs.Lasting.{IsTagEnd, IsUserEnd, StandsFor}
-use Rattle.policy_tests.specs.TestEnds.{has_tag, is_users, machine_end, site_ends, tag_phantom, user_phantom}
+use Rattle.policy_tests.specs.Lasting.{StandsFor}
+use Rattle.policy_tests.specs.TestEnds.{has_tag, is_users, machine_end, site_ends}
 
 -- whatever names the one names the other, and whoever is of one user with the one is so with the other
 pub record Outlasts (h k : Holder) : Type 0 where

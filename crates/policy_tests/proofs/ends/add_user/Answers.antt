@@ -1,5 +1,5 @@
 use Rattle.policy_tests.specs.TestEnds.{is_users, site_ends}
-use Rattle.policy_tests.proofs.LoopLemmas.{last_added, passing_more}
+use Rattle.policy_tests.proofs.LoopLemmas.{passing_more}
 use Rattle.policy_tests.proofs.ends.add_user.Goals as goal
 
 pub loop-site-preserved : goal.loop-site-preserved
