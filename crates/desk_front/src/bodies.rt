@@ -7,7 +7,7 @@ use admin_wire::{
     key_text, keys_text, node_text, nodes_text, swept_text, user_text, users_text, waiting_text,
 };
 use fresh_maps::first_frame;
-use machine_asks::MachineAnswer;
+use map_asks::MachineAnswer;
 use policy_asks::PolicyAnswer;
 use std::alloc::Global;
 use tail_base::{NoMemory, Text};

@@ -22,7 +22,7 @@ use Rattle.machine_asks.specs.Decision.{decision}
 use Rattle.machine_asks.specs.Laws.{IsRepeat}
 use Rattle.machine_asks.specs.Logout.{is_logout}
 use Rattle.machine_asks.specs.Register.{register_as, registered_again, repeats}
-use Rattle.machine_asks.specs.declared.answer.MachineAnswer.{MachineAnswer}
+use Rattle.map_asks.specs.declared.answer.MachineAnswer.{MachineAnswer}
 use Rattle.machine_asks.specs.declared.ask.MachineAsk.TheVariants as ask
 
 first_of_two : {A : Type 0} (b : Bool) (x y : A) → b ≡ true → (if b then x else y) ≡ x

@@ -1,11 +1,8 @@
-pub mod Asking
 pub mod ByKey
 pub mod Decision
 pub mod Laws
 pub mod Logout
-pub mod OneMap
 pub mod Register
 pub mod Seed
 pub mod Short
-pub mod Update
 pub mod Waiting

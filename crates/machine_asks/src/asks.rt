@@ -4,12 +4,10 @@ ghost use Rattle.tail_base.specs.Steps.{Gives};
 ghost use Rattle.machine_asks.specs.Decision as spec;
 ghost use Rattle.machine_asks.specs.Short.{IsShortMachineAsk};
 
-use crate::answer::MachineAnswer;
 use crate::ask::MachineAsk;
-use crate::map_ask::one_map;
 use crate::register_ask::register;
-use crate::update_ask::update;
 use desk_state::{Decision, Refusal, Snapshot};
+use map_asks::{MachineAnswer, one_map, update};
 use std::alloc::Global;
 use tail_base::Failure;
 

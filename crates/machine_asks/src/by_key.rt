@@ -4,10 +4,11 @@ ghost use Rattle.std.specs.Option.{option_copied};
 ghost use Rattle.tail_base.specs.Steps.{Gives};
 ghost use Rattle.machine_asks.specs.ByKey as spec;
 
-use crate::answer::MachineAnswer;
+use crate::ids::one_id;
 use desk_state::{Decision, Refusal, Snapshot, is_ahead, tags_granted};
 use fresh_maps::profile_of;
 use machine_rows::{Entrant, expiry_of, joined, machine_row, place_for, row_change, same_row};
+use map_asks::MachineAnswer;
 use moments::Moment;
 use net_rows::{AuthKey, Change, Machine, Pending};
 use std::alloc::Global;
@@ -118,11 +119,12 @@ fn admitted_by_key(
     ensures value { IfOk result (λ d. d
         ≡ spec.admitted_by_key at.now (option_copied was.entry) row next key.now) }
 {
-    let mut offline = Items::new(alloc);
-    offline.push(row.id)?;
-    let answer = registered(alloc, at, row.user, row.expiry)?;
+    let (id, user, expiry) = (row.id, row.user, row.expiry);
+    let change = change_by_key(alloc, at, was, row, next, key)?;
+    let offline = one_id(alloc, id)?;
+    let answer = registered(alloc, at, user, expiry)?;
     Ok(Decision {
-        change: change_by_key(alloc, at, was, row, next, key)?,
+        change,
         policy: None,
         offline,
         ended: Items::new(alloc),

@@ -5,19 +5,16 @@ ghost use Rattle.settings.specs.Settings.{AreSettings};
 ghost use Rattle.net_rows.specs.Damage.{damage};
 ghost use Rattle.net_rows.specs.declared.machine.Machine.{Machine};
 ghost use Rattle.tailcfg.specs.declared.register.Register as form;
-ghost use Rattle.tailcfg.specs.declared.update.Update as update;
 ghost use Rattle.fresh_maps.specs.Profiles.{profile_of};
 ghost use Rattle.desk_state.specs.Decisions.{IsPlain, only, rows_after};
 ghost use Rattle.desk_state.specs.State.{State};
 ghost use Rattle.desk_state.specs.declared.decision.Decision.{Decision};
-ghost use Rattle.machine_rows.specs.Same.{KeepsPlace, KeepsRegistration};
 ghost use Rattle.machine_asks.specs.Decision.{decision};
 ghost use Rattle.machine_asks.specs.Laws.{IsRepeat};
 ghost use Rattle.machine_asks.specs.Seed.{seed};
 ghost use Rattle.machine_asks.specs.Short.{IsShortMachineAsk};
-ghost use Rattle.machine_asks.specs.Update.{told_row};
-ghost use Rattle.machine_asks.specs.declared.answer.MachineAnswer.{MachineAnswer};
-ghost use Rattle.machine_asks.specs.declared.answer.MachineAnswer.TheVariants.{Registered};
+ghost use Rattle.map_asks.specs.declared.answer.MachineAnswer.{MachineAnswer};
+ghost use Rattle.map_asks.specs.declared.answer.MachineAnswer.TheVariants.{Registered};
 ghost use Rattle.machine_asks.specs.declared.ask.MachineAsk.{MachineAsk};
 ghost use Rattle.machine_asks.specs.declared.ask.MachineAsk.TheVariants.{Register};
 
@@ -49,10 +46,4 @@ pub fn repeats_change_nothing()
     ensures rows { (s : State) (m : Machine) (x : form.Register) (words : Option (List ℕ))
         (d : Decision MachineAnswer) → IsRepeat s m x
         → decision s (Register m.machine x) words ≡ Ok d → rows_after s.rows d.change ≡ s.rows }
-{}
-
-/// What a machine tells of itself leaves its place and its registration as they were.
-pub fn told_rows_keep_the_rest()
-    ensures place { (m : Machine) (u : update.Update) → KeepsPlace m (told_row m u) }
-    ensures registration { (m : Machine) (u : update.Update) → KeepsRegistration m (told_row m u) }
 {}

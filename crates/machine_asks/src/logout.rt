@@ -1,13 +1,15 @@
 //! A machine logs out, or takes another node key.
-ghost use Rattle.std.specs.Prelude.{◌≡◌, IfOk};
+ghost use Rattle.std.specs.Prelude.{◌≡◌, [], IfOk, None};
 ghost use Rattle.std.specs.Option.{option_copied};
 ghost use Rattle.tail_base.specs.Steps.{Gives};
+ghost use Rattle.machine_rows.specs.Rows.{row_replaced};
 ghost use Rattle.machine_asks.specs.Logout as spec;
 
-use crate::answer::MachineAnswer;
+use crate::ids::one_id;
 use desk_state::{Decision, Refusal, Snapshot, is_ahead, is_live, machine_gone};
 use fresh_maps::profile_of;
 use machine_rows::row_replaced;
+use map_asks::MachineAnswer;
 use moments::Moment;
 use net_rows::{Change, Machine};
 use std::alloc::Global;
@@ -20,24 +22,28 @@ pub(crate) fn is_logout(at: &Snapshot<'_>, expiry: Option<Moment>) -> bool
     !is_ahead(at.time, expiry)
 }
 
-/// The machine is offline from now on if it was online, and this changes of its row.
-fn session_ended(
+/// These machines are offline from now on if they were online, and this changes of rows.
+fn sessions_ended(
     alloc: Global,
-    row: &Machine,
+    ended: Items<u32>,
     change: Option<Change>,
     answer: MachineAnswer,
-) -> Result<Decision<MachineAnswer>, NoMemory>
-    ensures value { IfOk result (λ d. d ≡ spec.session_ended row.now change answer) }
+) -> Decision<MachineAnswer>
+    ensures value { result ≡ record {
+      change = change;
+      policy = None;
+      offline = [];
+      ended = ended;
+      answer = answer;
+    } }
 {
-    let mut ended = Items::new(alloc);
-    ended.push(row.id)?;
-    Ok(Decision {
+    Decision {
         change,
         policy: None,
         offline: Items::new(alloc),
         ended,
         answer,
-    })
+    }
 }
 
 fn expired_row(alloc: Global, at: &Snapshot<'_>, row: &Machine) -> Result<Machine, NoMemory>
@@ -65,8 +71,8 @@ fn machine_removed(
 ) -> Result<Decision<MachineAnswer>, NoMemory>
     ensures value { IfOk result (λ d. d ≡ spec.machine_removed at.now row.now) }
 {
-    let answer = logged_out(alloc, at, row)?;
     let change = machine_gone(alloc, at.tables, row.id)?;
+    let answer = logged_out(alloc, at, row)?;
     Ok(Decision::changing(alloc, change, answer))
 }
 
@@ -78,8 +84,18 @@ fn logout_again(
 ) -> Result<Decision<MachineAnswer>, NoMemory>
     ensures value { IfOk result (λ d. d ≡ spec.logout_again at.now row.now) }
 {
+    let ended = one_id(alloc, row.id)?;
     let answer = logged_out(alloc, at, row)?;
-    session_ended(alloc, row, None, answer)
+    Ok(sessions_ended(alloc, ended, None, answer))
+}
+
+/// The change by which a machine expires now.
+fn expiry_change(alloc: Global, at: &Snapshot<'_>, row: &Machine) -> Result<Change, NoMemory>
+    ensures value { IfOk result (λ c. c
+        ≡ row_replaced at.now.rows (spec.expired_row at.now row.now)) }
+{
+    let expired = expired_row(alloc, at, row)?;
+    row_replaced(alloc, at.tables, expired)
 }
 
 /// A machine logs out: it expires now.
@@ -90,10 +106,10 @@ fn logout_now(
 ) -> Result<Decision<MachineAnswer>, NoMemory>
     ensures value { IfOk result (λ d. d ≡ spec.logout_now at.now row.now) }
 {
-    let expired = expired_row(alloc, at, row)?;
-    let change = row_replaced(alloc, at.tables, expired)?;
+    let ended = one_id(alloc, row.id)?;
+    let change = expiry_change(alloc, at, row)?;
     let answer = logged_out(alloc, at, row)?;
-    session_ended(alloc, row, Some(change), answer)
+    Ok(sessions_ended(alloc, ended, Some(change), answer))
 }
 
 /// A machine logs out. The row of an ephemeral machine goes; another one expires now, unless it has
@@ -146,6 +162,20 @@ fn with_node(alloc: Global, row: &Machine, node: &NodeKey) -> Result<Machine, No
     Ok(changed)
 }
 
+/// The change by which a machine takes another node key.
+fn node_change(
+    alloc: Global,
+    at: &Snapshot<'_>,
+    node: &NodeKey,
+    row: &Machine,
+) -> Result<Change, NoMemory>
+    ensures value { IfOk result (λ c. c
+        ≡ row_replaced at.now.rows (record row.now { node = node.now })) }
+{
+    let changed = with_node(alloc, row, node)?;
+    row_replaced(alloc, at.tables, changed)
+}
+
 /// The machine takes another node key in place of the one that it has.
 pub(crate) fn node_key_replaced(
     alloc: Global,
@@ -155,11 +185,11 @@ pub(crate) fn node_key_replaced(
 ) -> Result<Decision<MachineAnswer>, NoMemory>
     ensures value { IfOk result (λ d. d ≡ spec.node_key_replaced at.now node.now row.now) }
 {
-    let changed = with_node(alloc, row, node)?;
-    let change = row_replaced(alloc, at.tables, changed)?;
+    let ended = one_id(alloc, row.id)?;
+    let change = node_change(alloc, at, node, row)?;
     let answer = MachineAnswer::Registered {
         profile: profile_of(alloc, at.tables, row.user)?,
         expired: false,
     };
-    session_ended(alloc, row, Some(change), answer)
+    Ok(sessions_ended(alloc, ended, Some(change), answer))
 }

@@ -6,9 +6,9 @@ ghost use Rattle.net_rows.specs.Shelf.{without};
 ghost use Rattle.net_rows.specs.declared.pending.Pending.{Pending};
 ghost use Rattle.machine_asks.specs.Waiting as spec;
 
-use crate::answer::MachineAnswer;
 use desk_state::{Decision, Refusal, Scarce, Snapshot, is_overdue, row_text};
 use machine_rows::pending_gone;
+use map_asks::MachineAnswer;
 use net_rows::{COUNTER_LIMIT, Change, Counters, PENDING_LIMIT, Pending, Row, Tables};
 use std::alloc::Global;
 use tail_base::{Duplicate, Failure, Items, MachineKey, NoMemory, NodeKey};
@@ -106,10 +106,9 @@ fn waiting_entered(
     ensures value { IfOk result (λ d. d
         ≡ spec.waiting_entered tables.now.rows entry (option_copied old.entry)) }
 {
-    let answer = MachineAnswer::LoginAt {
-        pending: entry.text.copy(alloc)?,
-    };
+    let pending = entry.text.copy(alloc)?;
     let change = entry_change(alloc, tables, entry, old)?;
+    let answer = MachineAnswer::LoginAt { pending };
     Ok(Decision::changing(alloc, change, answer))
 }
 

@@ -1,7 +1,7 @@
 //! What the desk replies.
 use admin_asks::OperatorAnswer;
 use desk_state::Refusal;
-use machine_asks::MachineAnswer;
+use map_asks::MachineAnswer;
 use policy_asks::PolicyAnswer;
 
 /// The answer to an ask that was carried out.

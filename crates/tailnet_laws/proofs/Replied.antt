@@ -12,8 +12,8 @@ use Rattle.admin_asks.specs.Decision as operator
 use Rattle.admin_asks.specs.declared.operator_answer.OperatorAnswer.{OperatorAnswer}
 use Rattle.machine_asks.specs.Decision as machine
 use Rattle.machine_asks.specs.Seed.{seed}
-use Rattle.machine_asks.specs.declared.answer.MachineAnswer.{MachineAnswer}
-use Rattle.machine_asks.specs.declared.answer.MachineAnswer.TheVariants.{Map}
+use Rattle.map_asks.specs.declared.answer.MachineAnswer.{MachineAnswer}
+use Rattle.map_asks.specs.declared.answer.MachineAnswer.TheVariants.{Map}
 use Rattle.policy_asks.specs.Decision.{policy_decision}
 use Rattle.policy_asks.specs.declared.answer.PolicyAnswer.{PolicyAnswer}
 use Rattle.tailnet_desk.specs.Step.{moment_of, outcome, step}

@@ -17,7 +17,7 @@ use Rattle.machine_asks.specs.ByKey.{admitted_by_key, by_key, entrant_of_key, us
 use Rattle.machine_asks.specs.Decision.{decision}
 use Rattle.machine_asks.specs.Logout.{is_logout}
 use Rattle.machine_asks.specs.Register.{register_as}
-use Rattle.machine_asks.specs.declared.answer.MachineAnswer.{MachineAnswer}
+use Rattle.map_asks.specs.declared.answer.MachineAnswer.{MachineAnswer}
 use Rattle.machine_asks.specs.declared.ask.MachineAsk.TheVariants as ask
 use Rattle.tailnet_laws.specs.Entering.{IsKeyed}
 use Rattle.tailnet_laws.specs.Entrances.{HasMachine}

@@ -9,7 +9,7 @@ use Rattle.desk_state.specs.declared.decision.Decision.{Decision}
 use Rattle.machine_rows.specs.Rows.{row_change}
 use Rattle.machine_asks.specs.ByKey.{usable_key}
 use Rattle.machine_asks.specs.Decision.{decision}
-use Rattle.machine_asks.specs.declared.answer.MachineAnswer.{MachineAnswer}
+use Rattle.map_asks.specs.declared.answer.MachineAnswer.{MachineAnswer}
 use Rattle.machine_asks.specs.declared.ask.MachineAsk.{MachineAsk}
 use Rattle.tailnet_desk.specs.declared.ask.Ask.{Ask}
 use Rattle.tailnet_desk.specs.declared.ask.Ask.TheVariants as ask

@@ -24,10 +24,10 @@ use Rattle.machine_rows.specs.Same.{KeepsPlace, KeepsRegistration, same_told}
 use Rattle.machine_rows.proofs.RowLemmas.{machine_found, replaced_sound}
 use Rattle.machine_rows.proofs.Rests.{replaced_differs}
 use Rattle.machine_rows.proofs.Sameness.{told_kept}
-use Rattle.machine_asks.specs.Asking.{asking}
-use Rattle.machine_asks.specs.OneMap.{IsLiveRow, after_change, map_decision, map_for, one_map}
-use Rattle.machine_asks.specs.Update.{given_or, told_host, told_row, told_routes, update, updated}
-use Rattle.machine_asks.specs.declared.answer.MachineAnswer.TheVariants.{Updated}
+use Rattle.map_asks.specs.Asking.{asking}
+use Rattle.map_asks.specs.OneMap.{IsLiveRow, after_change, map_decision, map_for, one_map}
+use Rattle.map_asks.specs.Update.{given_or, told_host, told_row, told_routes, update, updated}
+use Rattle.map_asks.specs.declared.answer.MachineAnswer.TheVariants.{Updated}
 
 -- the machine that asks is one of the tables
 pub asking_is : (s : State) (mk : MachineKey) (node : NodeKey) (m : Machine) → asking s mk node ≡ Ok m → Contains s.rows.machines m

@@ -1,6 +1,6 @@
 //! What a machine tells of itself.
-ghost use Rattle.std.specs.Prelude.{◌≡◌, IfOk};
-ghost use Rattle.machine_asks.specs.Update as spec;
+ghost use Rattle.std.specs.Prelude.{◌≡◌, IfOk, OnOk};
+ghost use Rattle.map_asks.specs.Update as spec;
 
 use net_addr::Prefix;
 use net_rows::Machine;
@@ -44,15 +44,23 @@ fn told_routes(
     }
 }
 
+/// Brings a row to what its machine tells of itself.
+fn tell(alloc: Global, row: &mut Machine, update: &Update) -> Result<(), NoMemory>
+    ensures ok { OnOk result (row.new ≡ spec.told_row row.old update.now) }
+{
+    row.endpoints = update.endpoints.copy(alloc)?;
+    row.disco = update.disco.unwrap_or(row.disco);
+    row.host = told_host(alloc, &row.host, &update.host)?;
+    row.derp = told_derp(row.derp, &update.host);
+    row.routes = told_routes(alloc, &row.routes, &update.host)?;
+    Ok(())
+}
+
 /// The row of a machine that told this of itself. Its name stays.
 pub(crate) fn told_row(alloc: Global, row: &Machine, update: &Update) -> Result<Machine, NoMemory>
     ensures value { IfOk result (λ m. m ≡ spec.told_row row.now update.now) }
 {
     let mut told = row.copy(alloc)?;
-    told.endpoints = update.endpoints.copy(alloc)?;
-    told.disco = update.disco.unwrap_or(row.disco);
-    told.host = told_host(alloc, &row.host, &update.host)?;
-    told.derp = told_derp(row.derp, &update.host);
-    told.routes = told_routes(alloc, &row.routes, &update.host)?;
+    tell(alloc, &mut told, update)?;
     Ok(told)
 }

@@ -13,9 +13,9 @@ use Rattle.desk_state.specs.declared.decision.Decision.{Decision}
 use Rattle.desk_state.specs.declared.refusal.Refusal.{Refusal}
 use Rattle.machine_rows.specs.Rows.{row_replaced}
 use Rattle.machine_rows.specs.Same.{same_told}
-use Rattle.machine_asks.specs.Asking.{asking}
-use Rattle.machine_asks.specs.declared.answer.MachineAnswer.{MachineAnswer}
-use Rattle.machine_asks.specs.declared.answer.MachineAnswer.TheVariants.{Updated}
+use Rattle.map_asks.specs.Asking.{asking}
+use Rattle.map_asks.specs.declared.answer.MachineAnswer.{MachineAnswer}
+use Rattle.map_asks.specs.declared.answer.MachineAnswer.TheVariants.{Updated}
 
 -- what is given, or what there was
 abbrev pub given_or : {A : Type 0} → Option A → A → A

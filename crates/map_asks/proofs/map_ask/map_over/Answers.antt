@@ -2,8 +2,8 @@ use Rattle.std.proofs.Common.{refl, sym, subst, ap, ◌∙◌}
 use Rattle.std.specs.Prelude.{IsSome, Option}
 use Rattle.policy_rows.specs.declared.policy.Policy.{Policy}
 use Rattle.peer_view.specs.Seen.{Node, seen_of}
-use Rattle.machine_asks.proofs.Lives.{live_in, map_in_world}
-use Rattle.machine_asks.proofs.map_ask.map_over.Goals as goal
+use Rattle.map_asks.proofs.Lives.{live_in, map_in_world}
+use Rattle.map_asks.proofs.map_ask.map_over.Goals as goal
 
 pub fresh_map-requires : goal.fresh_map-requires
 fresh_map-requires c =

@@ -17,7 +17,7 @@ use Rattle.peer_view.proofs.ListLemmas.{filtered_member, map_member}
 use Rattle.peer_view.proofs.WorldLaws.{seen_sound}
 use Rattle.fresh_maps.specs.Fresh.{fresh}
 use Rattle.fresh_maps.specs.declared.view.View.{View}
-use Rattle.machine_asks.specs.OneMap.{IsLiveRow, fresh_for, node_in, online_ids, world_of}
+use Rattle.map_asks.specs.OneMap.{IsLiveRow, fresh_for, node_in, online_ids, world_of}
 
 -- a live machine is seen
 live_found : (s : State) (m : Machine) → damage s.rows ≡ None → IsLiveRow s m → node_with (world_of s) m.id ≡ Some (node_in s m)

@@ -17,10 +17,10 @@ use Rattle.peer_view.specs.Seen.{Node, Seen, live_node, seen_of}
 use Rattle.fresh_maps.specs.declared.view.View.{View}
 use Rattle.machine_rows.specs.Rows.{row_replaced}
 use Rattle.machine_rows.specs.Same.{same_told}
-use Rattle.machine_asks.specs.Asking.{asking}
-use Rattle.machine_asks.specs.Update.{told_row}
-use Rattle.machine_asks.specs.declared.answer.MachineAnswer.{MachineAnswer}
-use Rattle.machine_asks.specs.declared.answer.MachineAnswer.TheVariants.{Map}
+use Rattle.map_asks.specs.Asking.{asking}
+use Rattle.map_asks.specs.Update.{told_row}
+use Rattle.map_asks.specs.declared.answer.MachineAnswer.{MachineAnswer}
+use Rattle.map_asks.specs.declared.answer.MachineAnswer.TheVariants.{Map}
 
 -- the ids of the machines that are online
 abbrev pub online_ids : List MachinePresence → List ℕ

@@ -1,7 +1,7 @@
 //! A machine tells of itself.
 ghost use Rattle.std.specs.Prelude.{◌≡◌, IfOk};
 ghost use Rattle.tail_base.specs.Steps.{Gives};
-ghost use Rattle.machine_asks.specs.Update as spec;
+ghost use Rattle.map_asks.specs.Update as spec;
 
 use crate::answer::MachineAnswer;
 use crate::told::told_row;
@@ -31,7 +31,7 @@ fn updated(
 /// What comes of what a machine tells of itself: its endpoints are replaced, its disco key and the
 /// text and the DERP region of its host where they are given, and its advertised routes where it
 /// tells of its host. It has to be one with these keys, and live.
-pub(crate) fn update(
+pub fn update(
     alloc: Global,
     at: &Snapshot<'_>,
     machine: &MachineKey,

@@ -5,10 +5,10 @@ use Rattle.net_rows.specs.Rows.{after}
 use Rattle.net_rows.specs.declared.machine.Machine.{Machine}
 use Rattle.net_rows.proofs.Sounds.{sound_of, no_damage}
 use Rattle.machine_rows.specs.Rows.{row_replaced}
-use Rattle.machine_asks.specs.Update.{told_row}
-use Rattle.machine_asks.specs.OneMap.{IsLiveRow, after_change, map_after_update}
-use Rattle.machine_asks.proofs.Updates.{told_live, told_sound}
-use Rattle.machine_asks.proofs.map_ask.map_decision.Goals as goal
+use Rattle.map_asks.specs.Update.{told_row}
+use Rattle.map_asks.specs.OneMap.{IsLiveRow, after_change, map_after_update}
+use Rattle.map_asks.proofs.Updates.{told_live, told_sound}
+use Rattle.map_asks.proofs.map_ask.map_decision.Goals as goal
 
 pub map_after_update-requires : goal.map_after_update-requires
 map_after_update-requires c =

@@ -1,7 +1,7 @@
 //! The machine that asks.
 ghost use Rattle.std.specs.Prelude.{◌≡◌};
 ghost use Rattle.tail_base.specs.Steps.{Gives};
-ghost use Rattle.machine_asks.specs.Asking as spec;
+ghost use Rattle.map_asks.specs.Asking as spec;
 
 use desk_state::{Refusal, Snapshot, is_live};
 use net_rows::Machine;

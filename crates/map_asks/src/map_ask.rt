@@ -7,8 +7,8 @@ ghost use Rattle.tail_base.specs.Steps.{Gives};
 ghost use Rattle.net_rows.specs.Damage.{damage};
 ghost use Rattle.net_rows.specs.Rows.{after};
 ghost use Rattle.tailcfg.specs.Short.{IsShortUpdate};
-ghost use Rattle.machine_asks.specs.OneMap as spec;
-ghost use Rattle.machine_asks.specs.OneMap.{IsLiveRow};
+ghost use Rattle.map_asks.specs.OneMap as spec;
+ghost use Rattle.map_asks.specs.OneMap.{IsLiveRow};
 ghost use Rattle.machine_rows.specs.Rows.{row_replaced};
 
 use crate::answer::MachineAnswer;
@@ -142,18 +142,18 @@ fn map_after_update(
     alloc: Global,
     at: &Snapshot<'_>,
     was: &Machine,
-    told: Machine,
+    told: &Machine,
 ) -> Result<Decision<MachineAnswer>, NoMemory>
-    requires sound { damage (after at.now.rows (row_replaced at.now.rows told)) ≡ None }
+    requires sound { damage (after at.now.rows (row_replaced at.now.rows told.now)) ≡ None }
     requires was { IsLiveRow at.now was.now }
-    requires told { IsLiveRow (spec.after_change at.now (row_replaced at.now.rows told)) told }
-    ensures value { IfOk result (λ d. d ≡ spec.map_after_update at.now was.now told) }
+    requires told { IsLiveRow (spec.after_change at.now (row_replaced at.now.rows told.now)) told.now }
+    ensures value { IfOk result (λ d. d ≡ spec.map_after_update at.now was.now told.now) }
 {
-    if same_told(was, &told) {
+    if same_told(was, told) {
         return Ok(Decision::only(alloc, map_for(alloc, at, was)?));
     }
     let change = row_replaced(alloc, at.tables, told.copy(alloc)?)?;
-    let answer = changed_map(alloc, at, &change, &told)?;
+    let answer = changed_map(alloc, at, &change, told)?;
     Ok(Decision::changing(alloc, change, answer))
 }
 
@@ -173,14 +173,14 @@ fn map_decision(
         None => Ok(Decision::only(alloc, map_for(alloc, at, row)?)),
         Some(update) => {
             let told = told_row(alloc, row, update)?;
-            map_after_update(alloc, at, row, told)
+            map_after_update(alloc, at, row, &told)
         }
     }
 }
 
 /// What a machine's ask for its map results in: the whole map, computed afresh, after what it tells
 /// of itself. The machine has to be one with these keys, and live.
-pub(crate) fn one_map(
+pub fn one_map(
     alloc: Global,
     at: &Snapshot<'_>,
     machine: &MachineKey,

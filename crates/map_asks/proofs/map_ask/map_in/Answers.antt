@@ -1,7 +1,7 @@
 use Rattle.std.proofs.Common.{◌≡◌, IfOk, subst, sym}
 use Rattle.desk_state.specs.State.{State}
-use Rattle.machine_asks.specs.OneMap.{IsLiveRow, map_for}
-use Rattle.machine_asks.proofs.map_ask.map_in.Goals as goal
+use Rattle.map_asks.specs.OneMap.{IsLiveRow, map_for}
+use Rattle.map_asks.proofs.map_ask.map_in.Goals as goal
 
 pub returns : goal.returns
 returns c = record {

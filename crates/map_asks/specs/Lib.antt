@@ -1,0 +1,3 @@
+pub mod Asking
+pub mod OneMap
+pub mod Update
