@@ -23,7 +23,7 @@ fresh w m = record {
   profiles = owners_of w.users (own_row w m ∷ peers_of w m);
 }
 
--- the row of one of the live machines, if there is one and the viewer sees it
-abbrev pub row_shown : Seen → Node → Option Node → List NodeRow
-row_shown w viewer None = []
-row_shown w viewer (Some peer) = if sees w viewer peer then shown w viewer (visible w viewer) peer ∷ [] else []
+-- one of the live machines, if there is one and the viewer sees it
+abbrev pub node_seen : Seen → Node → Option Node → List Node
+node_seen w viewer None = []
+node_seen w viewer (Some peer) = if sees w viewer peer then peer ∷ [] else []

@@ -1,7 +1,7 @@
 //! Maps computed afresh.
 ghost use Rattle.std.specs.Prelude.{◌≡◌, ◌++◌, Contains, IfOk, IsSome, OnOk, Some};
-ghost use Rattle.peer_view.specs.Seen.{Node, node_with, sites_seen};
-ghost use Rattle.fresh_maps.specs.Fresh.{fresh, peers_of, row_shown};
+ghost use Rattle.peer_view.specs.Seen.{Node, node_with, sites_seen, visible};
+ghost use Rattle.fresh_maps.specs.Fresh.{fresh, node_seen, peers_of};
 ghost use Rattle.fresh_maps.specs.InOrder.{IsInOrder};
 ghost use Rattle.fresh_maps.specs.Granted.{MeetsPolicy};
 
@@ -14,28 +14,45 @@ use std::alloc::Global;
 use tail_base::{Duplicate, Items, NoMemory};
 use tailcfg::{Dns, NodeRow};
 
-/// Adds the row of the live machine of the site, if the viewer sees it.
-fn add_peer(
-    alloc: Global,
-    peers: &mut Items<NodeRow>,
-    world: &World<'_>,
+/// Adds the live machine of the site, if the viewer sees it.
+fn add_visible<'b>(
+    visible: &mut Items<LiveMachine<'b>>,
+    world: &'b World<'_>,
     viewer: &LiveMachine<'_>,
-    site: &Site,
+    site: &'b Site,
 ) -> Result<(), NoMemory>
     requires viewer { Contains world.now.nodes viewer.now }
     requires site { Contains (sites_seen world.now) site.now }
-    ensures ok { OnOk result (peers.new ≡ peers.old
-        ++ row_shown world.now viewer.now (node_with world.now site.now.id)) }
+    ensures ok { OnOk result (visible.new ≡ visible.old
+        ++ node_seen world.now viewer.now (node_with world.now site.now.id)) }
 {
     let Some(peer) = world.machine_at(site) else {
         return Ok(());
     };
     if sees_machine(world, viewer, &peer) {
-        let row = shown(alloc, world, &peer)?;
-        peers.push(row)
+        visible.push(peer)
     } else {
         Ok(())
     }
+}
+
+/// The machines that the viewer sees, by id.
+fn visible_of<'b>(
+    alloc: Global,
+    world: &'b World<'_>,
+    viewer: &LiveMachine<'_>,
+) -> Result<Items<LiveMachine<'b>>, NoMemory>
+    requires viewer { Contains world.now.nodes viewer.now }
+    ensures value { IfOk result (λ made. made ≡ visible world.now viewer.now) }
+{
+    let expanded = world.expanded();
+    // For what it promises, that nodes go by id.
+    let _users = world.users();
+    let mut visible = Items::new(alloc);
+    for site in expanded.sites() {
+        add_visible(&mut visible, world, viewer, site)?;
+    }
+    Ok(visible)
 }
 
 /// The rows of the machines that the viewer sees.
@@ -47,12 +64,11 @@ fn peers_of(
     requires viewer { Contains world.now.nodes viewer.now }
     ensures value { IfOk result (λ peers. peers ≡ peers_of world.now viewer.now) }
 {
-    let expanded = world.expanded();
-    // For what it promises, that nodes go by id.
-    let _users = world.users();
+    let visible = visible_of(alloc, world, viewer)?;
+    let visible = visible.as_slice();
     let mut peers = Items::new(alloc);
-    for site in expanded.sites() {
-        add_peer(alloc, &mut peers, world, viewer, site)?;
+    for peer in visible {
+        peers.push(shown(alloc, world, viewer, visible, peer)?)?;
     }
     Ok(peers)
 }

@@ -1,4 +1,5 @@
 pub mod AnyLemmas
+pub mod GrantLaws
 pub mod ListLemmas
 pub mod LiveLaws
 pub mod OpenLaws

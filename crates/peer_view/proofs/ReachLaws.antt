@@ -47,7 +47,7 @@ free_is : (sites : List Site) (b : Site) → IsSiteOf sites b → (addr : Addres
 free_is sites b at addr beyond = beyond_end sites at.apart addr b at.inside beyond
 
 -- there a destination covers by itself, whoever sends
-free_dest : (groups : List Group) (to : Selector) (s : End) (addr : Address) → dest_covers groups to s (free_end addr) ≡ covers_free to addr
+pub free_dest : (groups : List Group) (to : Selector) (s : End) (addr : Address) → dest_covers groups to s (free_end addr) ≡ covers_free to addr
 free_dest groups sel.All s addr = refl
 free_dest groups (sel.Net net) s addr = refl
 free_dest groups (sel.User login) s addr = refl

@@ -7,7 +7,7 @@ ghost use Rattle.peer_view.specs.Reaches.{id_reaches, site_with};
 use policy_eval::{Expanded, Site};
 
 /// Where the site of the id stands, or where it would go.
-fn site_place(sites: &[Site], id: u32) -> Result<usize, usize>
+pub(crate) fn site_place(sites: &[Site], id: u32) -> Result<usize, usize>
     requires ascending { IsAscending (λ site. site.id) sites.now }
     ensures there { IfOk result (StandsAt (λ site. site.id) sites.now id) }
     ensures absent { IfErr result (BelongsAt (λ site. site.id) sites.now id) }

@@ -6,6 +6,7 @@ mod laws;
 mod machine;
 mod node;
 mod pair;
+mod routes;
 mod shown_rows;
 mod steps;
 mod world;

@@ -1,32 +1,61 @@
 //! The rows of machines as viewers are shown them.
-ghost use Rattle.std.specs.Prelude.{◌≡◌, IfOk, List};
-ghost use Rattle.peer_view.specs.Nodes.{node_of, own_addresses};
-ghost use Rattle.peer_view.specs.Seen.{Node};
-ghost use Rattle.peer_view.specs.Shown.{own_row, shown};
+ghost use Rattle.std.specs.Prelude.{◌≡◌, ◌&&◌, ◌++◌, ◌∷◌, [], Contains, IfOk, OnOk, if◌then◌else◌};
+ghost use Rattle.policy_rows.specs.Internet.{is_internet};
+ghost use Rattle.route_rules.specs.Serving.{exits_if};
+ghost use Rattle.peer_view.specs.Nodes.{own_addresses};
+ghost use Rattle.peer_view.specs.Shown.{granted_into, own_row, shown, shown_routes};
 
 use crate::machine::LiveMachine;
 use crate::node::{node_of, own_addresses};
+use crate::routes::{is_granted, is_shown};
 use crate::world::World;
-use net_rows::Machine;
+use net_addr::Prefix;
+use route_rules::exit_routes;
 use std::alloc::Global;
-use tail_base::NoMemory;
+use tail_base::{Items, NoMemory};
 use tailcfg::NodeRow;
 
-/// The row of a machine through which packets may be sent to its own addresses.
-fn plain_row(
-    alloc: Global,
-    domain: &str,
-    online: bool,
-    machine: &Machine,
-) -> Result<NodeRow, NoMemory>
-    ensures value { IfOk result (λ row. row
-        ≡ node_of domain.now (own_addresses machine.now) online machine.now) }
+/// Adds prefixes.
+fn add_all(out: &mut Items<Prefix>, more: &[Prefix]) -> Result<(), NoMemory>
+    ensures ok { OnOk result (out.new ≡ out.old ++ more.now) }
 {
-    let allowed = own_addresses(alloc, machine)?;
-    node_of(alloc, domain, allowed, online, machine)
+    for net in more {
+        out.push(*net)?;
+    }
+    Ok(())
 }
 
-/// The row of a live machine as the machine itself is shown it.
+/// Adds both exit routes, for an exit node.
+fn add_exits(out: &mut Items<Prefix>, exit: bool) -> Result<(), NoMemory>
+    ensures ok { OnOk result (out.new ≡ out.old ++ exits_if exit) }
+{
+    if exit {
+        let [v4, v6] = exit_routes();
+        out.push(v4)?;
+        out.push(v6)
+    } else {
+        Ok(())
+    }
+}
+
+/// The prefixes through a machine: its own addresses, these routes, and both exit routes of an exit node.
+fn allowed_of(
+    alloc: Global,
+    machine: &LiveMachine<'_>,
+    routes: &[Prefix],
+    exit: bool,
+) -> Result<Items<Prefix>, NoMemory>
+    ensures value { IfOk result (λ made. made
+        ≡ own_addresses machine.now.row ++ routes.now ++ exits_if exit) }
+{
+    let mut allowed = own_addresses(alloc, machine.row)?;
+    add_all(&mut allowed, routes)?;
+    add_exits(&mut allowed, exit)?;
+    Ok(allowed)
+}
+
+/// The row of a live machine as the machine itself is shown it, with all its approved routes, and both exit
+/// routes of an exit node.
 pub fn own_row(
     alloc: Global,
     world: &World<'_>,
@@ -35,15 +64,71 @@ pub fn own_row(
     ensures value { IfOk result (λ row. row ≡ own_row world.now machine.now) }
 {
     let domain = world.fields().base_domain.as_str();
-    plain_row(alloc, domain, machine.online, machine.row)
+    let site = machine.site;
+    let allowed = allowed_of(alloc, machine, site.approved.as_slice(), site.exit)?;
+    node_of(alloc, domain, allowed, machine.online, machine.row)
 }
 
-/// The row of a live machine as another one that sees it is shown it. As long as no routes are served
-/// it is the same for all, whomever else they see.
-pub fn shown(alloc: Global, world: &World<'_>, peer: &LiveMachine<'_>) -> Result<NodeRow, NoMemory>
-    ensures value { IfOk result (λ row. (viewer : Node) (visible : List Node)
-        → row ≡ shown world.now viewer visible peer.now) }
+/// Adds the route, if it is to be added.
+fn add_if(out: &mut Items<Prefix>, wanted: bool, route: Prefix) -> Result<(), NoMemory>
+    ensures ok { OnOk result (out.new ≡ out.old ++ (if wanted then route ∷ [] else [])) }
+{
+    if wanted { out.push(route) } else { Ok(()) }
+}
+
+/// The routes of the peer that the viewer, which sees these machines, is shown at it.
+fn shown_routes(
+    alloc: Global,
+    world: &World<'_>,
+    viewer: &LiveMachine<'_>,
+    visible: &[LiveMachine<'_>],
+    peer: &LiveMachine<'_>,
+) -> Result<Items<Prefix>, NoMemory>
+    requires viewer { Contains world.now.nodes viewer.now }
+    requires peer { Contains world.now.nodes peer.now }
+    ensures value { IfOk result (λ made. made
+        ≡ shown_routes world.now viewer.now visible.now peer.now) }
+{
+    let mut out = Items::new(alloc);
+    for route in peer.site.approved.as_slice() {
+        add_if(
+            &mut out,
+            is_shown(world, viewer, visible, peer, route),
+            *route,
+        )?;
+    }
+    Ok(out)
+}
+
+/// Whether the viewer is shown the exit routes at the peer.
+fn is_shown_exit(world: &World<'_>, viewer: &LiveMachine<'_>, peer: &LiveMachine<'_>) -> bool
+    requires viewer { Contains world.now.nodes viewer.now }
+    requires peer { Contains world.now.nodes peer.now }
+    ensures value { result
+        ≡ (peer.now.site.exit && granted_into world.now viewer.now is_internet) }
+{
+    // For what it promises, that no machine has an address of the internet that an exit node serves.
+    let _sites = world.expanded.sites();
+    peer.site.exit && is_granted(world, viewer, None)
+}
+
+/// The row of a live machine as another one is shown it, which sees these machines. Each route is shown at
+/// one of them, and only to who may send into it.
+pub fn shown(
+    alloc: Global,
+    world: &World<'_>,
+    viewer: &LiveMachine<'_>,
+    visible: &[LiveMachine<'_>],
+    peer: &LiveMachine<'_>,
+) -> Result<NodeRow, NoMemory>
+    requires viewer { Contains world.now.nodes viewer.now }
+    requires peer { Contains world.now.nodes peer.now }
+    ensures value { IfOk result (λ row. row
+        ≡ shown world.now viewer.now visible.now peer.now) }
 {
     let domain = world.fields().base_domain.as_str();
-    plain_row(alloc, domain, peer.online, peer.row)
+    let routes = shown_routes(alloc, world, viewer, visible, peer)?;
+    let exit = is_shown_exit(world, viewer, peer);
+    let allowed = allowed_of(alloc, peer, routes.as_slice(), exit)?;
+    node_of(alloc, domain, allowed, peer.online, peer.row)
 }

@@ -1,22 +1,7 @@
-use Rattle.std.proofs.Common.{◌∙◌, List, ap, refl}
-use Rattle.std.specs.Prelude.{flat_map}
-use Rattle.policy_eval.specs.Expansion.{Expansion}
-use Rattle.policy_eval.specs.declared.site.Site.{Site}
-use Rattle.peer_view.specs.Seen.{node_with}
-use Rattle.filter_compile.proofs.StepLemmas.{flat_end, flat_more}
-use Rattle.fresh_maps.specs.Fresh.{row_shown}
-use Rattle.fresh_maps.proofs.PeerLemmas.{gathered_peers}
+use Rattle.fresh_maps.proofs.PeerLemmas.{item_inside}
 use Rattle.fresh_maps.proofs.fresh.peers_of.Goals as goal
 
-pub loop-site-preserved : goal.loop-site-preserved
-loop-site-preserved c =
-    flat_more (λ (s : Site). row_shown c.args.world.now c.args.viewer.now (node_with c.args.world.now s.id)) c.sites-site-items.result.now c.loop-site.site-index c.loop-site.peers _ c.site-item.result _
-    c.loop-site-test.true c.site-item.is c.loop-site.invariant c.in_ok-add_peer.ensures.ok
-
-pub returns : goal.returns
-returns c =
-    let w = c.args.world.now in
-    let each = λ (s : Site). row_shown w c.args.viewer.now (node_with w s.id) in
-    let sites = c.sites-site-items.ensures.value ∙ ap (λ (x : Expansion). x.sites) c.expanded-expanded.ensures.value in
-    let done = flat_end each c.sites-site-items.result.now c.sites-site-items.result.now c.loop-site.site-index c.loop-site.peers _ refl c.loop-site-test.false c.loop-site.invariant in
-    record { value = done ∙ (ap (λ (ss : List Site). flat_map each ss) sites ∙ gathered_peers w c.args.viewer.now c.users-users.ensures.sound) }
+pub shown-requires-clause-peer : goal.shown-requires-clause-peer
+shown-requires-clause-peer c =
+    item_inside c.args.world.now c.args.viewer.now c.in_ok-visible.visible c.as_slice-visible.result.now c.loop-peer.peer-index c.peer-item.result c.in_ok-visible.ensures.value c.as_slice-visible.ensures.value
+    c.loop-peer-test.true c.peer-item.is

@@ -1,12 +1,7 @@
-use Rattle.std.proofs.Common.{◌≡◌, ◌++◌, drop}
-use Rattle.std.specs.Prelude.{flat_map}
-use Rattle.policy_eval.specs.declared.site.Site.{Site}
-use Rattle.peer_view.specs.Seen.{node_with}
-use Rattle.fresh_maps.specs.Fresh.{row_shown}
+use Rattle.std.proofs.Common.{◌≡◌, take}
+use Rattle.std.specs.Prelude.{map}
+use Rattle.peer_view.specs.Shown.{shown}
 use Rattle.fresh_maps.proofs.fresh.peers_of.Given as goal
 
--- with the peers among the machines to come these are all
-abbrev pub invariant-loop-site : goal.invariant-loop-site
-invariant-loop-site l =
-    l.peers ++ flat_map (λ (s : Site). row_shown l.world l.viewer (node_with l.world s.id)) (drop l.site-index l.site-items)
-    ≡ flat_map (λ (s : Site). row_shown l.world l.viewer (node_with l.world s.id)) l.site-items
+abbrev pub invariant-loop-peer : goal.invariant-loop-peer
+invariant-loop-peer l = l.peers ≡ map (shown l.world l.viewer l.visible) (take l.peer-index l.visible)
