@@ -36,7 +36,7 @@ pub fn nodes(alloc: Global, at: &Snapshot<'_>) -> Result<Decision<OperatorAnswer
 }
 
 /// The machine's row stays as it is.
-fn same_node(
+pub(crate) fn same_node(
     alloc: Global,
     at: &Snapshot<'_>,
     machine: &Machine,
@@ -48,7 +48,7 @@ fn same_node(
 }
 
 /// The machine's row is this one from now on.
-fn changed_node(
+pub(crate) fn changed_node(
     alloc: Global,
     at: &Snapshot<'_>,
     machine: Machine,
