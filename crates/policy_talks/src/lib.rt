@@ -5,3 +5,5 @@
 mod filters;
 #[cfg(test)]
 mod policies;
+#[cfg(test)]
+mod routes;

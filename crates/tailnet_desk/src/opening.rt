@@ -19,7 +19,8 @@ fn all_offline_of(
     tables: &Tables,
     now: Moment,
 ) -> Result<Shelf<MachinePresence>, NoMemory>
-    ensures presence { IfOk result (λ made. made.0 ≡ map (λ m. offline_at now m.id) tables.now.rows.machines) }
+    ensures presence { IfOk result (λ made. made.0
+        ≡ map (λ m. offline_at now m.id) tables.now.rows.machines) }
 {
     let offline = offline_since(alloc, tables.machines(), now)?;
     Ok(Shelf::from_items(offline))
