@@ -1,5 +1,5 @@
 -- Decisions on the routes of machines are sound.
-use Rattle.std.proofs.Common.{◌≡◌, ◌≤◌, ℕ, Bool, true, false, List, [], ◌∷◌, Some, Ok, arith, inl, inr, refl, sym, ap, subst, length}
+use Rattle.std.proofs.Common.{◌≡◌, ◌≤◌, ℕ, Bool, true, List, [], ◌∷◌, Ok, arith, inl, inr, refl, ap, subst, length}
 use Rattle.std.specs.Prelude.{Contains, filter}
 use Rattle.std.specs.Cmp.Lexicographic.{pointwise}
 use Rattle.std.proofs.lemmas.Bool.{cases_Bool, both_ways}
@@ -30,7 +30,7 @@ length-filter test (x ∷ xs) =
 
 kept_short : (advertised given : List Block) → length advertised ≤ ROUTE_LIMIT → length (kept_routes advertised given) ≤ ROUTE_LIMIT
 kept_short advertised given short =
-    let sorted = length-sorted_once route_cmp (filter (is_chosen given) advertised) in
+    let sorted : length (kept_routes advertised given) ≤ length (filter (is_chosen given) advertised) = length-sorted_once route_cmp (filter (is_chosen given) advertised) in
     let chosen = length-filter (is_chosen given) advertised in
     omega (arith, short, sorted, chosen)
 

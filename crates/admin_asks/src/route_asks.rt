@@ -1,5 +1,5 @@
 //! Operators approve routes of machines.
-ghost use Rattle.std.specs.Prelude.{◌≡◌, ◌≤◌, ◌∷◌, ◌++◌, [], IfOk, OnOk, filter, length, if◌then◌else◌};
+ghost use Rattle.std.specs.Prelude.{◌≡◌, ◌∷◌, ◌++◌, [], IfOk, OnOk, filter, if◌then◌else◌};
 ghost use Rattle.tail_base.specs.Steps.{Gives};
 ghost use Rattle.admin_asks.specs.Routes as spec;
 
