@@ -24,6 +24,7 @@ ROUTES = [
     "fd00::/8", "100.64.0.1/32", "100.0.0.0/8", "fd7a:115c:a1e0:1::/64", "2001:DB8:0:0:1::/80", "1:0:0:2:0:0:0:3/128",
     "8.8.8.0/24", "0.0.0.0/1", "fd01::/16",
 ]
+SHARED_ROUTES = ["10.1.0.0/16", "10.1.2.0/24", "8.8.8.0/24", "fd01::/16"]
 NO_ROUTES = [
     "10.0.0.1/8", "10.0.0.0/33", "10/8", "x", "", "10.0.0.0", "::1/64", "10.0.0.0/08", "fd00::/129", "::1.2.3.4/128",
 ]
@@ -79,6 +80,11 @@ class Talk:
 
     def __init__(self, random, tailnet, settings):
         self.random, self.tailnet, self.settings = random, tailnet, settings
+        others = [self.user, self.pre_auth_key, self.waiting]
+        often = 10 * [self.register] + 5 * [self.map] + 5 * [self.whole_map] + 3 * [self.node] + 3 * [self.routes] + 2 * [self.advertise]
+        # every third conversation is about routers and what maps show of them
+        routed = 4 * [self.router] + 3 * [self.advertise] + 5 * [self.routes] + 8 * [self.whole_map] + [self.node]
+        self.draws = (routed if self.once_in(3) else often) + 2 * [self.policy] + others
 
     def once_in(self, times):
         return self.random.randrange(times) == 0
@@ -208,13 +214,28 @@ class Talk:
             ("DELETE", "/api/v1/preauthkey/" + self.id(self.tailnet.keys), None, None),
         ])
 
+    def offered(self):
+        """Routes that a machine advertises, some of which others advertise, too."""
+        routes = [self.one_of(ROUTES, 3 * SHARED_ROUTES) for _ in range(self.one_of([1, 2, 3, 4]))]
+        return routes + self.one_of([[], [], ["0.0.0.0/0", "::/0"]])
+
+    def router(self):
+        """A sound registration of a machine with routes."""
+        number = self.one_of([0, 1, 2, 3, 4])
+        keys = [key.text for key in self.tailnet.keys.values()]
+        body = {
+            "NodeKey": "nodekey:" + 64 * "abcde"[number],
+            "Auth": {"AuthKey": self.one_of(keys or ["k1"])},
+            "Hostinfo": {"RoutableIPs": self.offered()},
+        }
+        return "POST", "/machine/register", "mkey:" + 64 * "12345"[number], body
+
     def advertise(self):
         """A sound update with routes, once there is a machine."""
         held = self.one_of(self.tailnet.machines.values(), [] if self.tailnet.machines else [None])
         if held is None:
             return self.register()
-        routes = [self.one_of(ROUTES) for _ in range(self.one_of([1, 2, 3, 4]))]
-        routes += self.one_of([[], [], ["0.0.0.0/0", "::/0"]])
+        routes = self.offered()
         body = {"NodeKey": "nodekey:" + held.node, "OmitPeers": True, "Hostinfo": {"RoutableIPs": routes}}
         return "POST", "/machine/map", "mkey:" + held.machine, body
 
@@ -338,8 +359,7 @@ class Talk:
         return fields
 
     def request(self):
-        draws = 10 * [self.register] + 5 * [self.map] + 5 * [self.whole_map] + 3 * [self.node] + 3 * [self.routes] + 2 * [self.advertise] + 2 * [self.policy] + [self.user, self.pre_auth_key, self.waiting]
-        draw = self.stray if self.once_in(40) else self.random.choice(draws)
+        draw = self.stray if self.once_in(40) else self.random.choice(self.draws)
         method, path, machine, body = draw()
         body = b"" if body is None else body if isinstance(body, bytes) else json.dumps(body, ensure_ascii=self.once_in(2)).encode()
         if self.once_in(80) and method == "POST":
