@@ -7,11 +7,11 @@ ghost use Rattle.range_sets.specs.Canonical.{canonical};
 ghost use Rattle.policy_rows.specs.declared.group.Group.{Group};
 ghost use Rattle.policy_rows.specs.declared.policy.Policy.{Policy};
 ghost use Rattle.policy_rows.specs.declared.rule.Rule.{Rule};
-ghost use Rattle.policy_eval.specs.Ends.{end_at};
-ghost use Rattle.policy_eval.specs.Grants.{grants, rules_of, some_rule_grants};
-ghost use Rattle.policy_eval.specs.Reach.{AreSoundRules};
-ghost use Rattle.policy_eval.specs.Sites.{AreApart, AreDistinct, serves, sites_of};
-ghost use Rattle.policy_eval.specs.declared.site.Site.{Site};
+ghost use Rattle.policy_sites.specs.Ends.{end_at};
+ghost use Rattle.policy_sites.specs.Grants.{grants, rules_of, some_rule_grants};
+ghost use Rattle.policy_sites.specs.Reach.{AreSoundRules};
+ghost use Rattle.policy_sites.specs.Sites.{AreServedApart, AreDistinct, serves, sites_of};
+ghost use Rattle.policy_sites.specs.declared.site.Site.{Site};
 ghost use Rattle.filter_compile.specs.Admits.{admits};
 ghost use Rattle.filter_compile.specs.Filters.{filter_of, rules_filter};
 ghost use Rattle.filter_compile.specs.Unrestricted.{HasBothFamilies, own_two, unrestricted};
@@ -20,12 +20,12 @@ ghost use Rattle.filter_compile.specs.Unrestricted.{HasBothFamilies, own_two, un
 /// and so by a policy.
 pub fn a_filter_admits_what_is_granted()
     ensures by_rules { (groups : List Group) (rules : List Rule) (sites : List Site) (m : Site)
-        → AreDistinct sites → AreApart sites → AreSoundRules rules → Contains sites m
+        → AreDistinct sites → AreServedApart sites → AreSoundRules rules → Contains sites m
         → (x y : Address) (proto port : ℕ) → x.bits < family_size x.v6 → y.bits < family_size y.v6
         → admits (rules_filter groups rules sites m) x y proto port ≡ (serves m y
         && some_rule_grants groups rules (end_at sites x) (end_at sites y) proto port) }
     ensures by_policy { (policy : Option Policy) (sites : List Site) (m : Site)
-        → AreDistinct sites → AreApart sites → AreSoundRules (rules_of policy)
+        → AreDistinct sites → AreServedApart sites → AreSoundRules (rules_of policy)
         → Contains sites m
         → (x y : Address) (proto port : ℕ) → x.bits < family_size x.v6 → y.bits < family_size y.v6
         → admits (filter_of policy sites m) x y proto port

@@ -9,7 +9,7 @@ use crate::profile::owners_of;
 use crate::view::View;
 use filter_compile::filter_for;
 use peer_view::{LiveMachine, World, own_row, sees_machine, shown};
-use policy_eval::Site;
+use policy_sites::Site;
 use std::alloc::Global;
 use tail_base::{Duplicate, Items, NoMemory};
 use tailcfg::{Dns, NodeRow};

@@ -3,8 +3,8 @@ ghost use Rattle.std.specs.Prelude.{◌≡◌, ℕ, Contains, List, None, Option
 ghost use Rattle.net_rows.specs.Damage.{damage};
 ghost use Rattle.net_rows.specs.declared.rows.Rows.{Rows};
 ghost use Rattle.policy_rows.specs.declared.policy.Policy.{Policy};
-ghost use Rattle.policy_eval.specs.Grants.{rules_of};
-ghost use Rattle.policy_eval.specs.Reach.{AreSoundRules};
+ghost use Rattle.policy_sites.specs.Grants.{rules_of};
+ghost use Rattle.policy_sites.specs.Reach.{AreSoundRules};
 ghost use Rattle.settings.specs.declared.fields.SettingsFields.{SettingsFields};
 ghost use Rattle.peer_view.specs.Seen.{Node, seen_of};
 ghost use Rattle.fresh_maps.specs.Fresh.{fresh};

@@ -17,11 +17,11 @@ use Rattle.policy_rows.specs.declared.policy.Policy.{Policy}
 use Rattle.policy_rows.specs.declared.group.Group.{Group}
 use Rattle.policy_rows.specs.declared.rule.Rule.{Rule}
 use Rattle.policy_eval.specs.Expansion.{Expansion}
-use Rattle.policy_eval.specs.Grants.{groups_of, rules_of}
-use Rattle.policy_eval.specs.Reach.{AreSoundRules}
-use Rattle.policy_eval.specs.Sites.{is_among, is_listed, site_of, sites_of}
-use Rattle.policy_eval.specs.declared.site.Site.{Site}
-use Rattle.policy_eval.specs.ByRule.{site_reaches}
+use Rattle.policy_sites.specs.Grants.{groups_of, rules_of}
+use Rattle.policy_sites.specs.Reach.{AreSoundRules}
+use Rattle.policy_sites.specs.Sites.{is_among, is_listed, site_of, sites_of}
+use Rattle.policy_sites.specs.declared.site.Site.{Site}
+use Rattle.policy_sites.specs.ByRule.{site_reaches}
 use Rattle.peer_view.specs.Reaches.{id_reaches, site_with}
 use Rattle.peer_view.specs.Seen.{IsSoundSeen, Node, Seen, expansion_seen, live_node, node_reaches, node_with, of_ids, seen_of, sites_seen}
 use Rattle.peer_view.specs.Worlds.{IsWorld}

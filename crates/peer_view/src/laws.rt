@@ -3,20 +3,20 @@ ghost use Rattle.std.specs.Prelude.{◌≡◌, ◌==◌, ◌&&◌, ◌||◌, ℕ
 ghost use Rattle.net_rows.specs.Damage.{damage};
 ghost use Rattle.net_rows.specs.declared.rows.Rows.{Rows};
 ghost use Rattle.policy_rows.specs.declared.policy.Policy.{Policy};
-ghost use Rattle.policy_eval.specs.Grants.{groups_of, rules_of};
-ghost use Rattle.policy_eval.specs.Reach.{AreSoundRules};
-ghost use Rattle.policy_eval.specs.Sites.{AreApart, AreDistinct, sites_of};
-ghost use Rattle.policy_eval.specs.declared.site.Site.{Site};
+ghost use Rattle.policy_sites.specs.Grants.{groups_of, rules_of};
+ghost use Rattle.policy_sites.specs.Reach.{AreSoundRules};
+ghost use Rattle.policy_sites.specs.Sites.{AreServedApart, AreDistinct, sites_of};
+ghost use Rattle.policy_sites.specs.declared.site.Site.{Site};
 ghost use Rattle.settings.specs.declared.fields.SettingsFields.{SettingsFields};
 ghost use Rattle.peer_view.specs.Seen.{Node, Seen, node_reaches, seen_of, sees};
-ghost use Rattle.policy_eval.specs.ByRule.{IsSoundSite, site_reaches};
+ghost use Rattle.policy_sites.specs.ByRule.{IsSoundSite, site_reaches};
 ghost use Rattle.peer_view.specs.Reaches.{reaches};
 
 /// Whether a machine reaches another one depends on the rules and the two machines alone, whatever
 /// other machines there are.
 pub fn reach_is_local()
     ensures sites { (policy : Option Policy) (sites : List Site) (a b : Site)
-        → AreSoundRules (rules_of policy) → AreDistinct sites → AreApart sites
+        → AreSoundRules (rules_of policy) → AreDistinct sites → AreServedApart sites
         → Contains sites a → Contains sites b → IsSoundSite b
         → reaches policy sites a b ≡ site_reaches (groups_of policy) (rules_of policy) a b }
     ensures tables { (policy : Option Policy) (rows : Rows) (live : List ℕ) (a b : Site)

@@ -9,7 +9,7 @@ use Rattle.policy_rows.specs.declared.fault.PolicyFault.{PolicyFault}
 use Rattle.policy_rows.specs.declared.policy.Policy.{Policy}
 use Rattle.policy_doc.specs.Document.{policy_of_text}
 use Rattle.desk_state.specs.Decisions.{only}
-use Rattle.policy_eval.specs.Sites.{sites_of}
+use Rattle.policy_sites.specs.Sites.{sites_of}
 use Rattle.policy_tests.specs.Tests.{tested}
 use Rattle.desk_state.specs.State.{State, live_ids}
 use Rattle.desk_state.specs.declared.decision.Decision.{Decision}

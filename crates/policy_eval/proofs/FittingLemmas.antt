@@ -19,9 +19,9 @@ use Rattle.route_rules.specs.Exits.{route_eq}
 use Rattle.route_rules.specs.Owners.{login_or_empty}
 use Rattle.policy_eval.specs.Expansion.{Expansion, expansion_of}
 use Rattle.policy_eval.specs.Fitting.{AreApproved, IsApproved, IsBehind, IsOfPolicy, has_login_of, live_sites, same_place, same_routes, same_site}
-use Rattle.policy_eval.specs.Sites.{is_among, site_of, sites_of}
-use Rattle.policy_eval.specs.declared.site.Site.{Site}
-use Rattle.policy_eval.proofs.SiteLemmas.{map_member}
+use Rattle.policy_sites.specs.Sites.{is_among, site_of, sites_of}
+use Rattle.policy_sites.specs.declared.site.Site.{Site}
+use Rattle.policy_sites.proofs.SiteLemmas.{map_member}
 
 tags_same : (xs ys : List (List ℕ)) → pointwise bytes_eq xs ys ≡ true → xs ≡ ys
 tags_same [] [] h = refl

@@ -1,6 +1,7 @@
 -- The addresses that prefixes hold, as lists of prefixes grow.
 use Rattle.std.proofs.Common.{◌≡◌, ◌+◌, ℕ, Bool, true, false, ◌&&◌, ◌||◌, List, [], ◌∷◌, ◌++◌, arith, eqb, leb, refl, ap, sym, ◌∙◌, subst}
 use Rattle.std.specs.Prelude.{Option, Some, None}
+use Rattle.std.proofs.Math.Bool.{or-false, or_assoc}
 use Rattle.std.specs.Bool.{beq}
 use Rattle.std.specs.List.{find, list_any}
 use Rattle.std.specs.Option.{option_map, option_map_or}
@@ -12,24 +13,16 @@ use Rattle.net_rows.specs.Damage.{address_eq}
 use Rattle.range_sets.specs.Sets.{some_holds}
 use Rattle.policy_rows.specs.declared.group.Group.{Group}
 use Rattle.policy_rows.specs.declared.selector.Selector.{Selector}
-use Rattle.policy_eval.specs.Covers.{is_held, names_holder}
-use Rattle.policy_eval.specs.Ends.{end_at, holder_of}
+use Rattle.policy_sites.specs.Covers.{is_held, names_holder}
+use Rattle.policy_sites.specs.Ends.{end_at, holder_of}
 use Rattle.policy_eval.specs.Expansion.{site_named}
-use Rattle.policy_eval.specs.Sites.{AreDistinct, site_has}
-use Rattle.policy_eval.specs.declared.site.Site.{Site}
+use Rattle.policy_sites.specs.Sites.{AreDistinct, site_has}
+use Rattle.policy_sites.specs.declared.site.Site.{Site}
 use Rattle.tail_base.proofs.Bools.{same_tests}
 use Rattle.net_rows.proofs.Members.{find_member, find_none, list_any_found, list_any_is}
 
-pub or_false : (a : Bool) → (a || false) ≡ a
-or_false true = refl
-or_false false = refl
-
-pub or_assoc : (a b c : Bool) → ((a || b) || c) ≡ (a || (b || c))
-or_assoc true b c = refl
-or_assoc false b c = refl
-
 pub some_holds-push : (ps : List Block) (p : Block) (addr : Address) → some_holds (ps ++ p ∷ []) addr ≡ (some_holds ps addr || holds p addr)
-some_holds-push [] p addr = or_false (holds p addr)
+some_holds-push [] p addr = or-false (holds p addr)
 some_holds-push (q ∷ ps) p addr = ap (λ b. holds q addr || b) (some_holds-push ps p addr) ∙ sym (or_assoc (holds q addr) (some_holds ps addr) (holds p addr))
 
 one_number : (a x : ℕ) → (leb a x && leb x (a + 0)) ≡ eqb a x
@@ -70,4 +63,4 @@ pub sites_held : (groups : List Group) (selector : Selector) (addr : Address) (s
     → list_any (site_named groups selector addr) sites ≡ is_held groups selector (end_at sites addr)
 sites_held groups selector addr sites h = held_found groups selector addr sites h (find (site_has addr) sites) refl
 
-pub ruleset set_steps = (some_holds-push, address_held, sites_held, or_assoc, or_false)
+pub ruleset set_steps = (some_holds-push, address_held, sites_held, or_assoc, or-false)

@@ -8,15 +8,15 @@ use Rattle.policy_rows.specs.declared.policy.Policy.{Policy}
 use Rattle.policy_rows.specs.declared.rule.Rule.{Rule}
 use Rattle.policy_rows.specs.declared.selector.Selector.{Selector}
 use Rattle.net_rows.specs.declared.rows.Rows.{Rows}
-use Rattle.policy_eval.specs.ByRule.{covers_served, covers_site, has_own_devices, sends, takes}
-use Rattle.policy_eval.specs.Covers.{covers, names_holder}
-use Rattle.policy_eval.specs.Ends.{end_at, holder_of}
-use Rattle.policy_eval.specs.Grants.{groups_of, rules_of, some_source}
-use Rattle.policy_eval.specs.Reach.{AreSoundRules}
-use Rattle.policy_eval.specs.Sites.{AreApart, AreDistinct, site_has, sites_of}
+use Rattle.policy_sites.specs.ByRule.{covers_served, covers_site, has_own_devices, sends, takes}
+use Rattle.policy_sites.specs.Covers.{covers, names_holder}
+use Rattle.policy_sites.specs.Ends.{end_at, holder_of}
+use Rattle.policy_sites.specs.Grants.{groups_of, rules_of, some_source}
+use Rattle.policy_sites.specs.Reach.{AreSoundRules}
+use Rattle.policy_sites.specs.Sites.{AreServedApart, AreDistinct, site_has, sites_of}
 use Rattle.policy_eval.specs.declared.cover.Cover.{Cover}
 use Rattle.policy_eval.specs.declared.rule_sets.RuleSets.{RuleSets}
-use Rattle.policy_eval.specs.declared.site.Site.{Site}
+use Rattle.policy_sites.specs.declared.site.Site.{Site}
 
 -- What was expanded over which sites.
 pub record Expansion : Type 0 where
@@ -59,9 +59,10 @@ AreMatched Fits (x ∷ xs) (y ∷ ys) = Fits x y × AreMatched Fits xs ys
 abbrev pub AreFlags : (Site → Bool) → List Site → List Bool → Type 0
 AreFlags test sites flags = (at : ℕ) (site : Site) → slice_get sites at ≡ Some site → slice_get flags at ≡ Some (test site)
 
--- what the selector covers: as prefixes, as a set, and of each site whether it covers one of its own ends, and whether
+-- what the selector, which is kept beside, covers: as prefixes, as a set, and of each site whether it covers one of its own ends, and whether
 -- it covers something that the site serves
 pub record CoverFits (groups : List Group) (sites : List Site) (selector : Selector) (cover : Cover) : Type 0 where
+  pub own : cover.selector ≡ selector
   pub nets : (addr : Address) → addr.bits < family_size addr.v6 → some_holds cover.nets addr ≡ covers groups selector (end_at sites addr)
   pub set : IsSetOf cover.set (λ addr. covers groups selector (end_at sites addr))
   pub flags : AreFlags (λ site. covers_site groups site selector) sites cover.flags
@@ -78,6 +79,7 @@ IsEntryAt groups sites list entry place = IsCoverAt groups sites list entry.to p
 -- what is known of a rule
 pub record RuleFits (groups : List Group) (sites : List Site) (list : List Cover) (r : Rule) (sets : RuleSets) : Type 0 where
   pub sources : IsSetOf sets.sources (source_covers groups sites r)
+  pub source_places : AreMatched (IsCoverAt groups sites list) r.sources sets.source_places
   pub dests : AreMatched (IsEntryAt groups sites list) r.dests sets.dests
   pub sends : AreFlags (sends groups r) sites sets.sends
   pub takes : AreFlags (takes groups r) sites sets.takes
@@ -86,6 +88,6 @@ pub record RuleFits (groups : List Group) (sites : List Site) (list : List Cover
 -- what is known of the rules, place by place
 pub record SetsFit (x : Expansion) (list : List Cover) (sets : List RuleSets) : Type 0 where
   pub distinct : AreDistinct x.sites
-  pub apart : AreApart x.sites
+  pub apart : AreServedApart x.sites
   pub sound : AreSoundRules x.rules
   pub matched : AreMatched (RuleFits x.groups x.sites list) x.rules sets

@@ -10,9 +10,9 @@ use Rattle.policy_rows.specs.declared.policy.Policy.{Policy}
 use Rattle.route_rules.specs.Approvals.{approved_of, is_exit}
 use Rattle.route_rules.specs.Exits.{route_eq}
 use Rattle.policy_eval.specs.Expansion.{Expansion}
-use Rattle.policy_eval.specs.Grants.{groups_of, rules_of}
-use Rattle.policy_eval.specs.Sites.{is_among, site_of}
-use Rattle.policy_eval.specs.declared.site.Site.{Site}
+use Rattle.policy_sites.specs.Grants.{groups_of, rules_of}
+use Rattle.policy_sites.specs.Sites.{is_among, site_of}
+use Rattle.policy_sites.specs.declared.site.Site.{Site}
 
 -- the sites of those of the machines that are live, whose ids these are
 abbrev pub live_sites : Option Policy → List User → List ℕ → List Machine → List Site

@@ -6,12 +6,11 @@ ghost use Rattle.std.specs.Str.{bytes_eq};
 ghost use Rattle.policy_rows.specs.declared.policy.Policy.{Policy};
 ghost use Rattle.route_rules.specs.Exits.{route_eq};
 ghost use Rattle.policy_eval.specs.Fitting.{AreApproved, IsBehind, has_login_of, live_sites, same_place, same_routes, same_site};
-ghost use Rattle.policy_eval.specs.Sites.{sites_of};
+ghost use Rattle.policy_sites.specs.Sites.{sites_of};
 
-use crate::id_list::IdList;
-use crate::site::{Site, is_among};
 use net_addr::Prefix;
 use net_rows::{Machine, Tables, User};
+use policy_sites::{IdList, Site, is_among};
 use tail_base::Tag;
 
 fn same_tags(made: &[Tag], tags: &[Tag]) -> bool

@@ -8,14 +8,14 @@ ghost use Rattle.policy_rows.specs.Internet.{is_internet};
 ghost use Rattle.policy_rows.specs.Names.{group_named};
 ghost use Rattle.policy_rows.specs.declared.selector.Selector.TheVariants as sel;
 ghost use Rattle.range_sets.specs.Sets.{some_holds};
-ghost use Rattle.policy_eval.specs.Covers.{covers};
-ghost use Rattle.policy_eval.specs.Ends.{end_at};
+ghost use Rattle.policy_sites.specs.Covers.{covers};
+ghost use Rattle.policy_sites.specs.Ends.{end_at};
 ghost use Rattle.policy_eval.specs.Expansion.{site_named};
-ghost use Rattle.policy_eval.specs.Sites.{AreDistinct, site_has};
+ghost use Rattle.policy_sites.specs.Sites.{AreDistinct, site_has};
 
-use crate::site::Site;
 use net_addr::{Addr, Prefix};
 use policy_rows::{Group, Selector, internet_nets, is_named, not_internet};
+use policy_sites::Site;
 use range_sets::RangeSet;
 use std::alloc::Global;
 use tail_base::{Items, NoMemory, Text};

@@ -1,8 +1,8 @@
 use Rattle.std.proofs.Common.{◌≡◌, ◌∙◌, sym, subst}
 use Rattle.std.specs.Prelude.{Some}
 use Rattle.policy_eval.specs.Expansion.{Expansion}
-use Rattle.policy_eval.specs.Reach.{AreSoundRules}
-use Rattle.policy_eval.specs.Sites.{AreApart, AreDistinct}
+use Rattle.policy_sites.specs.Reach.{AreSoundRules}
+use Rattle.policy_sites.specs.Sites.{AreServedApart, AreDistinct}
 use Rattle.peer_view.specs.Seen.{Node, node_with}
 use Rattle.fresh_maps.specs.Granted.{MeetsPolicy}
 use Rattle.fresh_maps.specs.InOrder.{IsInOrder}
@@ -29,7 +29,7 @@ returns-clause-admits c = λ m e.
     let same : c.in-Some.machine ≡ m = cc in
     let here = node_inside w c.args.machine c.in-Some.machine found in
     let distinct = subst (λ (x : Expansion). AreDistinct x.sites) c.expanded-expanded.ensures.value c.sites-sites.ensures.distinct in
-    let apart = subst (λ (x : Expansion). AreApart x.sites) c.expanded-expanded.ensures.value c.sites-sites.ensures.apart in
+    let apart = subst (λ (x : Expansion). AreServedApart x.sites) c.expanded-expanded.ensures.value c.sites-sites.ensures.apart in
     let sound = subst (λ (x : Expansion). AreSoundRules x.rules) c.expanded-expanded.ensures.value c.rules-rules.ensures.sound in
     let at = subst (λ (view : View). MeetsPolicy w c.in-Some.machine view.filter) (sym c.in_ok-view.ensures.value) (admits_granted w c.in-Some.machine distinct apart sound here) in
     subst (λ (n : Node). MeetsPolicy w n c.in_ok-view.view.filter) same at

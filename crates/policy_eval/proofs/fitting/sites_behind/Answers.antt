@@ -1,6 +1,6 @@
 use Rattle.std.proofs.Common.{◌≡◌, ◌∷◌, true, rules}
 use Rattle.policy_eval.specs.Fitting.{same_site}
-use Rattle.policy_eval.specs.Sites.{is_among}
+use Rattle.policy_sites.specs.Sites.{is_among}
 use Rattle.policy_eval.proofs.FittingLemmas.{behind_same}
 use Rattle.policy_eval.proofs.fitting.sites_behind.Goals as goal
 

@@ -1,0 +1,7 @@
+pub mod Beyond
+pub mod ByRule
+pub mod Covers
+pub mod Ends
+pub mod Grants
+pub mod Reach
+pub mod Sites
