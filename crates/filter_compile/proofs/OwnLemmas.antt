@@ -14,7 +14,7 @@ use Rattle.policy_sites.specs.Sites.{AreDistinct, site_has}
 use Rattle.policy_sites.specs.declared.end.Holder.{Holder}
 use Rattle.policy_sites.specs.declared.site.Site.{Site}
 use Rattle.std.proofs.Math.Bool.{or-false, or_assoc}
-use Rattle.policy_eval.proofs.SetLemmas.{address_held, some_holds-push}
+use Rattle.policy_sites.proofs.SetLemmas.{address_held, some_holds-push}
 use Rattle.filter_compile.specs.Filters.{is_of_own, own_site_has}
 
 held_found : (test : Holder → Bool) (addr : Address) (sites : List Site) → AreDistinct sites → (o : Option Site) → find (site_has addr) sites ≡ o

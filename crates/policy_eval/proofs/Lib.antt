@@ -1,6 +1,5 @@
 pub mod CoverLemmas
 pub mod FitLemmas
-pub mod FittingLemmas
 pub mod FlagLemmas
+pub mod ForceLemmas
 pub mod MatchLemmas
-pub mod SetLemmas

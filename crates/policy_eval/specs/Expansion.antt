@@ -1,5 +1,5 @@
 -- A policy expanded over sites: what its selectors and rules cover.
-use Rattle.std.specs.Prelude.{◌≡◌, ◌<◌, ◌&&◌, ℕ, Bool, List, [], ◌∷◌, Option, Some, slice_get}
+use Rattle.std.specs.Prelude.{◌≡◌, ◌<◌, ℕ, Bool, List, [], ◌∷◌, Option, Some, slice_get}
 use Rattle.net_addr.specs.Bits.{Address, family_size}
 use Rattle.range_sets.specs.Sets.{Ranges, has, some_holds}
 use Rattle.policy_rows.specs.declared.dest.Dest.{Dest}
@@ -9,11 +9,12 @@ use Rattle.policy_rows.specs.declared.rule.Rule.{Rule}
 use Rattle.policy_rows.specs.declared.selector.Selector.{Selector}
 use Rattle.net_rows.specs.declared.rows.Rows.{Rows}
 use Rattle.policy_sites.specs.ByRule.{covers_served, covers_site, has_own_devices, sends, takes}
-use Rattle.policy_sites.specs.Covers.{covers, names_holder}
-use Rattle.policy_sites.specs.Ends.{end_at, holder_of}
+use Rattle.policy_sites.specs.Covers.{covers}
+use Rattle.policy_sites.specs.Ends.{end_at}
+use Rattle.policy_sites.specs.Fitting.{AreApproved}
 use Rattle.policy_sites.specs.Grants.{groups_of, rules_of, some_source}
 use Rattle.policy_sites.specs.Reach.{AreSoundRules}
-use Rattle.policy_sites.specs.Sites.{AreServedApart, AreDistinct, site_has, sites_of}
+use Rattle.policy_sites.specs.Sites.{AreServedApart, AreDistinct, sites_of}
 use Rattle.policy_eval.specs.declared.cover.Cover.{Cover}
 use Rattle.policy_eval.specs.declared.rule_sets.RuleSets.{RuleSets}
 use Rattle.policy_sites.specs.declared.site.Site.{Site}
@@ -43,10 +44,6 @@ source_covers groups sites r addr = some_source groups r (end_at sites addr)
 -- the destination covers them; `autogroup:self`, which takes a source, covers none
 abbrev pub entry_covers : List Group → List Site → Dest → Address → Bool
 entry_covers groups sites entry addr = covers groups entry.to (end_at sites addr)
-
--- the site has the address, and the selector names its holder
-abbrev pub site_named : List Group → Selector → Address → Site → Bool
-site_named groups selector addr site = site_has addr site && names_holder groups selector (holder_of site)
 
 -- the lists are of one length, and go together place by place
 abbrev pub AreMatched : {A B : Type 0} → (A → B → Type 0) → List A → List B → Type 0
@@ -91,3 +88,9 @@ pub record SetsFit (x : Expansion) (list : List Cover) (sets : List RuleSets) : 
   pub apart : AreServedApart x.sites
   pub sound : AreSoundRules x.rules
   pub matched : AreMatched (RuleFits x.groups x.sites list) x.rules sets
+
+-- what was expanded is the policy, over whatever sites, of which it approves what they say
+pub record IsOfPolicy (policy : Option Policy) (made : Expansion) : Type 0 where
+  pub groups : made.groups ≡ groups_of policy
+  pub rules : made.rules ≡ rules_of policy
+  pub sites : AreApproved policy made.sites

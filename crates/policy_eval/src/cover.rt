@@ -12,10 +12,9 @@ ghost use Rattle.policy_sites.specs.Sites.{AreDistinct};
 ghost use Rattle.policy_sites.specs.declared.site.Site.{Site};
 
 use crate::flags::served_flags;
-use crate::listing::add_covered;
 use net_addr::Prefix;
 use policy_rows::{Group, Selector};
-use policy_sites::Site;
+use policy_sites::{Site, add_covered};
 use range_sets::RangeSet;
 use std::alloc::Global;
 use tail_base::{Duplicate, Items, NoMemory};

@@ -5,10 +5,8 @@
 mod cover;
 mod cover_list;
 mod expanded;
-mod fitting;
 mod flags;
 mod in_force;
-mod listing;
 mod rule_sets;
 mod site_flags;
 

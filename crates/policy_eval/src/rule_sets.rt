@@ -9,10 +9,9 @@ ghost use Rattle.policy_eval.specs.Expansion.{AreMatched, IsCoverAt, IsEntryAt, 
 use crate::cover::Cover;
 use crate::cover_list::Covers;
 use crate::flags::{flag_at, some_flags};
-use crate::listing::add_all;
 use net_addr::Prefix;
 use policy_rows::Rule;
-use policy_sites::has_own_devices;
+use policy_sites::{add_all, has_own_devices};
 use range_sets::RangeSet;
 use std::alloc::Global;
 use tail_base::{Items, NoMemory};
@@ -41,7 +40,7 @@ fn place_nets(covers: &[Cover], place: usize) -> &[Prefix]
 }
 
 /// The prefixes at these places.
-#[tactic(auto, using(crate::proofs::SetLemmas::set_steps))]
+#[tactic(auto, using(policy_sites::proofs::SetLemmas::set_steps))]
 fn source_nets(alloc: Global, covers: &[Cover], places: &[usize]) -> Result<Items<Prefix>, NoMemory>
     ensures held { IfOk result (λ nets. (addr : Address) → some_holds nets addr
         ≡ list_any (λ place. some_holds (place_nets covers.now place) addr) places.now) }

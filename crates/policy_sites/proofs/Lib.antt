@@ -1,4 +1,5 @@
 pub mod EndLemmas
+pub mod FittingLemmas
 pub mod IdLemmas
 pub mod InternetLemmas
 pub mod IntoLemmas
@@ -6,4 +7,5 @@ pub mod ListLemmas
 pub mod OwnLemmas
 pub mod ReachLemmas
 pub mod RouteLemmas
+pub mod SetLemmas
 pub mod SiteLemmas

@@ -8,9 +8,9 @@ use Rattle.policy_rows.specs.declared.group.Group.{Group}
 use Rattle.policy_rows.specs.declared.rule.Rule.{Rule}
 use Rattle.policy_rows.specs.declared.selector.Selector.{Selector}
 use Rattle.policy_sites.specs.Beyond.{covers_into}
-use Rattle.policy_sites.specs.Covers.{covers, is_own, is_own_devices}
+use Rattle.policy_sites.specs.Covers.{covers, is_own, is_own_devices, names_holder}
 use Rattle.policy_sites.specs.Ends.{holder_of}
-use Rattle.policy_sites.specs.Sites.{serves_beyond}
+use Rattle.policy_sites.specs.Sites.{serves_beyond, site_has}
 use Rattle.policy_sites.specs.declared.end.End.{End}
 use Rattle.policy_sites.specs.declared.site.Site.{Site}
 
@@ -21,6 +21,10 @@ site_addresses site = site.v4 ∷ site.v6 ∷ []
 -- the end that an address of the machine is
 abbrev pub site_end : Site → Address → End
 site_end site addr = record { addr = Some addr; holder = Some (holder_of site) }
+
+-- the site has the address, and the selector names its holder
+abbrev pub site_named : List Group → Selector → Address → Site → Bool
+site_named groups selector addr site = site_has addr site && names_holder groups selector (holder_of site)
 
 -- the selector covers one of the machine's own ends
 abbrev pub covers_site : List Group → Site → Selector → Bool

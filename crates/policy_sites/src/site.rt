@@ -104,7 +104,7 @@ fn site_of(
 }
 
 /// Whether the machine is one of the live ones, whose ids these are.
-pub fn is_among(live: &IdList<'_>, machine: &Machine) -> bool
+pub(crate) fn is_among(live: &IdList<'_>, machine: &Machine) -> bool
     ensures value { result ≡ is_among live.now machine.now }
 {
     live.has(machine.id)

@@ -1,5 +1,5 @@
-use Rattle.policy_eval.proofs.FittingLemmas.{sites_go_on}
-use Rattle.policy_eval.proofs.fitting.are_sites_of.Goals as goal
+use Rattle.policy_sites.proofs.FittingLemmas.{sites_go_on}
+use Rattle.policy_sites.proofs.fitting.are_sites_of.Goals as goal
 
 pub loop-machine-init : goal.loop-machine-init
 loop-machine-init c = λ policy told. record { approved = told; fits = λ here. here }

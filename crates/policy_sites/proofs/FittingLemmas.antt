@@ -17,8 +17,7 @@ use Rattle.policy_rows.specs.declared.policy.Policy.{Policy}
 use Rattle.route_rules.specs.Approvals.{approved_of, is_exit}
 use Rattle.route_rules.specs.Exits.{route_eq}
 use Rattle.route_rules.specs.Owners.{login_or_empty}
-use Rattle.policy_eval.specs.Expansion.{Expansion, expansion_of}
-use Rattle.policy_eval.specs.Fitting.{AreApproved, IsApproved, IsBehind, IsOfPolicy, has_login_of, live_sites, same_place, same_routes, same_site}
+use Rattle.policy_sites.specs.Fitting.{AreApproved, IsApproved, IsBehind, has_login_of, live_sites, same_place, same_routes, same_site}
 use Rattle.policy_sites.specs.Sites.{is_among, site_of, sites_of}
 use Rattle.policy_sites.specs.declared.site.Site.{Site}
 use Rattle.policy_sites.proofs.SiteLemmas.{map_member}
@@ -152,18 +151,3 @@ sites_go_on policy users live machines i m all rest behind lt is told step =
       approved = step.approved policy told.approved;
       fits = λ here. told.fits (step.fits policy (drop (i + 1) machines) told.approved here ∙ ap (live_sites policy users live) (sym cut));
     }
-
--- what is expanded of a policy is of it
-pub made_of_policy : (policy : Option Policy) (rows : Rows) (live : List ℕ) (made : Expansion) → made ≡ expansion_of policy rows live → IsOfPolicy policy made
-made_of_policy policy rows live made is = record {
-  groups = ap (λ (x : Expansion). x.groups) is;
-  rules = ap (λ (x : Expansion). x.rules) is;
-  sites = subst (λ (x : Expansion). AreApproved policy x.sites) (sym is) (sites_approved policy rows live);
-}
-
--- and over sites that are still those of the live machines it is what would be expanded now
-pub fits_now : (policy : Option Policy) (rows : Rows) (live : List ℕ) (made : Expansion) (sites : List Site) → IsOfPolicy policy made → sites ≡ made.sites
-    → ((other : Option Policy) → AreApproved other sites → sites ≡ sites_of other rows live) → made ≡ expansion_of policy rows live
-fits_now policy rows live made sites told same fits =
-    let here = sym same ∙ fits policy (subst (λ (ss : List Site). AreApproved policy ss) (sym same) told.sites) in
-    λ i. record { groups = told.groups i; rules = told.rules i; sites = here i }

@@ -2,8 +2,8 @@ use Rattle.std.proofs.Common.{◌≡◌, ◌||◌, drop}
 use Rattle.std.specs.List.{list_any}
 use Rattle.net_addr.specs.Bits.{Address}
 use Rattle.range_sets.specs.Sets.{some_holds}
-use Rattle.policy_eval.specs.Expansion.{site_named}
-use Rattle.policy_eval.proofs.listing.add_sites.Given as goal
+use Rattle.policy_sites.specs.ByRule.{site_named}
+use Rattle.policy_sites.proofs.listing.add_sites.Given as goal
 
 abbrev pub invariant-loop-site : goal.invariant-loop-site
 invariant-loop-site l =

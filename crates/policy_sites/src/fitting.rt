@@ -5,12 +5,13 @@ ghost use Rattle.std.specs.Option.{option_copied};
 ghost use Rattle.std.specs.Str.{bytes_eq};
 ghost use Rattle.policy_rows.specs.declared.policy.Policy.{Policy};
 ghost use Rattle.route_rules.specs.Exits.{route_eq};
-ghost use Rattle.policy_eval.specs.Fitting.{AreApproved, IsBehind, has_login_of, live_sites, same_place, same_routes, same_site};
+ghost use Rattle.policy_sites.specs.Fitting.{AreApproved, IsBehind, has_login_of, live_sites, same_place, same_routes, same_site};
 ghost use Rattle.policy_sites.specs.Sites.{sites_of};
 
+use crate::id_list::IdList;
+use crate::site::{Site, is_among};
 use net_addr::Prefix;
 use net_rows::{Machine, Tables, User};
-use policy_sites::{IdList, Site, is_among};
 use tail_base::Tag;
 
 fn same_tags(made: &[Tag], tags: &[Tag]) -> bool
@@ -100,7 +101,7 @@ fn are_sites_of(tables: &Tables, live: &IdList<'_>, machines: &[Machine], sites:
 /// Whether the sites are those of the machines that are live, whose ids are listed, under whatever
 /// policy approves what they say. No route is looked at under the policy again: what it approves of a
 /// machine depends on nothing but what the sites keep of it.
-pub(crate) fn sites_fit(tables: &Tables, live: &[u32], sites: &[Site]) -> bool
+pub fn sites_fit(tables: &Tables, live: &[u32], sites: &[Site]) -> bool
     ensures same { result ≡ true → (policy : Option Policy) → AreApproved policy sites.now
         → sites.now ≡ sites_of policy tables.now.rows live.now }
 {

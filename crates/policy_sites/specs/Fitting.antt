@@ -9,8 +9,6 @@ use Rattle.net_rows.specs.declared.user.User.{User}
 use Rattle.policy_rows.specs.declared.policy.Policy.{Policy}
 use Rattle.route_rules.specs.Approvals.{approved_of, is_exit}
 use Rattle.route_rules.specs.Exits.{route_eq}
-use Rattle.policy_eval.specs.Expansion.{Expansion}
-use Rattle.policy_sites.specs.Grants.{groups_of, rules_of}
 use Rattle.policy_sites.specs.Sites.{is_among, site_of}
 use Rattle.policy_sites.specs.declared.site.Site.{Site}
 
@@ -53,9 +51,3 @@ pub record IsBehind (users : List User) (live : List ℕ) (m : Machine) (sites r
   pub approved : (policy : Option Policy) → AreApproved policy sites → AreApproved policy rest
   pub fits : (policy : Option Policy) (more : List Machine) → AreApproved policy sites
       → rest ≡ live_sites policy users live more → sites ≡ live_sites policy users live (m ∷ more)
-
--- what was expanded is the policy, over whatever sites, of which it approves what they say
-pub record IsOfPolicy (policy : Option Policy) (made : Expansion) : Type 0 where
-  pub groups : made.groups ≡ groups_of policy
-  pub rules : made.rules ≡ rules_of policy
-  pub sites : AreApproved policy made.sites

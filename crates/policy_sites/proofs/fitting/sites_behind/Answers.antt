@@ -1,8 +1,8 @@
 use Rattle.std.proofs.Common.{◌≡◌, ◌∷◌, true, rules}
-use Rattle.policy_eval.specs.Fitting.{same_site}
+use Rattle.policy_sites.specs.Fitting.{same_site}
 use Rattle.policy_sites.specs.Sites.{is_among}
-use Rattle.policy_eval.proofs.FittingLemmas.{behind_same}
-use Rattle.policy_eval.proofs.fitting.sites_behind.Goals as goal
+use Rattle.policy_sites.proofs.FittingLemmas.{behind_same}
+use Rattle.policy_sites.proofs.fitting.sites_behind.Goals as goal
 
 pub returns-then-same_site : goal.returns-then-same_site
 returns-then-same_site c =

@@ -15,7 +15,7 @@ use Rattle.policy_rows.specs.declared.group.Group.{Group}
 use Rattle.policy_rows.specs.declared.selector.Selector.{Selector}
 use Rattle.policy_sites.specs.Covers.{is_held, names_holder}
 use Rattle.policy_sites.specs.Ends.{end_at, holder_of}
-use Rattle.policy_eval.specs.Expansion.{site_named}
+use Rattle.policy_sites.specs.ByRule.{site_named}
 use Rattle.policy_sites.specs.Sites.{AreDistinct, site_has}
 use Rattle.policy_sites.specs.declared.site.Site.{Site}
 use Rattle.tail_base.proofs.Bools.{same_tests}

@@ -10,12 +10,12 @@ ghost use Rattle.policy_rows.specs.declared.selector.Selector.TheVariants as sel
 ghost use Rattle.range_sets.specs.Sets.{some_holds};
 ghost use Rattle.policy_sites.specs.Covers.{covers};
 ghost use Rattle.policy_sites.specs.Ends.{end_at};
-ghost use Rattle.policy_eval.specs.Expansion.{site_named};
+ghost use Rattle.policy_sites.specs.ByRule.{site_named};
 ghost use Rattle.policy_sites.specs.Sites.{AreDistinct, site_has};
 
+use crate::site::Site;
 use net_addr::{Addr, Prefix};
 use policy_rows::{Group, Selector, internet_nets, is_named, not_internet};
-use policy_sites::Site;
 use range_sets::RangeSet;
 use std::alloc::Global;
 use tail_base::{Items, NoMemory, Text};
@@ -31,7 +31,7 @@ fn add_one(out: &mut Items<Prefix>, net: Prefix) -> Result<(), NoMemory>
 
 /// Adds prefixes.
 #[tactic(auto, using(crate::proofs::SetLemmas::set_steps))]
-pub(crate) fn add_all(out: &mut Items<Prefix>, more: &[Prefix]) -> Result<(), NoMemory>
+pub fn add_all(out: &mut Items<Prefix>, more: &[Prefix]) -> Result<(), NoMemory>
     ensures held { OnOk result ((addr : Address)
         → some_holds out.new addr ≡ (some_holds out.old addr || some_holds more.now addr)) }
 {
@@ -107,7 +107,7 @@ fn add_named(
 
 /// Adds the addresses of the sites whose holders the selector names.
 #[tactic(auto, using(crate::proofs::SetLemmas::set_steps))]
-pub(crate) fn add_sites(
+fn add_sites(
     out: &mut Items<Prefix>,
     groups: &[Group],
     selector: &Selector,
@@ -156,7 +156,7 @@ fn add_group(
 
 /// Adds the addresses that the selector covers.
 #[tactic(auto, using(crate::proofs::SetLemmas::set_steps))]
-pub(crate) fn add_covered(
+pub fn add_covered(
     alloc: Global,
     out: &mut Items<Prefix>,
     groups: &[Group],
