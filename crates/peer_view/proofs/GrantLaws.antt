@@ -7,7 +7,7 @@ use Rattle.tail_base.proofs.Bools.{same_tests}
 use Rattle.net_addr.specs.Bits.{Address, Block}
 use Rattle.net_addr.specs.Blocks.{holds}
 use Rattle.net_addr.proofs.SearchLemmas.{address_finds, address_found}
-use Rattle.net_rows.specs.Shelf.{BelongsAt, IsAscending, StandsAt, row_at}
+use Rattle.net_rows.specs.Shelf.{BelongsAt, IsAscending, StandsAt}
 use Rattle.net_rows.specs.declared.rows.Rows.{Rows}
 use Rattle.net_rows.proofs.Members.{list_any_is}
 use Rattle.net_rows.proofs.RowAt.{row_at_is}
@@ -31,7 +31,7 @@ use Rattle.policy_sites.specs.declared.site.Site.{Site}
 use Rattle.policy_sites.proofs.EndLemmas.{beyond_end, own_end}
 use Rattle.policy_sites.proofs.OwnLemmas.{has_v4, has_v6}
 use Rattle.policy_sites.proofs.ReachLemmas.{reach_is}
-use Rattle.peer_view.specs.Seen.{Node, Seen, expansion_seen, seen_of, sites_seen}
+use Rattle.peer_view.specs.Seen.{Node, Seen, seen_of, sites_seen}
 use Rattle.peer_view.specs.Shown.{IsUnheld, granted_into}
 use Rattle.peer_view.specs.Worlds.{IsWorld}
 use Rattle.peer_view.proofs.AnyLemmas.{any_pair, any_same, either_and}

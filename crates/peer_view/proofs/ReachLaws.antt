@@ -1,13 +1,11 @@
 -- Reach is local, and goes by rules.
-use Rattle.std.proofs.Common.{◌≡◌, ◌<◌, ◌&&◌, ◌||◌, ◌==◌, ℕ, Bool, true, false, List, ◌⊎◌, refl, ap, sym, ◌∙◌, inl, inr}
+use Rattle.std.proofs.Common.{◌≡◌, ◌<◌, ◌&&◌, ◌||◌, Bool, true, false, List, refl, ap, sym, ◌∙◌, inl, inr}
 use Rattle.std.specs.Prelude.{Contains, Option}
-use Rattle.std.specs.Bool.{beq}
 use Rattle.std.specs.List.{list_any}
-use Rattle.std.proofs.lemmas.Bool.{and_from, and_parts, eqb-true, or_cases, or_left, or_right}
-use Rattle.tail_base.proofs.Bools.{beq-true, same_tests}
+use Rattle.std.proofs.lemmas.Bool.{and_from, and_parts, or_cases, or_left, or_right}
+use Rattle.tail_base.proofs.Bools.{same_tests}
 use Rattle.net_addr.specs.Bits.{Address, family_size}
 use Rattle.net_addr.proofs.SearchLemmas.{address_finds, address_found}
-use Rattle.net_rows.specs.Damage.{address_eq}
 use Rattle.policy_rows.specs.declared.dest.Dest.{Dest}
 use Rattle.policy_rows.specs.declared.group.Group.{Group}
 use Rattle.policy_rows.specs.declared.policy.Policy.{Policy}
