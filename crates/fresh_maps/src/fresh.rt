@@ -1,5 +1,6 @@
 //! Maps computed afresh.
 ghost use Rattle.std.specs.Prelude.{◌≡◌, ◌++◌, Contains, IfOk, IsSome, OnOk, Some};
+ghost use Rattle.peer_view.specs.Isolation.{only_seen};
 ghost use Rattle.peer_view.specs.Seen.{Node, node_with, sites_seen, visible};
 ghost use Rattle.fresh_maps.specs.Fresh.{fresh, node_seen, peers_of};
 ghost use Rattle.fresh_maps.specs.InOrder.{IsInOrder};
@@ -102,12 +103,15 @@ fn map_of(alloc: Global, world: &World<'_>, machine: &LiveMachine<'_>) -> Result
     })
 }
 
-/// The map of a live machine, computed afresh. It is in order, and its filter admits exactly the flows
-/// to what the machine serves that the policy grants.
+/// The map of a live machine, computed afresh. It is in order, its filter admits exactly the flows to
+/// what the machine serves that the policy grants, and without the machines that this one doesn't see
+/// it would be the same.
 pub fn fresh_map(alloc: Global, world: &World<'_>, machine: u32) -> Result<View, NoMemory>
     requires live { IsSome (node_with world.now machine) }
     ensures value { IfOk result (λ view. (m : Node) → node_with world.now machine ≡ Some m
         → view ≡ fresh world.now m) }
+    ensures isolated { IfOk result (λ view. (m : Node) → node_with world.now machine ≡ Some m
+        → view ≡ fresh (only_seen world.now m) m) }
     ensures order { IfOk result IsInOrder }
     ensures admits { IfOk result (λ view. (m : Node) → node_with world.now machine ≡ Some m
         → MeetsPolicy world.now m view.filter) }
