@@ -16,16 +16,16 @@ use Rattle.policy_rows.specs.declared.rule.Rule.{Rule}
 use Rattle.policy_rows.specs.declared.selector.Selector.{Selector}
 use Rattle.policy_rows.specs.declared.selector.Selector.TheVariants as sel
 use Rattle.tailcfg.specs.declared.filter.Sources.TheVariants.{Any, Only}
-use Rattle.policy_eval.specs.ByRule.{covers_site, has_own_devices, joins_own_by, lets_through, sends, site_end, site_reaches, takes}
-use Rattle.policy_eval.specs.Covers.{covers, is_own}
-use Rattle.policy_eval.specs.Ends.{end_at, free_end, holder_of}
+use Rattle.policy_sites.specs.ByRule.{covers_site, has_own_devices, joins_own_by, lets_through, sends, site_end, site_reaches, takes}
+use Rattle.policy_sites.specs.Covers.{covers, is_own}
+use Rattle.policy_sites.specs.Ends.{end_at, free_end, holder_of}
 use Rattle.policy_eval.specs.Expansion.{entry_covers, source_covers}
-use Rattle.policy_eval.specs.Grants.{groups_of, rules_of, some_source}
-use Rattle.policy_eval.specs.Sites.{AreApart, AreDistinct, serves, site_has}
-use Rattle.policy_eval.specs.declared.end.End.{End}
-use Rattle.policy_eval.specs.declared.site.Site.{Site}
-use Rattle.policy_eval.proofs.EndLemmas.{beyond_end, own_end, served_cases}
-use Rattle.policy_eval.proofs.OwnLemmas.{own_two}
+use Rattle.policy_sites.specs.Grants.{groups_of, rules_of, some_source}
+use Rattle.policy_sites.specs.Sites.{AreServedApart, AreDistinct, serves, site_has}
+use Rattle.policy_sites.specs.declared.end.End.{End}
+use Rattle.policy_sites.specs.declared.site.Site.{Site}
+use Rattle.policy_sites.proofs.EndLemmas.{beyond_end, own_end, served_cases}
+use Rattle.policy_sites.proofs.OwnLemmas.{own_two}
 use Rattle.filter_compile.specs.Filters.{entry_dests, filter_of, own_dests, own_rule, own_source_covers, plain_rule, rules_filter, sources_of}
 use Rattle.filter_compile.specs.Isolation.{is_near}
 use Rattle.filter_compile.specs.Parts.{is_all, rule_or_none, with_ports}
@@ -60,14 +60,14 @@ any_none test xs none = false_from_ne_true (list_any test xs) (λ h. let at = li
 
 record AreKept (keep : Site → Bool) (sites : List Site) (m : Site) : Type 0 where
   distinct : AreDistinct sites
-  apart : AreApart sites
+  apart : AreServedApart sites
   inside : Contains sites m
   own : keep m ≡ true
 
 kept_distinct : (keep : Site → Bool) (sites : List Site) → AreDistinct sites → AreDistinct (filter keep sites)
 kept_distinct keep sites distinct addr a b m n h k = distinct addr a b (kept_inside keep sites a m) (kept_inside keep sites b n) h k
 
-kept_apart : (keep : Site → Bool) (sites : List Site) → AreApart sites → AreApart (filter keep sites)
+kept_apart : (keep : Site → Bool) (sites : List Site) → AreServedApart sites → AreServedApart (filter keep sites)
 kept_apart keep sites apart addr a b m n h = apart addr a b (kept_inside keep sites a m) (kept_inside keep sites b n) h
 
 own_kept : (keep : Site → Bool) (sites : List Site) (m : Site) → AreKept keep sites m → Contains (filter keep sites) m
@@ -242,7 +242,7 @@ rules_same groups (r ∷ rules) keep sites m at quiet =
     λ i. (plain i ++ own i) ++ rest i
 
 -- The filter is that over any of the machines, so long as those that reach it are among them.
-pub filter_kept : (policy : Option Policy) (sites : List Site) (m : Site) (keep : Site → Bool) → AreDistinct sites → AreApart sites → Contains sites m → keep m ≡ true
+pub filter_kept : (policy : Option Policy) (sites : List Site) (m : Site) (keep : Site → Bool) → AreDistinct sites → AreServedApart sites → Contains sites m → keep m ≡ true
     → ((q : Site) → Contains sites q → site_reaches (groups_of policy) (rules_of policy) q m ≡ true → keep q ≡ true)
     → filter_of policy sites m ≡ filter_of policy (filter keep sites) m
 filter_kept policy sites m keep distinct apart inside own reached =
@@ -250,7 +250,7 @@ filter_kept policy sites m keep distinct apart inside own reached =
     (λ q there drops. false_from_ne_true (site_reaches (groups_of policy) (rules_of policy) q m) (λ h. both_ways (keep q) drops (reached q there h)))
 
 -- So it is that over the machine itself, those that it reaches and those that reach it.
-pub filter_near : (policy : Option Policy) (sites : List Site) (m : Site) → AreDistinct sites → AreApart sites → Contains sites m
+pub filter_near : (policy : Option Policy) (sites : List Site) (m : Site) → AreDistinct sites → AreServedApart sites → Contains sites m
     → filter_of policy sites m ≡ filter_of policy (filter (is_near (groups_of policy) (rules_of policy) m) sites) m
 filter_near policy sites m distinct apart inside =
     let reach = site_reaches (groups_of policy) (rules_of policy) in

@@ -7,12 +7,12 @@ ghost use Rattle.range_sets.specs.Canonical.{canonical};
 ghost use Rattle.policy_rows.specs.declared.group.Group.{Group};
 ghost use Rattle.policy_rows.specs.declared.policy.Policy.{Policy};
 ghost use Rattle.policy_rows.specs.declared.rule.Rule.{Rule};
-ghost use Rattle.policy_eval.specs.ByRule.{site_reaches};
-ghost use Rattle.policy_eval.specs.Ends.{end_at};
-ghost use Rattle.policy_eval.specs.Grants.{grants, groups_of, rules_of, some_rule_grants};
-ghost use Rattle.policy_eval.specs.Reach.{AreSoundRules};
-ghost use Rattle.policy_eval.specs.Sites.{AreApart, AreDistinct, serves, sites_of};
-ghost use Rattle.policy_eval.specs.declared.site.Site.{Site};
+ghost use Rattle.policy_sites.specs.ByRule.{site_reaches};
+ghost use Rattle.policy_sites.specs.Ends.{end_at};
+ghost use Rattle.policy_sites.specs.Grants.{grants, groups_of, rules_of, some_rule_grants};
+ghost use Rattle.policy_sites.specs.Reach.{AreSoundRules};
+ghost use Rattle.policy_sites.specs.Sites.{AreServedApart, AreDistinct, serves, sites_of};
+ghost use Rattle.policy_sites.specs.declared.site.Site.{Site};
 ghost use Rattle.filter_compile.specs.Admits.{admits};
 ghost use Rattle.filter_compile.specs.Filters.{filter_of, rules_filter};
 ghost use Rattle.filter_compile.specs.Isolation.{is_near};
@@ -54,12 +54,12 @@ pub fn a_filter_without_rules_is_open()
 /// them; so it is that over the machine, those that it reaches and those that reach it.
 pub fn who_does_not_reach_a_machine_adds_nothing()
     ensures kept { (policy : Option Policy) (sites : List Site) (m : Site) (keep : Site → Bool)
-        → AreDistinct sites → AreApart sites → Contains sites m → keep m ≡ true
+        → AreDistinct sites → AreServedApart sites → Contains sites m → keep m ≡ true
         → ((q : Site) → Contains sites q
         → site_reaches (groups_of policy) (rules_of policy) q m ≡ true → keep q ≡ true)
         → filter_of policy sites m ≡ filter_of policy (filter keep sites) m }
     ensures near { (policy : Option Policy) (sites : List Site) (m : Site)
-        → AreDistinct sites → AreApart sites → Contains sites m
+        → AreDistinct sites → AreServedApart sites → Contains sites m
         → filter_of policy sites m
         ≡ filter_of policy (filter (is_near (groups_of policy) (rules_of policy) m) sites) m }
 {}

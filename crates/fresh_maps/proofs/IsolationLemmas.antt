@@ -8,12 +8,12 @@ use Rattle.net_rows.proofs.Members.{first_member, rest_member}
 use Rattle.net_rows.proofs.RowAt.{row_at_is}
 use Rattle.settings.specs.declared.fields.SettingsFields.{SettingsFields}
 use Rattle.policy_rows.specs.declared.policy.Policy.{Policy}
-use Rattle.policy_eval.specs.ByRule.{site_reaches}
-use Rattle.policy_eval.specs.Grants.{groups_of, rules_of}
-use Rattle.policy_eval.specs.Reach.{AreSoundRules}
-use Rattle.policy_eval.specs.Sites.{AreApart, AreDistinct}
-use Rattle.policy_eval.specs.declared.site.Site.{Site}
-use Rattle.policy_eval.proofs.SiteLemmas.{one_site, sites_apart}
+use Rattle.policy_sites.specs.ByRule.{site_reaches}
+use Rattle.policy_sites.specs.Grants.{groups_of, rules_of}
+use Rattle.policy_sites.specs.Reach.{AreSoundRules}
+use Rattle.policy_sites.specs.Sites.{AreServedApart, AreDistinct}
+use Rattle.policy_sites.specs.declared.site.Site.{Site}
+use Rattle.policy_sites.proofs.SiteLemmas.{one_site, sites_apart}
 use Rattle.filter_compile.specs.Filters.{filter_of}
 use Rattle.filter_compile.specs.Isolation.{is_near}
 use Rattle.filter_compile.proofs.IsolationLemmas.{filter_near}
@@ -52,7 +52,7 @@ record IsHeld (w : Seen) (m : Node) : Type 0 where
   sound : IsSoundSeen w
   rules : AreSoundRules (rules_of w.policy)
   distinct : AreDistinct (sites_seen w)
-  apart : AreApart (sites_seen w)
+  apart : AreServedApart (sites_seen w)
 
 at_home : (w : Seen) (m : Node) → IsHeld w m → IsAtHome w m
 at_home w m at = record { inside = at.inside; ascend = at.sound.nodes; distinct = at.distinct; apart = at.apart }
@@ -102,7 +102,7 @@ peers_only w m at =
     ∙ (λ i. map (shown (only_seen w m) m (same i)) (same i))
 
 -- A map is that of what its machine sees alone.
-pub isolated_map : (w : Seen) (m : Node) → Contains w.nodes m → IsSoundSeen w → AreSoundRules (rules_of w.policy) → AreDistinct (sites_seen w) → AreApart (sites_seen w) → fresh w m ≡ fresh (only_seen w m) m
+pub isolated_map : (w : Seen) (m : Node) → Contains w.nodes m → IsSoundSeen w → AreSoundRules (rules_of w.policy) → AreDistinct (sites_seen w) → AreServedApart (sites_seen w) → fresh w m ≡ fresh (only_seen w m) m
 isolated_map w m inside sound rules distinct apart =
     let at : IsHeld w m = record { inside = inside; sound = sound; rules = rules; distinct = distinct; apart = apart } in
     let peers = peers_only w m at in
@@ -122,5 +122,5 @@ pub map_isolated : (settings : SettingsFields) (policy : Option Policy) (rows : 
 map_isolated settings policy rows live online m kept sound inside =
     let w = seen_of settings policy rows live online in
     let distinct : AreDistinct (sites_seen w) = rw (sites_are settings policy rows live online) (one_site policy rows live kept) in
-    let apart : AreApart (sites_seen w) = rw (sites_are settings policy rows live online) (sites_apart policy rows live kept) in
+    let apart : AreServedApart (sites_seen w) = rw (sites_are settings policy rows live online) (sites_apart policy rows live kept) in
     isolated_map w m inside (seen_sound settings policy rows live online kept) sound distinct apart

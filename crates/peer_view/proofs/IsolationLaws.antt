@@ -14,15 +14,15 @@ use Rattle.policy_rows.specs.Internet.{is_internet}
 use Rattle.policy_rows.specs.declared.policy.Policy.{Policy}
 use Rattle.range_sets.specs.Sets.{some_holds}
 use Rattle.route_rules.specs.Serving.{exits_if}
-use Rattle.policy_eval.specs.ByRule.{site_addresses}
-use Rattle.policy_eval.specs.Ends.{end_at}
-use Rattle.policy_eval.specs.Grants.{grants}
-use Rattle.policy_eval.specs.Reach.{reaches_into}
-use Rattle.policy_eval.specs.Sites.{AreApart, AreDistinct, serves, site_has}
-use Rattle.policy_eval.specs.declared.end.End.{End}
-use Rattle.policy_eval.specs.declared.site.Site.{Site}
-use Rattle.policy_eval.proofs.EndLemmas.{beyond_end, own_end, served_cases, serves_more, serves_own}
-use Rattle.policy_eval.proofs.OwnLemmas.{has_v4, has_v6}
+use Rattle.policy_sites.specs.ByRule.{site_addresses}
+use Rattle.policy_sites.specs.Ends.{end_at}
+use Rattle.policy_sites.specs.Grants.{grants}
+use Rattle.policy_sites.specs.Reach.{reaches_into}
+use Rattle.policy_sites.specs.Sites.{AreServedApart, AreDistinct, serves, site_has}
+use Rattle.policy_sites.specs.declared.end.End.{End}
+use Rattle.policy_sites.specs.declared.site.Site.{Site}
+use Rattle.policy_sites.proofs.EndLemmas.{beyond_end, own_end, served_cases, serves_more, serves_own}
+use Rattle.policy_sites.proofs.OwnLemmas.{has_v4, has_v6}
 use Rattle.peer_view.specs.Isolation.{only_seen}
 use Rattle.peer_view.specs.Nodes.{node_of, own_addresses}
 use Rattle.peer_view.specs.Reaches.{reaches}
@@ -55,12 +55,12 @@ filter_through {A} p weak fails (x ∷ xs) =
 record AreSome (part all : List Site) : Type 0 where
   inside : (s : Site) → Contains part s → Contains all s
   distinct : AreDistinct all
-  apart : AreApart all
+  apart : AreServedApart all
 
 distinct_part : (part all : List Site) → AreSome part all → AreDistinct part
 distinct_part part all some addr a b m n h k = some.distinct addr a b (some.inside a m) (some.inside b n) h k
 
-apart_part : (part all : List Site) → AreSome part all → AreApart part
+apart_part : (part all : List Site) → AreSome part all → AreServedApart part
 apart_part part all some addr a b m n h = some.apart addr a b (some.inside a m) (some.inside b n) h
 
 -- the ends of what a site serves are the same
@@ -105,7 +105,7 @@ pub record IsAtHome (w : Seen) (m : Node) : Type 0 where
   pub inside : Contains w.nodes m
   pub ascend : IsAscending (λ n. n.row.id) w.nodes
   pub distinct : AreDistinct (sites_seen w)
-  pub apart : AreApart (sites_seen w)
+  pub apart : AreServedApart (sites_seen w)
 
 -- the test by which machines stay
 abbrev stays : Seen → Node → Node → Bool

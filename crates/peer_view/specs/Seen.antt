@@ -8,7 +8,7 @@ use Rattle.net_rows.specs.Shelf.{HasRow, IsAscending, row_at}
 use Rattle.net_rows.specs.declared.machine.Machine.{Machine}
 use Rattle.net_rows.specs.declared.rows.Rows.{Rows}
 use Rattle.net_rows.specs.declared.user.User.{User}
-use Rattle.policy_eval.specs.ByRule.{IsSoundSite}
+use Rattle.policy_sites.specs.ByRule.{IsSoundSite}
 use Rattle.policy_eval.specs.Expansion.{Expansion}
 use Rattle.policy_sites.specs.Grants.{groups_of, rules_of}
 use Rattle.policy_sites.specs.Sites.{is_among, site_of}

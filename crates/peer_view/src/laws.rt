@@ -15,7 +15,7 @@ ghost use Rattle.settings.specs.declared.fields.SettingsFields.{SettingsFields};
 ghost use Rattle.peer_view.specs.Choices.{IsShownAt};
 ghost use Rattle.peer_view.specs.Seen.{Node, Seen, node_reaches, seen_of, sees, visible};
 ghost use Rattle.peer_view.specs.Shown.{granted_into, offers, shown};
-ghost use Rattle.policy_eval.specs.ByRule.{IsSoundSite, site_reaches};
+ghost use Rattle.policy_sites.specs.ByRule.{IsSoundSite, site_reaches};
 ghost use Rattle.peer_view.specs.Reaches.{reaches};
 
 /// Whether a machine reaches another one depends on the rules and the two machines alone, whatever

@@ -1,8 +1,8 @@
 use Rattle.std.proofs.Common.{◌≡◌, ◌∙◌, ap, sym, subst}
 use Rattle.std.specs.Prelude.{Some}
 use Rattle.policy_eval.specs.Expansion.{Expansion}
-use Rattle.policy_eval.specs.Reach.{AreSoundRules}
-use Rattle.policy_eval.specs.Sites.{AreApart, AreDistinct}
+use Rattle.policy_sites.specs.Reach.{AreSoundRules}
+use Rattle.policy_sites.specs.Sites.{AreServedApart, AreDistinct}
 use Rattle.peer_view.specs.Isolation.{only_seen}
 use Rattle.peer_view.specs.Seen.{Node, node_with}
 use Rattle.fresh_maps.specs.Fresh.{fresh}
@@ -45,7 +45,7 @@ returns-clause-isolated c = λ m e.
     let same : c.in-Some.machine ≡ m = cc in
     let here = node_inside w c.args.machine c.in-Some.machine found in
     let distinct = subst (λ (x : Expansion). AreDistinct x.sites) c.expanded-expanded.ensures.value c.sites-sites.ensures.distinct in
-    let apart = subst (λ (x : Expansion). AreApart x.sites) c.expanded-expanded.ensures.value c.sites-sites.ensures.apart in
+    let apart = subst (λ (x : Expansion). AreServedApart x.sites) c.expanded-expanded.ensures.value c.sites-sites.ensures.apart in
     let sound = subst (λ (x : Expansion). AreSoundRules x.rules) c.expanded-expanded.ensures.value c.rules-rules.ensures.sound in
     let at = isolated_map w c.in-Some.machine here c.users-users.ensures.sound sound distinct apart in
     c.in_ok-view.ensures.value ∙ (at ∙ ap (λ (n : Node). fresh (only_seen w n) n) same)
