@@ -50,6 +50,13 @@ fn first_offering<'a, 'b>(
     machines.iter().find(|machine| offers(route, machine))
 }
 
+/// The same, if it is online, which is looked at first.
+fn offers_online(route: &Prefix, machine: &LiveMachine<'_>) -> bool
+    ensures value { result ≡ (offers route.now machine.now && machine.now.online) }
+{
+    machine.online && offers(route, machine)
+}
+
 /// The first of them that is online and does.
 fn first_online<'a, 'b>(
     machines: &'b [LiveMachine<'a>],
@@ -60,7 +67,7 @@ fn first_online<'a, 'b>(
 {
     machines
         .iter()
-        .find(|machine| offers(route, machine) && machine.online)
+        .find(|machine| offers_online(route, machine))
 }
 
 /// Through which of the machines the route goes.
