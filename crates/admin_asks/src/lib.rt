@@ -10,6 +10,7 @@ mod node_asks;
 mod operator_answer;
 mod operator_ask;
 mod route_asks;
+mod row_puts;
 mod sweeping;
 mod user_asks;
 mod waiting_list;
