@@ -88,7 +88,7 @@ fn reads<O: Opener>(alloc: Global, opener: &mut O, text: &str) -> Result<bool, F
 /// Whether the file can't be opened beside a keeper over it.
 fn has_one_opener<O: Opener>(alloc: Global, opener: &mut O, other: &mut O) -> Result<bool, Fail> {
     let _keeper = opened(alloc, opener)?;
-    Ok(opened(alloc, other).is_err())
+    Ok(other.open(alloc, FILE).is_err())
 }
 
 fn mode(rt: &HostRuntime, name: &str) -> Result<u32, Fail> {
