@@ -1,2 +1,3 @@
+mod Drains
 mod Lives
 pub mod Updates
