@@ -7,12 +7,13 @@ ghost use Rattle.settings.specs.Settings.{AreSettings};
 ghost use Rattle.desk_state.specs.Decisions.{IsNoLess, IsSound, rows_after};
 ghost use Rattle.desk_state.specs.State.{State};
 ghost use Rattle.desk_state.specs.declared.decision.Decision.{Decision};
-ghost use Rattle.tailnet_desk.specs.Asks.{IsShort};
+ghost use Rattle.tailnet_desk.specs.Asks.{IsPollEvent, IsShort};
 ghost use Rattle.tailnet_desk.specs.History.{Legal, replay};
 ghost use Rattle.tailnet_desk.specs.Seated.{IsInForce};
-ghost use Rattle.tailnet_desk.specs.Step.{decision};
+ghost use Rattle.tailnet_desk.specs.Step.{decision, step};
 ghost use Rattle.tailnet_desk.specs.declared.ask.Ask.{Ask};
 ghost use Rattle.tailnet_desk.specs.declared.entry.Entry.{Entry};
+ghost use Rattle.tailnet_desk.specs.declared.entry.Event.{Event};
 ghost use Rattle.tailnet_desk.specs.declared.reply.Answer.{Answer};
 
 /// From settings and tables that keep their rules, and an ask that is short, a decided change keeps the
@@ -48,4 +49,10 @@ pub fn legal_histories_keep_the_policy()
     ensures policy { (s : State) (count : ℕ) (es : List Entry)
         → AreSettings s.settings → AreSound s.rows → IsInForce s.rows s.policy → Legal s count es
         → IsInForce (replay s es).rows (replay s es).policy }
+{}
+
+/// Polls change neither rows nor the policy in force.
+pub fn polls_leave_tables()
+    ensures rows { (s : State) (e : Event) → IsPollEvent e → (step s e).state.rows ≡ s.rows }
+    ensures policy { (s : State) (e : Event) → IsPollEvent e → (step s e).state.policy ≡ s.policy }
 {}
