@@ -15,7 +15,7 @@ use Rattle.desk_state.specs.State.{State, is_live}
 use Rattle.desk_state.specs.declared.session.Session.{Session}
 use Rattle.machine_rows.proofs.RowLemmas.{machine_found}
 use Rattle.map_asks.specs.Drain.{drain, drain_machine, drain_session, if_live, is_drained, session_drained}
-use Rattle.map_asks.specs.OneMap.{IsLiveRow}
+use Rattle.map_asks.specs.OneMap.{IsLiveRow, fresh_for}
 use Rattle.map_asks.specs.declared.draining.DrainDecision.{DrainDecision}
 
 few_patches : (ps : List Patch) (seq : ℕ) → length (then_patch ps seq) ≤ 1
@@ -82,3 +82,21 @@ pub session_found : (s : State) (mk : MachineKey) (handle : List ℕ) (o : Optio
     → IfSome o (λ d. IsSome (session_of s.sessions d.session.id))
 session_found s mk handle None h = tt
 session_found s mk handle (Some d) h = machine_there s handle (if_live s (machine_of s.rows.machines mk.0)) d (sym h)
+
+sent_by : (s : State) (handle : List ℕ) (m : Machine) (o : Option Session) (d : DrainDecision) → drain_session s handle m o ≡ Some d → d.session.sent ≡ Some (fresh_for s m)
+sent_by s handle m None d h = absurd (cc)
+sent_by s handle m (Some x) d h =
+    let parts = some_if (is_drained s handle x) (session_drained s m x) d h in
+    sym (ap (λ (e : DrainDecision). e.session.sent) parts.1)
+
+sent_of : (s : State) (handle : List ℕ) (o : Option Machine) (d : DrainDecision) → drain_machine s handle o ≡ Some d
+    → (m : Machine) × (o ≡ Some m) × (d.session.sent ≡ Some (fresh_for s m))
+sent_of s handle None d h = absurd (cc)
+sent_of s handle (Some m) d h = (m, refl, sent_by s handle m (session_of s.sessions m.id) d h)
+
+-- what a drain sends is the map of a live machine, computed afresh
+pub sent_fresh : (s : State) (mk : MachineKey) (handle : List ℕ) (d : DrainDecision) → drain s mk handle ≡ Some d
+    → (m : Machine) × IsLiveRow s m × (d.session.sent ≡ Some (fresh_for s m))
+sent_fresh s mk handle d h =
+    let sent = sent_of s handle (if_live s (machine_of s.rows.machines mk.0)) d h in
+    (sent.0, live_row s mk sent.0 sent.1, sent.2)

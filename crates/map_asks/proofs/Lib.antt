@@ -1,3 +1,3 @@
-mod Drains
+pub mod Drains
 mod Lives
 pub mod Updates

@@ -92,7 +92,7 @@ poll_keeps s (event.Detach mk handle m) poll =
 kept_better : (s t : State) → KeepsTables s t → damage s.rows ≡ None → Better s.rows t.rows
 kept_better s t keeps h = subst (λ (r : Rows). Better s.rows r) (sym keeps.rows) (h, same_counters s.rows.next)
 
-step_better : (s : State) (e : Event) → AreSettings s.settings → damage s.rows ≡ None → IsShortEvent e → Better s.rows (step s e).state.rows
+pub step_better : (s : State) (e : Event) → AreSettings s.settings → damage s.rows ≡ None → IsShortEvent e → Better s.rows (step s e).state.rows
 step_better s (event.Ask x m words) hold h short =
     outcome_better (at_moment s m) (decision (at_moment s m) x words) h (decision_sound (at_moment s m) x words hold h short)
 step_better s (event.Attach mk node handle seq m words) hold h short =

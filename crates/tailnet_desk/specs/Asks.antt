@@ -26,27 +26,27 @@ ask_draws (ask.Policy x) = false
 -- fresh random words are drawn for an event: for each attach, also where the session goes on
 abbrev pub draws : Event → Bool
 draws (event.Ask x moment words) = ask_draws x
-draws (event.Attach machine node handle seq moment words) = true
-draws (event.Drain machine handle moment) = false
-draws (event.Detach machine handle moment) = false
+draws (event.Attach mk node handle seq moment words) = true
+draws (event.Drain mk handle moment) = false
+draws (event.Detach mk handle moment) = false
 
 -- the words of an event
 abbrev pub words_of : Event → Option (List ℕ)
 words_of (event.Ask x moment words) = words
-words_of (event.Attach machine node handle seq moment words) = words
-words_of (event.Drain machine handle moment) = None
-words_of (event.Detach machine handle moment) = None
+words_of (event.Attach mk node handle seq moment words) = words
+words_of (event.Drain mk handle moment) = None
+words_of (event.Detach mk handle moment) = None
 
 -- the event may happen: what it asks is short
 abbrev pub IsShortEvent : Event → Type 0
 IsShortEvent (event.Ask x moment words) = IsShort x
-IsShortEvent (event.Attach machine node handle seq moment words) = Unit {0}
-IsShortEvent (event.Drain machine handle moment) = Unit {0}
-IsShortEvent (event.Detach machine handle moment) = Unit {0}
+IsShortEvent (event.Attach mk node handle seq moment words) = Unit {0}
+IsShortEvent (event.Drain mk handle moment) = Unit {0}
+IsShortEvent (event.Detach mk handle moment) = Unit {0}
 
 -- the event is one of a poll
 abbrev pub IsPollEvent : Event → Type 0
 IsPollEvent (event.Ask x moment words) = ⊥
-IsPollEvent (event.Attach machine node handle seq moment words) = Unit {0}
-IsPollEvent (event.Drain machine handle moment) = Unit {0}
-IsPollEvent (event.Detach machine handle moment) = Unit {0}
+IsPollEvent (event.Attach mk node handle seq moment words) = Unit {0}
+IsPollEvent (event.Drain mk handle moment) = Unit {0}
+IsPollEvent (event.Detach mk handle moment) = Unit {0}

@@ -93,16 +93,16 @@ drain_reply drained.NoMemory = Lost NoMemory
 -- the moment of an event
 abbrev pub moment_of : Event → ℤ
 moment_of (event.Ask x moment words) = moment
-moment_of (event.Attach machine node handle seq moment words) = moment
-moment_of (event.Drain machine handle moment) = moment
-moment_of (event.Detach machine handle moment) = moment
+moment_of (event.Attach mk node handle seq moment words) = moment
+moment_of (event.Drain mk handle moment) = moment
+moment_of (event.Detach mk handle moment) = moment
 
 -- what an event results in, in a state that is at its moment
 abbrev pub turn_of : State → Event → Turn
 turn_of s (event.Ask x moment words) = outcome s (decision s x words)
-turn_of s (event.Attach machine node handle seq moment words) = attach_turn s (attach s machine node handle seq words)
-turn_of s (event.Drain machine handle moment) = drain_turn s (drain s machine handle)
-turn_of s (event.Detach machine handle moment) = detach_turn s (detach s machine handle)
+turn_of s (event.Attach mk node handle seq moment words) = attach_turn s (attach s mk node handle seq words)
+turn_of s (event.Drain mk handle moment) = drain_turn s (drain s mk handle)
+turn_of s (event.Detach mk handle moment) = detach_turn s (detach s mk handle)
 
 -- what an event results in: first its moment comes
 abbrev pub step : State → Event → Turn
