@@ -39,3 +39,14 @@ IsAttachReply Ended = ⊥
 IsAttachReply Detached = ⊥
 IsAttachReply (Refused refusal) = Unit {0}
 IsAttachReply (Lost loss) = Unit {0}
+
+-- what a drain is replied
+abbrev pub IsDrainReply : Reply → Type 0
+IsDrainReply (Done answer) = ⊥
+IsDrainReply (Attached handle seq resumed may_wait) = ⊥
+IsDrainReply (Frames responses) = Unit {0}
+IsDrainReply Ended = Unit {0}
+IsDrainReply Detached = ⊥
+IsDrainReply (Refused refusal) = ⊥
+IsDrainReply (Lost NoMemory) = Unit {0}
+IsDrainReply (Lost KeeperFault) = ⊥

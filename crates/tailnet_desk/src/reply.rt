@@ -1,4 +1,8 @@
 //! What the desk replies.
+ghost use Rattle.std.specs.Prelude.{◌≡◌};
+ghost use Rattle.tailnet_desk.specs.Step.{drain_reply};
+ghost use Rattle.tailnet_desk.specs.Turns.{IsDrainReply};
+
 use admin_asks::OperatorAnswer;
 use desk_state::Refusal;
 use map_asks::MachineAnswer;
@@ -58,4 +62,35 @@ pub enum Drained {
     Ended,
     /// Out of memory. Nothing but the time has changed.
     NoMemory,
+}
+
+impl Drained {
+    /// The same as a reply.
+    pub fn into_reply(self) -> Reply
+        ensures value { result ≡ drain_reply self }
+        ensures kind { IsDrainReply result }
+    {
+        match self {
+            Drained::Frames(responses) => Reply::Frames(responses),
+            Drained::Ended => Reply::Ended,
+            Drained::NoMemory => Reply::Lost(Loss::NoMemory),
+        }
+    }
+
+    /// What a drain came to that was replied so.
+    pub fn of_reply(reply: Reply) -> Drained
+        requires kind { IsDrainReply reply }
+        ensures value { drain_reply result ≡ reply }
+    {
+        match reply {
+            Reply::Frames(responses) => Drained::Frames(responses),
+            Reply::Ended => Drained::Ended,
+            Reply::Lost(Loss::NoMemory) => Drained::NoMemory,
+            Reply::Done(_)
+            | Reply::Attached { .. }
+            | Reply::Detached
+            | Reply::Refused(_)
+            | Reply::Lost(Loss::KeeperFault) => unreachable!(),
+        }
+    }
 }
