@@ -35,6 +35,13 @@ pub(crate) fn is_attached(at: &Snapshot<'_>, id: u32) -> bool
     at.sessions.attached.get(id).is_some()
 }
 
+/// The number of the next session.
+fn next_number(at: &Snapshot<'_>) -> u64
+    ensures value { result ≡ at.now.next_session }
+{
+    at.sessions.next
+}
+
 fn waits_beside(held: &Attachment, id: u32) -> bool
     ensures value { result ≡ waits_beside id held.now }
 {
@@ -80,7 +87,7 @@ fn session_taken_up(
     Ok(AttachDecision {
         id: session.id,
         begun: None,
-        next: at.sessions.next,
+        next: next_number(at),
         handle: session.handle.copy(alloc)?,
         seq: session.seq,
         may_wait: is_worker_left(at, session.id),
@@ -97,7 +104,7 @@ fn new_session(
 {
     Ok(Session {
         id,
-        handle: session_handle(alloc, at.sessions.next, words)?,
+        handle: session_handle(alloc, next_number(at), words)?,
         seq: 0,
         sent: None,
     })
@@ -112,12 +119,13 @@ fn session_begun(
     requires numbered { at.now.next_session < 2 ^ 63 }
     ensures value { IfOk result (λ d. d ≡ spec.session_begun at.now id words.now) }
 {
-    let handle = session_handle(alloc, at.sessions.next, words)?;
+    let number = next_number(at);
+    let handle = session_handle(alloc, number, words)?;
     let session = new_session(alloc, at, id, words)?;
     Ok(AttachDecision {
         id,
         begun: Some(session),
-        next: at.sessions.next + 1,
+        next: number + 1,
         handle,
         seq: 0,
         may_wait: is_worker_left(at, id),
@@ -128,7 +136,7 @@ fn has_number(at: &Snapshot<'_>) -> bool
     ensures value { result ≡ spec.has_number at.now }
     ensures left { result ≡ true → at.now.next_session < 2 ^ 63 }
 {
-    at.sessions.next < NUMBER_LIMIT
+    next_number(at) < NUMBER_LIMIT
 }
 
 fn session_due(
