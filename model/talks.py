@@ -152,10 +152,10 @@ class Talk:
         body = self.object(
             Compress=(3, lambda: self.one_of(["", "zstd"], OTHER_TYPES)),
             NodeKey=(98, lambda: self.key("nodekey:", "abcdefgh")),
-            Stream=(20, lambda: self.once_in(20)),
+            Stream=(20, self.flag),
             OmitPeers=(40, self.flag),
             ReadOnly=(40, self.flag),
-            MapSessionHandle=(5, lambda: self.text(["x", ""])),
+            MapSessionHandle=(8, lambda: self.text(["x", ""], [session.handle for session in self.tailnet.sessions.values()])),
             MapSessionSeq=(8, lambda: self.one_of([0, 1, 2**64 - 1, 2**64], OTHER_TYPES)),
             Endpoints=(40, lambda: self.some(ENDPOINTS, NO_ENDPOINTS, 32)),
             DiscoKey=(30, lambda: self.key("discokey:", "1234")),
@@ -179,6 +179,35 @@ class Talk:
         if held is None:
             return self.register()
         return "POST", "/machine/map", "mkey:" + held.machine, {"NodeKey": "nodekey:" + held.node, "ReadOnly": True}
+
+    def poll(self):
+        """A sound poll, once there is a machine. It mostly names what its client was told last."""
+        held = self.one_of(self.tailnet.machines.values(), [] if self.tailnet.machines else [None])
+        if held is None:
+            return self.register()
+        body = {"NodeKey": "nodekey:" + held.node, "Stream": True}
+        session = self.tailnet.sessions.get(held.id)
+        told = self.one_of(self.tailnet.sessions.values(), [None]) if self.once_in(6) else session
+        if told:
+            seq = told.seq if self.once_in(2) else max(0, told.seq + self.one_of([0, 0, 0, 0, 1, -1]))
+            body |= {"MapSessionHandle": told.handle, "MapSessionSeq": seq}
+        if self.once_in(3):
+            body |= {"OmitPeers": True, "Endpoints": ["192.0.2.9:9"], "Hostinfo": {"Hostname": "polls", "RoutableIPs": ["10.0.0.0/8"]}}
+        return "POST", "/machine/map", "mkey:" + held.machine, body
+
+    def change_node(self):
+        """A sound update of what patches tell, once there is a machine."""
+        held = self.one_of(self.tailnet.machines.values(), [] if self.tailnet.machines else [None])
+        if held is None:
+            return self.register()
+        body = {"NodeKey": "nodekey:" + held.node, "OmitPeers": True, "Endpoints": self.one_of([held.endpoints, [], ENDPOINTS[:1], ENDPOINTS[1:3]])}
+        body |= self.object(
+            DiscoKey=(30, lambda: "discokey:" + self.one_of("1234") * 64),
+            Hostinfo=(40, lambda: {
+                "NetInfo": {"PreferredDERP": self.one_of([0, 1, 65535])}, "RoutableIPs": [str(route) for route in held.routes],
+            }),
+        )
+        return "POST", "/machine/map", "mkey:" + held.machine, body
 
     def id(self, rows):
         return self.one_of(IDS if self.once_in(10) else [], [str(id) for id in rows], ["1"])
@@ -338,7 +367,7 @@ class Talk:
         return fields
 
     def request(self):
-        draws = 10 * [self.register] + 5 * [self.map] + 5 * [self.whole_map] + 3 * [self.node] + 3 * [self.routes] + 2 * [self.advertise] + 2 * [self.policy] + [self.user, self.pre_auth_key, self.waiting]
+        draws = 10 * [self.register] + 5 * [self.map] + 5 * [self.whole_map] + 3 * [self.node] + 3 * [self.routes] + 2 * [self.advertise] + 7 * [self.poll] + 3 * [self.change_node] + 2 * [self.policy] + [self.user, self.pre_auth_key, self.waiting]
         draw = self.stray if self.once_in(40) else self.random.choice(draws)
         method, path, machine, body = draw()
         body = b"" if body is None else body if isinstance(body, bytes) else json.dumps(body, ensure_ascii=self.once_in(2)).encode()
