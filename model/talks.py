@@ -79,6 +79,8 @@ class Talk:
 
     def __init__(self, random, tailnet, settings):
         self.random, self.tailnet, self.settings = random, tailnet, settings
+        # how much of the conversation polls take
+        self.polls = self.one_of([0, 1, 5])
 
     def once_in(self, times):
         return self.random.randrange(times) == 0
@@ -180,9 +182,28 @@ class Talk:
             return self.register()
         return "POST", "/machine/map", "mkey:" + held.machine, {"NodeKey": "nodekey:" + held.node, "ReadOnly": True}
 
+    def join(self):
+        """A sound registration of a machine that isn't there, once there is a key."""
+        rows = self.tailnet.machines.values()
+        machines = [64 * digit for digit in "12345" if self.tailnet.machine_of(64 * digit) is None]
+        nodes = [64 * digit for digit in "abcdef" if all(row.node != 64 * digit for row in rows)]
+        if not machines or not self.tailnet.keys:
+            return self.register()
+        body = {
+            "NodeKey": "nodekey:" + self.one_of(nodes),
+            "Auth": {"AuthKey": self.one_of(self.tailnet.keys.values()).text},
+            "Hostinfo": {"Hostname": self.one_of(HOSTS[:5])},
+        }
+        return "POST", "/machine/register", "mkey:" + self.one_of(machines), body
+
+    def live_machine(self):
+        """One of the machines that are live; None if none is."""
+        live = [row for row in self.tailnet.machines.values() if self.tailnet.is_live(row)]
+        return self.one_of(live or [None])
+
     def poll(self):
-        """A sound poll, once there is a machine. It mostly names what its client was told last."""
-        held = self.one_of(self.tailnet.machines.values(), [] if self.tailnet.machines else [None])
+        """A sound poll, once a machine is live. It mostly names what its client was told last."""
+        held = self.live_machine()
         if held is None:
             return self.register()
         body = {"NodeKey": "nodekey:" + held.node, "Stream": True}
@@ -196,8 +217,8 @@ class Talk:
         return "POST", "/machine/map", "mkey:" + held.machine, body
 
     def change_node(self):
-        """A sound update of what patches tell, once there is a machine."""
-        held = self.one_of(self.tailnet.machines.values(), [] if self.tailnet.machines else [None])
+        """A sound update of what patches tell, once a machine is live."""
+        held = self.live_machine()
         if held is None:
             return self.register()
         body = {"NodeKey": "nodekey:" + held.node, "OmitPeers": True, "Endpoints": self.one_of([held.endpoints, [], ENDPOINTS[:1], ENDPOINTS[1:3]])}
@@ -367,7 +388,8 @@ class Talk:
         return fields
 
     def request(self):
-        draws = 10 * [self.register] + 5 * [self.map] + 5 * [self.whole_map] + 3 * [self.node] + 3 * [self.routes] + 2 * [self.advertise] + 7 * [self.poll] + 3 * [self.change_node] + 2 * [self.policy] + [self.user, self.pre_auth_key, self.waiting]
+        draws = 10 * [self.register] + 5 * [self.map] + 5 * [self.whole_map] + 3 * [self.node] + 3 * [self.routes] + 2 * [self.advertise] + 2 * [self.policy] + [self.user, self.pre_auth_key, self.waiting]
+        draws += self.polls * (6 * [self.poll] + 3 * [self.change_node] + 3 * [self.join])
         draw = self.stray if self.once_in(40) else self.random.choice(draws)
         method, path, machine, body = draw()
         body = b"" if body is None else body if isinstance(body, bytes) else json.dumps(body, ensure_ascii=self.once_in(2)).encode()
