@@ -1,12 +1,12 @@
 -- Bytes sent in pieces.
-use Rattle.std.proofs.Common.{◌≡◌, ◌≤◌, ◌<◌, ◌+◌, ◌∙◌, ℕ, Bool, true, Option, List, [], ◌∷◌, ◌++◌, Result, Ok, Err, length, drop, get_or, refl, sym, ap, subst, append_assoc, arith, add-one, drop-cons}
+use Rattle.std.proofs.Common.{◌≡◌, ◌≤◌, ◌<◌, ◌+◌, ◌∙◌, ℕ, true, Option, List, [], ◌∷◌, ◌++◌, Result, Ok, Err, length, drop, get_or, refl, sym, ap, subst, append_assoc, arith, add-one, drop-cons}
 use Rattle.std.proofs.lemmas.List.{at_drop_all}
 use Rattle.tailcfg.specs.declared.response.Response.{Response}
 use Rattle.fresh_maps.specs.Frames.{frame_of}
 use Rattle.http_chunks.specs.Streams.{chunk_of}
 use Rattle.io_edge.specs.Edge.{and_held}
 use Rattle.io_edge.proofs.Told.{held_more, held_nothing, rose_later}
-use Rattle.run_ends.specs.Pieces.{IsPrefix, IsSent, Sent}
+use Rattle.run_ends.specs.Pieces.{IsSent, Sent}
 use Rattle.run_ends.specs.declared.closed.Closed.{Closed}
 use Rattle.run_ends.specs.declared.closed.Closed.TheVariants.{End, Early, ReadFault, WriteFault, NoMemory}
 use Rattle.run_ends.proofs.Writes.{prefix_more}

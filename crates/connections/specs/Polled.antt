@@ -1,5 +1,5 @@
 -- What was done for a poll, turn by turn and byte by byte.
-use Rattle.std.specs.Prelude.{◌≡◌, ℕ, ℤ, Bool, true, false, Option, None, Some, List, [], ◌∷◌, ◌++◌, Result, Ok, Err}
+use Rattle.std.specs.Prelude.{◌≡◌, ℕ, Bool, true, false, Option, List, [], ◌∷◌, Result, Ok, Err}
 use Rattle.tail_base.specs.declared.key.MachineKey.{MachineKey}
 use Rattle.tailnet_desk.specs.Chains.{Chain, Turned}
 use Rattle.tailnet_desk.specs.declared.entry.Event.{Event}
@@ -8,7 +8,7 @@ use Rattle.tailnet_desk.specs.declared.reply.Reply.TheVariants.{Attached, Detach
 use Rattle.desk_front.specs.declared.front_settings.FrontSettings.{FrontSettings}
 use Rattle.desk_front.specs.declared.poll.Poll.{Poll}
 use Rattle.connections.specs.Exchanges.{breaks}
-use Rattle.connections.specs.Polls.{AreBehind, AreFurther, IsAttachOf, IsDetachOf, IsDrainOf, IsPoll, IsStream, drained_bytes, further_bytes, stream_front}
+use Rattle.connections.specs.Polls.{AreBehind, AreFurther, IsDrainOf, IsPoll, IsStream, drained_bytes, further_bytes, stream_front}
 use Rattle.connections.specs.Tellings.{Giving, TurnsTook}
 use Rattle.run_ends.specs.Pieces.{Sent}
 use Rattle.run_ends.specs.declared.closed.Closed.{Closed}

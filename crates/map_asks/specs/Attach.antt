@@ -5,7 +5,6 @@ use Rattle.tail_base.specs.declared.key.MachineKey.{MachineKey}
 use Rattle.tail_base.specs.declared.key.NodeKey.{NodeKey}
 use Rattle.tail_base.specs.Steps.{◌>>=◌, or_fault, refuse_if}
 use Rattle.net_rows.specs.Shelf.{put_row}
-use Rattle.net_rows.specs.declared.machine.Machine.{Machine}
 use Rattle.desk_state.specs.Sessions.{is_attached, session_of}
 use Rattle.desk_state.specs.State.{State}
 use Rattle.desk_state.specs.Texts.{session_handle}

@@ -1,12 +1,11 @@
 -- What polls do at a desk is one turn.
-use Rattle.std.proofs.Common.{◌≡◌, ◌<◌, ◌∙◌, ℕ, ℤ, List, Option, Some, None, Result, Ok, inl, refl, sym, ap, subst, arith}
+use Rattle.std.proofs.Common.{◌≡◌, ◌<◌, ◌∙◌, ℕ, ℤ, List, Option, Some, None, Ok, inl, refl, sym, ap, subst, arith}
 use Rattle.std.specs.Prelude.{IsSome}
 use Rattle.io_edge.specs.Edge.{IsWhereTold}
 use Rattle.tail_base.specs.declared.key.MachineKey.{MachineKey}
 use Rattle.tail_base.specs.declared.key.NodeKey.{NodeKey}
 use Rattle.net_rows.specs.declared.rows.Rows.{Rows}
 use Rattle.desk_state.specs.State.{State, at_moment}
-use Rattle.desk_state.specs.declared.refusal.Refusal.{Refusal}
 use Rattle.desk_state.specs.declared.session.Session.{Session}
 use Rattle.map_asks.specs.Attach.{attach, attached_state}
 use Rattle.map_asks.specs.Detach.{detach}

@@ -1,4 +1,4 @@
-use Rattle.std.proofs.Common.{◌≡◌, ◌-◌, ◌<◌, Ok, Err, arith, refl}
+use Rattle.std.proofs.Common.{◌≡◌, ◌-◌, Ok, Err, arith, refl}
 use Rattle.connections.proofs.PollLemmas.{further_broken, further_last, further_more, further_none}
 use Rattle.connections.proofs.polling.send_further.Goals as goal
 
