@@ -20,7 +20,7 @@ use Rattle.run_ends.specs.Pieces.{Sent}
 use Rattle.run_ends.specs.declared.closed.Closed.{Closed}
 use Rattle.connections.specs.Exchanges.{breaks}
 use Rattle.connections.specs.Polled.{Completed, DrainedSent, Followed, FurtherSent, GoesOn, IsPollAnswered, NextSent, TurnedOnce}
-use Rattle.connections.specs.Polls.{AreBehind, AreFurther, IsAttachOf, IsBehind, IsDetachOf, IsDrainOf, IsPollOf, chunks_for, drained_bytes, further_bytes, stream_ending, stream_front, stream_opening}
+use Rattle.connections.specs.Polls.{AreBehind, AreFurther, IsAttachOf, IsBehindDrain, IsDetachOf, IsDrainOf, IsPollOf, chunks_for, drained_bytes, further_bytes, stream_ending, stream_front, stream_opening}
 use Rattle.connections.specs.Tellings.{Drew, Giving, TurnsTook, taking}
 use Rattle.connections.proofs.AnswerLemmas.{clamped_told, same_number, took_none}
 use Rattle.connections.proofs.SentLemmas.{broke, sent_broken, sent_completed, sent_nothing, sent_then, still_breaks}
@@ -133,7 +133,7 @@ module _ {S : Type 0} (turn : S → Event → Reply → S → Type 0) where
   }
 
   -- behind a drain that was answered frames, more follow
-  behind_frames : (broken : Bool) (on : Bool) (reply : Reply) (ts : List Turned) (rest : Type 0) → on ≡ true → GoesOn (Ok on) reply → rest → IsBehind broken reply ts rest
+  behind_frames : (broken : Bool) (on : Bool) (reply : Reply) (ts : List Turned) (rest : Type 0) → on ≡ true → GoesOn (Ok on) reply → rest → IsBehindDrain broken reply ts rest
   behind_frames broken on (Done answer) ts rest yes goes r = absurd goes
   behind_frames broken on (Attached handle seq resumed may_wait) ts rest yes goes r = absurd goes
   behind_frames broken on (Frames responses) ts rest yes goes r = r
@@ -143,7 +143,7 @@ module _ {S : Type 0} (turn : S → Event → Reply → S → Type 0) where
   behind_frames broken on (Lost loss) ts rest yes goes r = absurd goes
 
   -- behind one that was answered the end, none
-  behind_end : (broken : Bool) (on : Bool) (reply : Reply) (rest : Type 0) → on ≡ false → GoesOn (Ok on) reply → IsBehind broken reply [] rest
+  behind_end : (broken : Bool) (on : Bool) (reply : Reply) (rest : Type 0) → on ≡ false → GoesOn (Ok on) reply → IsBehindDrain broken reply [] rest
   behind_end broken on (Done answer) rest no goes = absurd goes
   behind_end broken on (Attached handle seq resumed may_wait) rest no goes = absurd goes
   behind_end broken on (Frames responses) rest no goes = absurd (let clash : true ≡ false = sym goes ∙ no in cc)
@@ -153,7 +153,7 @@ module _ {S : Type 0} (turn : S → Event → Reply → S → Type 0) where
   behind_end broken on (Lost loss) rest no goes = absurd goes
 
   -- behind one by which the writing broke off, none
-  behind_break : (broken : Bool) (e : Closed) (reply : Reply) (rest : Type 0) → broken ≡ true → rest → GoesOn (Err e) reply → IsBehind broken reply [] rest
+  behind_break : (broken : Bool) (e : Closed) (reply : Reply) (rest : Type 0) → broken ≡ true → rest → GoesOn (Err e) reply → IsBehindDrain broken reply [] rest
   behind_break broken e (Done answer) rest yes r goes = absurd goes
   behind_break broken e (Attached handle seq resumed may_wait) rest yes r goes = absurd goes
   behind_break broken e (Frames responses) rest yes r goes = r
@@ -265,7 +265,7 @@ module _ {S : Type 0} (turn : S → Event → Reply → S → Type 0) where
 
     -- ---- from the first drain to the detach
 
-    weaker : (b c : Bool) (reply : Reply) (ts : List Turned) (P Q : Type 0) → (b ≡ true → c ≡ true) → (P → Q) → IsBehind b reply ts P → IsBehind c reply ts Q
+    weaker : (b c : Bool) (reply : Reply) (ts : List Turned) (P Q : Type 0) → (b ≡ true → c ≡ true) → (P → Q) → IsBehindDrain b reply ts P → IsBehindDrain c reply ts Q
     weaker b c (Done answer) ts P Q h f q = q
     weaker b c (Attached other seq again may_wait) ts P Q h f q = q
     weaker b c (Frames responses) ts P Q h f q = f q

@@ -3,7 +3,7 @@ use Rattle.std.proofs.Common.{◌≡◌, ◌+◌, ◌-◌, ℕ, ℤ, Option, Non
 use Rattle.io_edge.specs.Edge.{IsWhereTold}
 use Rattle.std.specs.Option.{option_map}
 use Rattle.moments.specs.Moments.{clamped}
-use Rattle.tailnet_desk.specs.Asks.{words_of}
+use Rattle.tailnet_desk.specs.Asks.{event_words}
 use Rattle.tailnet_desk.specs.Chains.{Turned}
 use Rattle.tailnet_desk.specs.Step.{moment_of}
 use Rattle.connections.specs.Tellings.{AreNext, Giving, TurnsTook, MomentsTold, WordsTold, drawn, drawn_for, failed_draws, from_number}
@@ -24,7 +24,7 @@ same_words : (f g : ℕ → Option (List ℕ)) (es : List Turned) → ((k : ℕ)
 same_words f g [] h p = tt
 same_words f g (e ∷ es) h p =
     let n = drawn_for e.event in
-    (next_still f g (words_of e.event) (h 0) p.0, same_words (from_number n f) (from_number n g) es (λ k. h (k + n)) p.1)
+    (next_still f g (event_words e.event) (h 0) p.0, same_words (from_number n f) (from_number n g) es (λ k. h (k + n)) p.1)
 
 words-append : (f : ℕ → Option (List ℕ)) (es fs : List Turned) → WordsTold f es → WordsTold (from_number (drawn es) f) fs → WordsTold f (es ++ fs)
 words-append f [] fs p q = same_words (from_number 0 f) f fs (λ k. ap f (add-zero k)) q

@@ -83,20 +83,20 @@ stream_ending (Lost loss) = []
 
 -- what follows a further drain: after frames more of them; nothing where the session has ended, or where memory ran out,
 -- by which the writing breaks off
-abbrev pub IsBehind : Bool → Reply → List Turned → Type 0 → Type 0
-IsBehind broken (Done answer) ts more_of_them = ⊥
-IsBehind broken (Attached handle seq resumed may_wait) ts more_of_them = ⊥
-IsBehind broken (Frames responses) ts more_of_them = more_of_them
-IsBehind broken Ended ts more_of_them = ts ≡ []
-IsBehind broken Detached ts more_of_them = ⊥
-IsBehind broken (Refused refusal) ts more_of_them = ⊥
-IsBehind broken (Lost loss) ts more_of_them = (ts ≡ []) × (broken ≡ true)
+abbrev pub IsBehindDrain : Bool → Reply → List Turned → Type 0 → Type 0
+IsBehindDrain broken (Done answer) ts more_of_them = ⊥
+IsBehindDrain broken (Attached handle seq resumed may_wait) ts more_of_them = ⊥
+IsBehindDrain broken (Frames responses) ts more_of_them = more_of_them
+IsBehindDrain broken Ended ts more_of_them = ts ≡ []
+IsBehindDrain broken Detached ts more_of_them = ⊥
+IsBehindDrain broken (Refused refusal) ts more_of_them = ⊥
+IsBehindDrain broken (Lost loss) ts more_of_them = (ts ≡ []) × (broken ≡ true)
 
 -- so many further drains, and fewer only where one was answered no frames, or the writing broke off
 abbrev pub AreFurther : MachineKey → List ℕ → ℕ → Bool → List Turned → Type 0
 AreFurther machine handle more broken [] = (more ≡ 0) ⊎ (broken ≡ true)
 AreFurther machine handle more broken (t ∷ ts) =
-    (0 < more) × IsDrainOf machine handle t × IsBehind broken t.reply ts (AreFurther machine handle (more - 1) broken ts)
+    (0 < more) × IsDrainOf machine handle t × IsBehindDrain broken t.reply ts (AreFurther machine handle (more - 1) broken ts)
 
 -- what follows the first drain: further ones after frames alone
 abbrev pub AreBehind : MachineKey → List ℕ → ℕ → Bool → Reply → List Turned → Type 0

@@ -4,7 +4,7 @@ use Rattle.std.specs.Option.{option_map}
 use Rattle.moments.specs.Moments.{clamped}
 use Rattle.io_edge.specs.Edge.{IsWhereTold, Rose, RoseBy}
 use Rattle.io_edge.specs.Stream as stream
-use Rattle.tailnet_desk.specs.Asks.{ask_draws, draws, words_of}
+use Rattle.tailnet_desk.specs.Asks.{ask_draws, draws, event_words}
 use Rattle.tailnet_desk.specs.Chains.{Turned}
 use Rattle.tailnet_desk.specs.Step.{moment_of}
 use Rattle.tailnet_desk.specs.declared.ask.Ask.{Ask}
@@ -74,7 +74,7 @@ count_drawn (Some words) = 1
 
 -- how often words were drawn for an event, and for those of turns
 abbrev pub drawn_for : Event → ℕ
-drawn_for e = count_drawn (words_of e)
+drawn_for e = count_drawn (event_words e)
 
 abbrev pub drawn : List Turned → ℕ
 drawn [] = 0
@@ -87,7 +87,7 @@ AreNext told (Some words) = IsWhereTold words (told 0)
 
 -- so are those of an event; then those of turns
 abbrev pub AreNextWords : (ℕ → Option (List ℕ)) → Event → Type 0
-AreNextWords told e = AreNext told (words_of e)
+AreNextWords told e = AreNext told (event_words e)
 
 abbrev pub WordsTold : (ℕ → Option (List ℕ)) → List Turned → Type 0
 WordsTold told [] = Unit {0}
@@ -99,7 +99,7 @@ count_failed due (Some words) = 0
 
 -- how often a draw that was due failed for an event, and for those of turns
 abbrev pub failed_for : Event → ℕ
-failed_for e = count_failed (draws e) (words_of e)
+failed_for e = count_failed (draws e) (event_words e)
 
 abbrev pub failed_draws : List Turned → ℕ
 failed_draws [] = 0

@@ -11,12 +11,12 @@ use Rattle.desk_state.specs.declared.session.Attachment.{Attachment}
 use Rattle.desk_state.specs.declared.session.Session.{Session}
 
 -- the session is attached, under this handle
-abbrev pub is_held : State → List ℕ → Session → Bool
-is_held s handle x = is_attached s.attached x.id && bytes_eq x.handle handle
+abbrev pub is_held_under : State → List ℕ → Session → Bool
+is_held_under s handle x = is_attached s.attached x.id && bytes_eq x.handle handle
 
 abbrev pub detach_session : State → List ℕ → Option Session → Option ℕ
 detach_session s handle None = None
-detach_session s handle (Some x) = if is_held s handle x then Some x.id else None
+detach_session s handle (Some x) = if is_held_under s handle x then Some x.id else None
 
 abbrev pub detach_machine : State → List ℕ → Option Machine → Option ℕ
 detach_machine s handle None = None

@@ -10,13 +10,13 @@ use Rattle.map_delta.specs.Delta.{responses_for}
 use Rattle.desk_state.specs.Sessions.{session_of}
 use Rattle.desk_state.specs.State.{State, is_live}
 use Rattle.desk_state.specs.declared.session.Session.{Session}
-use Rattle.map_asks.specs.Detach.{is_held}
+use Rattle.map_asks.specs.Detach.{is_held_under}
 use Rattle.map_asks.specs.OneMap.{fresh_for}
 use Rattle.map_asks.specs.declared.draining.DrainDecision.{DrainDecision}
 
 -- the session is attached, under this handle, and numbers are left for its responses
 abbrev pub is_drained : State → List ℕ → Session → Bool
-is_drained s handle x = is_held s handle x && nat_lt x.seq (2 ^ 63)
+is_drained s handle x = is_held_under s handle x && nat_lt x.seq (2 ^ 63)
 
 -- the responses, and the session with this map sent
 abbrev pub session_at : Session → View → List Response → DrainDecision

@@ -7,8 +7,8 @@ use desk_state::{Session, Snapshot};
 use tail_base::{MachineKey, Text};
 
 /// Whether the session is attached, under this handle.
-pub(crate) fn is_held(at: &Snapshot<'_>, handle: &Text, session: &Session) -> bool
-    ensures value { result ≡ spec.is_held at.now handle.now session.now }
+pub(crate) fn is_held_under(at: &Snapshot<'_>, handle: &Text, session: &Session) -> bool
+    ensures value { result ≡ spec.is_held_under at.now handle.now session.now }
 {
     is_attached(at, session.id) && session.handle.as_slice() == handle.as_slice()
 }
@@ -23,7 +23,7 @@ pub fn detach(at: &Snapshot<'_>, machine: &MachineKey, handle: &Text) -> Option<
     let Some(session) = at.sessions.rows.get(row.id) else {
         return None;
     };
-    if is_held(at, handle, session) {
+    if is_held_under(at, handle, session) {
         Some(session.id)
     } else {
         None

@@ -7,7 +7,7 @@ ghost use Rattle.desk_state.specs.Sessions.{session_of};
 ghost use Rattle.map_asks.specs.Drain as spec;
 ghost use Rattle.map_asks.specs.OneMap.{IsLiveRow};
 
-use crate::detaching::is_held;
+use crate::detaching::is_held_under;
 use crate::limits::NUMBER_LIMIT;
 use crate::map_ask::fresh_view;
 use desk_state::{Session, Snapshot, is_live};
@@ -31,7 +31,7 @@ fn is_drained(at: &Snapshot<'_>, handle: &Text, session: &Session) -> bool
     ensures value { result ≡ spec.is_drained at.now handle.now session.now }
     ensures left { result ≡ true → session.now.seq < 2 ^ 63 }
 {
-    is_held(at, handle, session) && session.seq < NUMBER_LIMIT
+    is_held_under(at, handle, session) && session.seq < NUMBER_LIMIT
 }
 
 /// The number of the last response.

@@ -12,7 +12,7 @@ use Rattle.map_asks.specs.Detach.{detach}
 use Rattle.map_asks.specs.Drain.{drain}
 use Rattle.map_asks.specs.declared.attaching.AttachDecision.{AttachDecision}
 use Rattle.map_asks.specs.declared.draining.DrainDecision.{DrainDecision}
-use Rattle.tailnet_desk.specs.Carried.{Entered}
+use Rattle.tailnet_desk.specs.Carried.{AttachCarried}
 use Rattle.tailnet_desk.specs.Seated.{Keeping, Point, Seated, keeping_of, point_of}
 use Rattle.tailnet_desk.specs.Step.{attach_turn, attached_reply, detach_turn, drain_turn, step}
 use Rattle.tailnet_desk.specs.Turns.{IsAttachReply, IsTurn}
@@ -27,7 +27,7 @@ room_for None n there none = absurd (cc)
 room_for (Some x) n there none = absurd (cc)
 
 -- what an attach that was decided is replied
-pub entered_kind : (s : State) (d : AttachDecision) (reply : Reply) (t : State) → Entered s d reply t → IsAttachReply reply
+pub entered_kind : (s : State) (d : AttachDecision) (reply : Reply) (t : State) → AttachCarried s d reply t → IsAttachReply reply
 entered_kind s d (Done answer) t e = e
 entered_kind s d (Attached handle seq resumed may_wait) t e = tt
 entered_kind s d (Frames responses) t e = e
@@ -39,7 +39,7 @@ entered_kind s d (Lost KeeperFault) t e = tt
 
 -- an attach
 pub entered_turn : (p q : Point) (mk : MachineKey) (node : NodeKey) (handle : List ℕ) (seq : ℕ) (m : ℤ) (words : Option (List ℕ)) (d : AttachDecision) (reply : Reply)
-    → attach (at_moment p.state m) mk node handle seq words ≡ Ok d → Entered (at_moment p.state m) d reply q.state → q.keeping ≡ p.keeping
+    → attach (at_moment p.state m) mk node handle seq words ≡ Ok d → AttachCarried (at_moment p.state m) d reply q.state → q.keeping ≡ p.keeping
     → IsWhereTold q.state.rows q.keeping.told → IsTurn p (event.Attach mk node handle seq m words) reply q
 entered_turn p q mk node handle seq m words d (Done answer) is e same kept = absurd e
 entered_turn p q mk node handle seq m words d (Attached h n r w) is e same kept =
@@ -104,11 +104,11 @@ detached_turn p q mk handle m state same kept = record {
 -- the same at a desk, whose time was brought forward before
 module _ {K : Type 0} (told : K → Option Rows) (faults calls : K → ℕ) (was q : Seated K) (mid : State) (m : ℤ) (mid_is : mid ≡ at_moment was.state m) (same : q.keeper ≡ was.keeper) (kept : IsWhereTold q.state.rows (told q.keeper)) where
   pub entered_at : (mk : MachineKey) (node : NodeKey) (handle : List ℕ) (seq : ℕ) (words : Option (List ℕ)) (d : AttachDecision) (reply : Reply)
-      → attach mid mk node handle seq words ≡ Ok d → Entered mid d reply q.state
+      → attach mid mk node handle seq words ≡ Ok d → AttachCarried mid d reply q.state
       → IsTurn (point_of told faults calls was) (event.Attach mk node handle seq m words) reply (point_of told faults calls q)
   entered_at mk node handle seq words d reply is e =
       let is' : attach (at_moment was.state m) mk node handle seq words ≡ Ok d = subst (λ (s : State). attach s mk node handle seq words ≡ Ok d) mid_is is in
-      let e' : Entered (at_moment was.state m) d reply q.state = subst (λ (s : State). Entered s d reply q.state) mid_is e in
+      let e' : AttachCarried (at_moment was.state m) d reply q.state = subst (λ (s : State). AttachCarried s d reply q.state) mid_is e in
       entered_turn (point_of told faults calls was) (point_of told faults calls q) mk node handle seq m words d reply is' e' (ap (keeping_of told faults calls) same) kept
 
   pub drained_at : (mk : MachineKey) (handle : List ℕ) (o : Option DrainDecision) (reply : Reply)

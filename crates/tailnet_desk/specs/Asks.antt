@@ -31,11 +31,11 @@ draws (event.Drain mk handle moment) = false
 draws (event.Detach mk handle moment) = false
 
 -- the words of an event
-abbrev pub words_of : Event → Option (List ℕ)
-words_of (event.Ask x moment words) = words
-words_of (event.Attach mk node handle seq moment words) = words
-words_of (event.Drain mk handle moment) = None
-words_of (event.Detach mk handle moment) = None
+abbrev pub event_words : Event → Option (List ℕ)
+event_words (event.Ask x moment words) = words
+event_words (event.Attach mk node handle seq moment words) = words
+event_words (event.Drain mk handle moment) = None
+event_words (event.Detach mk handle moment) = None
 
 -- the event may happen: what it asks is short
 abbrev pub IsShortEvent : Event → Type 0

@@ -56,12 +56,12 @@ Carried s d (Lost NoMemory) t k l = (t ≡ s) × Perhaps d.change k l
 Carried s d (Lost KeeperFault) t k l = (t ≡ s) × Failed d.change k l
 
 -- an attach is carried out, or memory runs out, by what is replied
-abbrev pub Entered : State → AttachDecision → Reply → State → Type 0
-Entered s d (Done answer) t = ⊥
-Entered s d (Attached handle seq resumed may_wait) t = (Attached handle seq resumed may_wait ≡ attached_reply d) × (t ≡ attached_state s d)
-Entered s d (Frames responses) t = ⊥
-Entered s d Ended t = ⊥
-Entered s d Detached t = ⊥
-Entered s d (Refused refusal) t = ⊥
-Entered s d (Lost NoMemory) t = t ≡ s
-Entered s d (Lost KeeperFault) t = ⊥
+abbrev pub AttachCarried : State → AttachDecision → Reply → State → Type 0
+AttachCarried s d (Done answer) t = ⊥
+AttachCarried s d (Attached handle seq resumed may_wait) t = (Attached handle seq resumed may_wait ≡ attached_reply d) × (t ≡ attached_state s d)
+AttachCarried s d (Frames responses) t = ⊥
+AttachCarried s d Ended t = ⊥
+AttachCarried s d Detached t = ⊥
+AttachCarried s d (Refused refusal) t = ⊥
+AttachCarried s d (Lost NoMemory) t = t ≡ s
+AttachCarried s d (Lost KeeperFault) t = ⊥

@@ -3,7 +3,7 @@ ghost use Rattle.std.specs.Prelude.{◌≡◌, ◌≤◌, IfSome, IsSome, OnOk};
 ghost use Rattle.io_edge.specs.Edge.{IsWhereTold};
 ghost use Rattle.desk_state.specs.Sessions.{session_of};
 ghost use Rattle.map_asks.specs.Detach.{detached_state};
-ghost use Rattle.tailnet_desk.specs.Carried.{Entered};
+ghost use Rattle.tailnet_desk.specs.Carried.{AttachCarried};
 ghost use Rattle.tailnet_desk.specs.Seated.{point_of};
 ghost use Rattle.tailnet_desk.specs.Step.{drain_reply, drain_turn};
 ghost use Rattle.tailnet_desk.specs.Turns.{IsAttachReply, IsTurn};
@@ -43,7 +43,7 @@ fn make_places(
 impl<K: Keeper> Desk<K> {
     /// The session begins or goes on, and its machine is online. It takes all memory first.
     fn enter(&mut self, decision: AttachDecision) -> Reply
-        ensures entered { Entered self.old.state decision result self.new.state }
+        ensures entered { AttachCarried self.old.state decision result self.new.state }
         ensures keeper { self.new.keeper ≡ self.old.keeper }
         ensures told { IsWhereTold self.new.state.rows (K.told self.new.keeper) }
     {
