@@ -21,7 +21,8 @@ ghost use Rattle.tailnet_desk.specs.declared.reply.Answer.{Answer};
 /// the text of the policy stays.
 pub fn decisions_are_sound()
     ensures sound { (s : State) (x : Ask) (words : Option (List ℕ))
-        → AreSettings s.settings → damage s.rows ≡ None → IsShort x → IsSound s.rows (decision s x words) }
+        → AreSettings s.settings → damage s.rows ≡ None → IsShort x
+        → IsSound s.rows (decision s x words) }
 {}
 
 /// From such a state, where the policy in force is that of the tables, it is so after the decision, too.
@@ -37,9 +38,11 @@ pub fn decisions_keep_the_policy()
 /// each entry.
 pub fn legal_histories_keep_rules()
     ensures sound { (s : State) (count : ℕ) (es : List Entry)
-        → AreSettings s.settings → AreSound s.rows → Legal s count es → AreSound (replay s es).rows }
+        → AreSettings s.settings → AreSound s.rows → Legal s count es
+        → AreSound (replay s es).rows }
     ensures rises { (s : State) (count : ℕ) (es : List Entry)
-        → AreSettings s.settings → AreSound s.rows → Legal s count es → IsNoLess s.rows.next (replay s es).rows.next }
+        → AreSettings s.settings → AreSound s.rows → Legal s count es
+        → IsNoLess s.rows.next (replay s es).rows.next }
     ensures beginnings { (s : State) (count : ℕ) (es more : List Entry)
         → Legal s count (es ++ more) → Legal s count es }
 {}
