@@ -12,7 +12,6 @@ use Rattle.tailnet_desk.specs.declared.reply.Loss.{Loss}
 use Rattle.tailnet_desk.specs.declared.reply.Reply.{Reply}
 use Rattle.tailnet_desk.specs.declared.reply.Reply.TheVariants.{Attached, Detached, Done, Ended, Frames, Lost, Refused}
 use Rattle.tailnet_desk.proofs.Histories.{Chain-append}
-use Rattle.desk_state.specs.declared.refusal.Refusal.{Refusal}
 use Rattle.desk_front.specs.Replies.{map_ask_of, reply_bytes}
 use Rattle.desk_front.specs.declared.front_settings.FrontSettings.{FrontSettings}
 use Rattle.desk_front.specs.declared.poll.Poll.{Poll}
@@ -361,20 +360,13 @@ module _ {S : Type 0} (turn : S → Event → Reply → S → Type 0) where
         polled outcome (Attached handle seq resumed may_wait) followed.later followed.bytes h k n m a b c w x f g s u t attach followed.stream followed.chain followed.took
         followed.sent
 
-    -- the attach was refused
-    pub polled_refused : {T : Type 0} (outcome : Result T Closed) (refusal : Refusal) (h k : Option (List ℕ)) (n m : ℕ) (a b : ℕ → Option ℤ)
+    -- the attach was refused or lost, and nothing follows
+    pub polled_alone : {T : Type 0} (outcome : Result T Closed) (reply : Reply) (h k : Option (List ℕ)) (n m : ℕ) (a b : ℕ → Option ℤ)
         (w x : ℕ → Option (List ℕ)) (f g : ℕ) (s u : S)
-        → TurnedOnce turn (IsAttachOf p) (Refused refusal) (taking h n a w f) (taking h n b x g) s u → Sent outcome h k n m (reply_bytes site (map_ask_of p) (Refused refusal) close)
+        → TurnedOnce turn (IsAttachOf p) reply (taking h n a w f) (taking h n b x g) s u
+        → IsPollOf site more close p reply [] (reply_bytes site (map_ask_of p) reply close) (breaks outcome)
+        → Sent outcome h k n m (reply_bytes site (map_ask_of p) reply close)
         → IsPollAnswered turn site more outcome p close (taking h n a w f) (taking k m b x g) s u
-    polled_refused outcome refusal h k n m a b w x f g s u attach sent =
-        polled outcome (Refused refusal) [] (reply_bytes site (map_ask_of p) (Refused refusal) close) h k n m a b b w x f g s u u attach (refl, refl) refl
-        (took_none (taking h n b x g) (taking k m b x g) (λ i. refl) (λ i. refl) (omega arith)) sent
-
-    -- the attach was lost
-    pub polled_lost : {T : Type 0} (outcome : Result T Closed) (loss : Loss) (h k : Option (List ℕ)) (n m : ℕ) (a b : ℕ → Option ℤ)
-        (w x : ℕ → Option (List ℕ)) (f g : ℕ) (s u : S)
-        → TurnedOnce turn (IsAttachOf p) (Lost loss) (taking h n a w f) (taking h n b x g) s u → Sent outcome h k n m (reply_bytes site (map_ask_of p) (Lost loss) close)
-        → IsPollAnswered turn site more outcome p close (taking h n a w f) (taking k m b x g) s u
-    polled_lost outcome loss h k n m a b w x f g s u attach sent =
-        polled outcome (Lost loss) [] (reply_bytes site (map_ask_of p) (Lost loss) close) h k n m a b b w x f g s u u attach (refl, refl) refl
+    polled_alone outcome reply h k n m a b w x f g s u attach follows sent =
+        polled outcome reply [] (reply_bytes site (map_ask_of p) reply close) h k n m a b b w x f g s u u attach follows refl
         (took_none (taking h n b x g) (taking k m b x g) (λ i. refl) (λ i. refl) (omega arith)) sent

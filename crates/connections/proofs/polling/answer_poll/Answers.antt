@@ -1,4 +1,5 @@
-use Rattle.connections.proofs.PollLemmas.{polled_lost, polled_on, polled_refused}
+use Rattle.std.proofs.Common.{refl}
+use Rattle.connections.proofs.PollLemmas.{polled_alone, polled_on}
 use Rattle.connections.proofs.polling.answer_poll.Goals as goal
 
 pub returns-in-Attached : goal.returns-in-Attached
@@ -12,17 +13,13 @@ returns-in-Attached g c =
     }
 
 pub returns-in-Refused : goal.returns-in-Refused
-returns-in-Refused g c =
-    let attach = rw c.in-Refused.is at (c.attach_poll-reply.ensures.attached (g.O.Sink.holds c.args.output.now) (g.O.Sink.write_faults c.args.output.now)) in
-    let sent = rw c.in-Refused.is at c.refuse_poll.ensures.sent in
-    record {
-      polled = polled_refused _ c.args.front.now c.args.more c.args.close c.args.poll.now c.refuse_poll.result c.in-Refused.field-0 _ _ _ _ _ _ _ _ _ _ _ _ attach sent;
-    }
+returns-in-Refused g c = record {
+  polled = polled_alone _ c.args.front.now c.args.more c.args.close c.args.poll.now c.refuse_poll.result c.attach_poll-reply.result _ _ _ _ _ _ _ _ _ _ _ _
+      (c.attach_poll-reply.ensures.attached (g.O.Sink.holds c.args.output.now) (g.O.Sink.write_faults c.args.output.now)) (rw c.in-Refused.is (refl, refl)) c.refuse_poll.ensures.sent;
+}
 
 pub returns-in-Lost : goal.returns-in-Lost
-returns-in-Lost g c =
-    let attach = rw c.in-Lost.is at (c.attach_poll-reply.ensures.attached (g.O.Sink.holds c.args.output.now) (g.O.Sink.write_faults c.args.output.now)) in
-    let sent = rw c.in-Lost.is at c.refuse_poll-in-Lost.ensures.sent in
-    record {
-      polled = polled_lost _ c.args.front.now c.args.more c.args.close c.args.poll.now c.refuse_poll-in-Lost.result c.in-Lost.field-0 _ _ _ _ _ _ _ _ _ _ _ _ attach sent;
-    }
+returns-in-Lost g c = record {
+  polled = polled_alone _ c.args.front.now c.args.more c.args.close c.args.poll.now c.refuse_poll-in-Lost.result c.attach_poll-reply.result _ _ _ _ _ _ _ _ _ _ _ _
+      (c.attach_poll-reply.ensures.attached (g.O.Sink.holds c.args.output.now) (g.O.Sink.write_faults c.args.output.now)) (rw c.in-Lost.is (refl, refl)) c.refuse_poll-in-Lost.ensures.sent;
+}
