@@ -229,6 +229,15 @@ fn add_line(alloc: Global, talk: &mut Talk, line: &str) -> Result<(), NoMemory> 
     Ok(())
 }
 
+/// The bytes of the requests and of the answers in the lines of one conversation.
+pub fn talk_bytes(alloc: Global, lines: &str) -> Result<(Vec<u8>, Vec<u8>), NoMemory> {
+    let mut talk = new_talk(alloc)?;
+    for line in lines.lines() {
+        add_line(alloc, &mut talk, line)?;
+    }
+    Ok((talk.input, talk.output))
+}
+
 /// The status of the run that holds a conversation, and its line on errors.
 fn end_of(talk: &Talk) -> (Status, &'static [u8]) {
     if talk.is_cut {
