@@ -1,4 +1,4 @@
 //! Limits of sessions.
 
 /// Sessions and their responses are numbered up to it.
-pub const NUMBER_LIMIT: u64 = 1 << 63;
+pub(crate) const NUMBER_LIMIT: u64 = 1 << 63;
