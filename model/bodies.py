@@ -147,17 +147,14 @@ def read_map_request(body):
     fields = Fields(object_of(body))
     if fields.members.get("Compress") not in (None, ""):
         raise BodyFault("Compressed")
-    form = {"node": fields.node_key()}
-    is_poll = fields.flag("Stream")
+    form = {"node": fields.node_key(), "is_poll": fields.flag("Stream")}
     form["omits_peers"] = fields.flag("OmitPeers")
     form["reads_only"] = fields.flag("ReadOnly")
-    fields.of_type("MapSessionHandle", str)
-    fields.number("MapSessionSeq", 2**64 - 1)
+    form["handle"] = fields.of_type("MapSessionHandle", str) or ""
+    form["seq"] = fields.number("MapSessionSeq", 2**64 - 1)
     form["endpoints"] = fields.list("Endpoints", 32, endpoint_of)
     form["disco"] = fields.key("DiscoKey", "discokey:")
     form["host"] = read_host_update(fields.inner("Hostinfo"))
-    if is_poll:
-        raise BodyFault("BadField", "Stream")
     return form
 
 

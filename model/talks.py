@@ -84,7 +84,9 @@ class Talk:
         often = 10 * [self.register] + 5 * [self.map] + 5 * [self.whole_map] + 3 * [self.node] + 3 * [self.routes] + 2 * [self.advertise]
         # every third conversation is about routers and what maps show of them
         routed = 4 * [self.router] + 3 * [self.advertise] + 5 * [self.routes] + 8 * [self.whole_map] + [self.node]
-        self.draws = (routed if self.once_in(3) else often) + 2 * [self.policy] + others
+        # how much of the conversation polls take
+        polled = self.one_of([0, 1, 5]) * (6 * [self.poll] + 3 * [self.change_node] + 3 * [self.join])
+        self.draws = (routed if self.once_in(3) else often) + 2 * [self.policy] + others + polled
 
     def once_in(self, times):
         return self.random.randrange(times) == 0
@@ -158,10 +160,10 @@ class Talk:
         body = self.object(
             Compress=(3, lambda: self.one_of(["", "zstd"], OTHER_TYPES)),
             NodeKey=(98, lambda: self.key("nodekey:", "abcdefgh")),
-            Stream=(20, lambda: self.once_in(20)),
+            Stream=(20, self.flag),
             OmitPeers=(40, self.flag),
             ReadOnly=(40, self.flag),
-            MapSessionHandle=(5, lambda: self.text(["x", ""])),
+            MapSessionHandle=(8, lambda: self.text(["x", ""], [session.handle for session in self.tailnet.sessions.values()])),
             MapSessionSeq=(8, lambda: self.one_of([0, 1, 2**64 - 1, 2**64], OTHER_TYPES)),
             Endpoints=(40, lambda: self.some(ENDPOINTS, NO_ENDPOINTS, 32)),
             DiscoKey=(30, lambda: self.key("discokey:", "1234")),
@@ -185,6 +187,54 @@ class Talk:
         if held is None:
             return self.register()
         return "POST", "/machine/map", "mkey:" + held.machine, {"NodeKey": "nodekey:" + held.node, "ReadOnly": True}
+
+    def join(self):
+        """A sound registration of a machine that isn't there, once there is a key."""
+        rows = self.tailnet.machines.values()
+        machines = [64 * digit for digit in "12345" if self.tailnet.machine_of(64 * digit) is None]
+        nodes = [64 * digit for digit in "abcdef" if all(row.node != 64 * digit for row in rows)]
+        if not machines or not self.tailnet.keys:
+            return self.register()
+        body = {
+            "NodeKey": "nodekey:" + self.one_of(nodes),
+            "Auth": {"AuthKey": self.one_of(self.tailnet.keys.values()).text},
+            "Hostinfo": {"Hostname": self.one_of(HOSTS[:5])},
+        }
+        return "POST", "/machine/register", "mkey:" + self.one_of(machines), body
+
+    def live_machine(self):
+        """One of the machines that are live; None if none is."""
+        live = [row for row in self.tailnet.machines.values() if self.tailnet.is_live(row)]
+        return self.one_of(live or [None])
+
+    def poll(self):
+        """A sound poll, once a machine is live. It mostly names what its client was told last."""
+        held = self.live_machine()
+        if held is None:
+            return self.register()
+        body = {"NodeKey": "nodekey:" + held.node, "Stream": True}
+        session = self.tailnet.sessions.get(held.id)
+        told = self.one_of(self.tailnet.sessions.values(), [None]) if self.once_in(6) else session
+        if told:
+            seq = told.seq if self.once_in(2) else max(0, told.seq + self.one_of([0, 0, 0, 0, 1, -1]))
+            body |= {"MapSessionHandle": told.handle, "MapSessionSeq": seq}
+        if self.once_in(3):
+            body |= {"OmitPeers": True, "Endpoints": ["192.0.2.9:9"], "Hostinfo": {"Hostname": "polls", "RoutableIPs": ["10.0.0.0/8"]}}
+        return "POST", "/machine/map", "mkey:" + held.machine, body
+
+    def change_node(self):
+        """A sound update of what patches tell, once a machine is live."""
+        held = self.live_machine()
+        if held is None:
+            return self.register()
+        body = {"NodeKey": "nodekey:" + held.node, "OmitPeers": True, "Endpoints": self.one_of([held.endpoints, [], ENDPOINTS[:1], ENDPOINTS[1:3]])}
+        body |= self.object(
+            DiscoKey=(30, lambda: "discokey:" + self.one_of("1234") * 64),
+            Hostinfo=(40, lambda: {
+                "NetInfo": {"PreferredDERP": self.one_of([0, 1, 65535])}, "RoutableIPs": [str(route) for route in held.routes],
+            }),
+        )
+        return "POST", "/machine/map", "mkey:" + held.machine, body
 
     def id(self, rows):
         return self.one_of(IDS if self.once_in(10) else [], [str(id) for id in rows], ["1"])

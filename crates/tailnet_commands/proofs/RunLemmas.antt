@@ -72,12 +72,12 @@ pub conversed : (closed : Closed) (settings : SettingsFields) (seed : Option (Li
     → IsWhereTold moment (option_map clamped (old.told.giving.answers 0)) → ((k : ℕ) → f k ≡ old.told.giving.answers (k + 1))
     → d ≡ opening settings d.rows moment → IsWhereTold d.rows old.rows
     → IsSeeded seed f g (record { state = d; keeping = keeping }) middle
-    → IsConnection IsTurn (front_settings settings) closed settings.requests [] (with_answers old.told g) new.told middle final
+    → IsConnection IsTurn (front_settings settings) 0 closed settings.requests [] (with_answers old.told g) new.told middle final
     → IsWhereTold final.state.rows new.rows → RoseBy final.keeping.faults old.keeper_faults new.keeper_faults → IsAskedFor settings old new → Conversation closed settings seed old new
 conversed closed settings seed moment old new f g d keeping middle final hold whole at shifted is rows_told seeded serves last rose asked =
     let n = length seeded.seeding in
     let turns = seeded.seeding ++ turns_of serves.exchanges in
-    let served = serves_from IsTurn (front_settings settings) closed settings.requests [] (with_answers old.told g) new.told middle final (from_number (1 + n) old.told.giving.answers)
+    let served = serves_from IsTurn (front_settings settings) 0 closed settings.requests [] (with_answers old.told g) new.told middle final (from_number (1 + n) old.told.giving.answers)
     (λ k. seeded.rest k ∙ shifted (k + n) ∙ ap old.told.giving.answers (omega arith)) serves in
     let start : Point = record { state = opening settings d.rows moment; keeping = keeping } in
     let opened : Point = record { state = d; keeping = keeping } in

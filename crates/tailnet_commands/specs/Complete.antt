@@ -22,6 +22,7 @@ abbrev pub IsAccepted : Wanted → Type 0
 IsAccepted (wants.Fault body) = ⊥
 IsAccepted (wants.Answer status body) = Unit {0}
 IsAccepted (wants.Ask ask) = Unit {0}
+IsAccepted (wants.Poll p) = Unit {0}
 
 -- Nothing stands in the way of a run: the settings file is there and keeps its rules, the tables are served, the
 -- input is whole requests that are accepted, and no count of faults rises.

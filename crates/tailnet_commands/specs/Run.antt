@@ -70,7 +70,8 @@ pub record Conversation (closed : Closed) (settings : SettingsFields) (seed : Op
   pub seeding_moments : MomentsTold (from_number 1 old.told.giving.answers) seeding
   pub seeded : Point
   pub seeding_leads : Chain IsTurn (record { state = opening settings rows moment; keeping = keeping }) seeding seeded
-  pub serves : IsConnection IsTurn (front_settings settings) closed settings.requests [] (after_answers (1 + length seeding) old.told) new.told seeded final
+  -- no poll waits
+  pub serves : IsConnection IsTurn (front_settings settings) 0 closed settings.requests [] (after_answers (1 + length seeding) old.told) new.told seeded final
   -- a legal history from the opening state: the seed, and the turns of the served requests
   pub history : IsHistory (record { state = opening settings rows moment; keeping = keeping }) (seeding ++ turns_of serves.exchanges) final
   pub final_sound : AreSound final.state.rows

@@ -1,5 +1,5 @@
 -- Which tables a desk opens, and the state in which it does.
-use Rattle.std.specs.Prelude.{◌≡◌, ℤ, Bool, List, length, map, nat_lt, Option, None, Some, if◌then◌else◌}
+use Rattle.std.specs.Prelude.{◌≡◌, ℤ, Bool, List, [], length, map, nat_lt, Option, None, Some, if◌then◌else◌}
 use Rattle.std.specs.Option.{option_or}
 use Rattle.net_rows.specs.declared.rows.Rows.{Rows}
 use Rattle.net_rows.specs.declared.machine.Machine.{Machine}
@@ -29,12 +29,16 @@ IsOpenFault rows fault.KeeperFault = ⊥
 IsOpenFault rows (fault.Damaged kind id) = unserved rows ≡ Some (record { kind = kind; id = id })
 IsOpenFault rows fault.NoMemory = Unit {0}
 
--- the state of tables when they are opened: the policy that they keep is in force, and no machine is online
+-- the state of tables when they are opened: the policy that they keep is in force, no machine is online, and none has a
+-- session
 abbrev pub opening : SettingsFields → Rows → ℤ → State
 opening settings rows moment = record {
   settings = settings;
   rows = rows;
   policy = policy_in rows;
   presence = map (λ (m : Machine). offline_at moment m.id) rows.machines;
+  sessions = [];
+  attached = [];
+  next_session = 1;
   now = moment;
 }

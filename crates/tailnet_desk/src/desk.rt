@@ -17,8 +17,9 @@ use crate::ask::Ask;
 use crate::deciding::decide;
 use crate::opening::{Beginning, beginning_of};
 use crate::reply::{Answer, Loss, Reply};
+use crate::sessions::{end_sessions, forget_sessions};
 use crate::settling::{end_presence, forget, go_offline, put_in_force};
-use desk_state::{Decision, MachinePresence, Snapshot, keep_rules, live_ids};
+use desk_state::{Decision, MachinePresence, Sessions, Snapshot, keep_rules, live_ids};
 use io_edge::EdgeFault;
 use machine_asks::MachineAsk;
 use moments::Moment;
@@ -29,18 +30,19 @@ use row_keeper::{Keeper, LoadFault};
 use settings::Settings;
 use std::alloc::Global;
 use std::marker::Model;
-use tail_base::{Failure, Items, NoMemory};
+use tail_base::{Failure, NoMemory};
 
 /// The Tailnet machine over a keeper. Contracts see it as its state and its keeper, which has the
 /// state's rows, where it tells them. The policy in force is that of the rows.
 #[derive(Drop)]
 pub struct Desk<K: Keeper> {
-    settings: Settings,
-    tables: Tables,
-    policy: InForce,
-    presence: Shelf<MachinePresence>,
-    time: Moment,
-    keeper: K,
+    pub(crate) settings: Settings,
+    pub(crate) tables: Tables,
+    pub(crate) policy: InForce,
+    pub(crate) presence: Shelf<MachinePresence>,
+    pub(crate) sessions: Sessions,
+    pub(crate) time: Moment,
+    pub(crate) keeper: K,
 }
 
 impl<K: Keeper> Model for Desk<K> {
@@ -49,7 +51,19 @@ impl<K: Keeper> Model for Desk<K> {
 
     ghost Value = { Seated K };
 
-    ghost view = { λ d. record { state = record { settings = d.settings; rows = d.tables.rows; policy = d.policy; presence = d.presence.0; now = d.time }; keeper = d.keeper } };
+    ghost view = { λ d. record {
+      state = record {
+        settings = d.settings;
+        rows = d.tables.rows;
+        policy = d.policy;
+        presence = d.presence.0;
+        sessions = d.sessions.rows.0;
+        attached = d.sessions.attached.0;
+        next_session = d.sessions.next;
+        now = d.time;
+      };
+      keeper = d.keeper;
+    } };
 
     ghost invariant = { λ d. IsHeld d.tables.rows d.policy (K.told d.keeper) };
 }
@@ -153,6 +167,7 @@ impl<K: Keeper> Desk<K> {
                 tables,
                 policy: InForce::new(policy),
                 presence,
+                sessions: Sessions::new(alloc),
                 time: moment,
                 keeper,
             }),
@@ -190,11 +205,14 @@ impl<K: Keeper> Desk<K> {
         if let Some(change) = change {
             self.keeper.commit(alloc, &change)?;
             forget(&mut self.presence, change.gone.as_slice());
+            forget_sessions(&mut self.sessions, change.gone.as_slice());
             self.tables.apply(change);
         }
         put_in_force(&mut self.policy, policy);
         end_presence(&mut self.presence, ended, self.time);
+        end_sessions(&mut self.sessions, ended);
         go_offline(&mut self.presence, offline, self.time);
+        end_sessions(&mut self.sessions, offline);
         Ok(())
     }
 
@@ -222,7 +240,7 @@ impl<K: Keeper> Desk<K> {
 
     /// Expands the policy over the machines that are live at the moment, unless it is so already.
     /// Contracts see no change. Out of memory is told by what needs it.
-    fn expand(&mut self, alloc: Global, moment: Moment)
+    pub(crate) fn expand(&mut self, alloc: Global, moment: Moment)
         ensures same { self.new ≡ self.old }
     {
         let at = Snapshot {
@@ -230,6 +248,7 @@ impl<K: Keeper> Desk<K> {
             tables: &self.tables,
             policy: &self.policy,
             presence: &self.presence,
+            sessions: &self.sessions,
             time: self.time.or_later(moment),
         };
         if let Ok(live) = live_ids(alloc, &at) {
@@ -257,6 +276,7 @@ impl<K: Keeper> Desk<K> {
             tables: &self.tables,
             policy: &self.policy,
             presence: &self.presence,
+            sessions: &self.sessions,
             time: self.time,
         };
         keep_rules(&at);
@@ -303,6 +323,7 @@ impl<K: Keeper> Desk<K> {
             tables: _,
             policy: _,
             presence: _,
+            sessions: _,
             time: _,
             keeper,
         } = self;

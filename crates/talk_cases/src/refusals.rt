@@ -313,9 +313,9 @@ const BODIES: &str = r#"= no-machine-key
 = compressed
 > POST /machine/map mkey:%1 {"Compress":1}
 < 400 {"error":"Compressed"}
-= poll
-> POST /machine/map mkey:%1 {"NodeKey":"nodekey:%a","Stream":true,"Hostinfo":{"NetInfo":{"PreferredDERP":65535}}}
-< 400 {"error":"BadField","field":"Stream"}
+= field-of-a-poll
+> POST /machine/map mkey:%1 {"NodeKey":"nodekey:%a","Stream":true,"Hostinfo":{"NetInfo":{"PreferredDERP":65536}}}
+< 400 {"error":"BadField","field":"PreferredDERP"}
 = omit-peers
 > POST /machine/map mkey:%1 {"NodeKey":"nodekey:%a","OmitPeers":0,"ReadOnly":0}
 < 400 {"error":"BadField","field":"OmitPeers"}

@@ -8,7 +8,7 @@ pub carry-requires : goal.carry-requires
 carry-requires g c =
     let desk = c.self.inside in
     let now = c.or_later-self-inside.result in
-    let s = state_with desk.settings desk.tables.rows desk.policy desk.presence.0 now in
+    let s = state_with desk.settings desk.tables.rows desk.policy desk.presence.0 desk.sessions.rows.0 desk.sessions.attached.0 desk.sessions.next now in
     let is = c.in-Ok.ensures.value in
     record {
       sound = each_holds s.rows c.in-Ok.decision.change
@@ -21,9 +21,9 @@ pub returns-in-Ok : goal.returns-in-Ok
 returns-in-Ok g c =
     let desk = c.self.inside in
     let now = c.or_later-self-inside.result in
-    let s = state_with desk.settings desk.tables.rows desk.policy desk.presence.0 now in
+    let s = state_with desk.settings desk.tables.rows desk.policy desk.presence.0 desk.sessions.rows.0 desk.sessions.attached.0 desk.sessions.next now in
     let is = c.in-Ok.ensures.value in
-    let later = at_later desk.settings desk.tables.rows desk.policy desk.presence.0 desk.time now c.args.moment c.args.self.now.state
+    let later = at_later desk.settings desk.tables.rows desk.policy desk.presence.0 desk.sessions.rows.0 desk.sessions.attached.0 desk.sessions.next desk.time now c.args.moment c.args.self.now.state
     c.or_later-self-inside.ensures.value (ap (λ (d : Seated _). d.state) c.self.view_is) in
     record {
       turn = carried_at g.K.Keeper.told g.K.Keeper.faults g.K.Keeper.calls c.args.self.now c.carry.new.self s desk.keeper
