@@ -1,6 +1,7 @@
 //! A poll attaches: it takes up its machine's session, or begins another.
 ghost use Rattle.std.specs.Prelude.{◌≡◌, ◌<◌, ◌^◌, IfOk, filter, length, true};
-ghost use Rattle.desk_state.specs.Sessions.{is_attached};
+ghost use Rattle.std.specs.Option.{option_copied};
+ghost use Rattle.desk_state.specs.Sessions.{is_attached, session_of};
 ghost use Rattle.tail_base.specs.Steps.{Gives};
 ghost use Rattle.map_asks.specs.Attach as spec;
 ghost use Rattle.map_asks.specs.Attach.{waits_beside};
@@ -26,6 +27,13 @@ pub struct AttachDecision {
     pub seq: u64,
     /// Whether the poll may wait.
     pub may_wait: bool,
+}
+
+/// The session of the machine of this id.
+pub(crate) fn session_of<'a>(at: &Snapshot<'a>, id: u32) -> Option<&'a Session>
+    ensures value { option_copied result ≡ session_of at.now.sessions id }
+{
+    at.sessions.rows.get(id)
 }
 
 /// Whether a poll holds the session of the machine of this id.
@@ -156,6 +164,31 @@ fn session_due(
     Ok(session_begun(alloc, at, id, &words)?)
 }
 
+/// The machine's session goes on, if it has one that does; else a new one is due.
+fn attach_to(
+    alloc: Global,
+    at: &Snapshot<'_>,
+    id: u32,
+    handle: &Text,
+    seq: u64,
+    words: Option<[u64; 4]>,
+    session: Option<&Session>,
+) -> Result<AttachDecision, Failure<Refusal>>
+    ensures value { Gives (λ d. d) result
+        (spec.attach_to at.now id handle.now seq words (option_copied session.entry)) }
+{
+    match session {
+        None => session_due(alloc, at, id, words),
+        Some(session) => {
+            if is_taken_up(at, handle, seq, session) {
+                Ok(session_taken_up(alloc, at, session)?)
+            } else {
+                session_due(alloc, at, id, words)
+            }
+        }
+    }
+}
+
 /// What a poll's attach comes to. The machine has to be one with these keys, and live. Its session goes
 /// on if no poll holds it and the client names its handle and its last number; else a new one begins,
 /// whose handle has the next number and the first of the words.
@@ -172,10 +205,6 @@ pub fn attach(
         (spec.attach at.now machine.now node.now handle.now seq words) }
 {
     let row = asking(at, machine, node)?;
-    if let Some(session) = at.sessions.rows.get(row.id)
-        && is_taken_up(at, handle, seq, session)
-    {
-        return Ok(session_taken_up(alloc, at, session)?);
-    }
-    session_due(alloc, at, row.id, words)
+    let session = session_of(at, row.id);
+    attach_to(alloc, at, row.id, handle, seq, words, session)
 }

@@ -7,6 +7,7 @@ ghost use Rattle.desk_state.specs.Sessions.{session_of};
 ghost use Rattle.map_asks.specs.Drain as spec;
 ghost use Rattle.map_asks.specs.OneMap.{IsLiveRow};
 
+use crate::attaching::session_of;
 use crate::detaching::is_held_under;
 use crate::limits::NUMBER_LIMIT;
 use crate::map_ask::fresh_view;
@@ -111,6 +112,31 @@ fn live_machine<'a>(at: &Snapshot<'a>, machine: &MachineKey) -> Option<&'a Machi
     if is_live(at, row) { Some(row) } else { None }
 }
 
+/// The session of a live machine is drained, if there is one and it hasn't ended.
+fn drain_session(
+    alloc: Global,
+    at: &Snapshot<'_>,
+    handle: &Text,
+    row: &Machine,
+    session: Option<&Session>,
+) -> Result<Option<DrainDecision>, NoMemory>
+    requires live { IsLiveRow at.now row.now }
+    ensures value { IfOk result (λ d. d
+        ≡ spec.drain_session at.now handle.now row.now (option_copied session.entry)) }
+{
+    match session {
+        None => Ok(None),
+        Some(session) => {
+            if is_drained(at, handle, session) {
+                let decision = session_drained(alloc, at, row, session)?;
+                Ok(Some(decision))
+            } else {
+                Ok(None)
+            }
+        }
+    }
+}
+
 fn drain_due(
     alloc: Global,
     at: &Snapshot<'_>,
@@ -122,14 +148,8 @@ fn drain_due(
     let Some(row) = live_machine(at, machine) else {
         return Ok(None);
     };
-    let Some(session) = at.sessions.rows.get(row.id) else {
-        return Ok(None);
-    };
-    if !is_drained(at, handle, session) {
-        return Ok(None);
-    }
-    let decision = session_drained(alloc, at, row, session)?;
-    Ok(Some(decision))
+    let session = session_of(at, row.id);
+    drain_session(alloc, at, handle, row, session)
 }
 
 /// What a poll's drain comes to; None if its session has ended: the machine isn't live, or its session

@@ -6,4 +6,4 @@ use Rattle.map_asks.proofs.draining.responses_to.Goals as goal
 pub returns-clause-few : goal.returns-clause-few
 returns-clause-few c =
     let x = c.args.session.now in
-    subst (λ (made : List Response). length made ≤ 2) (sym c.in_ok-made.ensures.value) (few_responses x.handle x.seq x.sent c.args.view.now)
+    subst (λ (made : List Response). length made ≤ 2) (sym c.in_ok-made.ensures.value) (few_responses x.handle x.seq _ c.args.view.now)
