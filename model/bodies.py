@@ -181,3 +181,9 @@ def read_tags_form(body):
     fields = Fields(object_of(body))
     fields.required("tags")
     return fields.tags("tags", 32)
+
+
+def read_routes_form(body):
+    fields = Fields(object_of(body))
+    fields.required("routes")
+    return fields.routes("routes")

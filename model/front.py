@@ -11,11 +11,14 @@ from bodies import (
     read_key_form,
     read_map_request,
     read_register,
+    read_routes_form,
     read_tags_form,
 )
+from granting import NoPolicy
 from grants import Grants
 from heads import HeadFault, refuse_head, values_of
 from policies import PolicyFault
+from routes import approved, exits_of
 from tailnet import Refusal
 from texts import ZERO_KEY, key_of, moment_text
 
@@ -33,6 +36,8 @@ STATUSES = {
     "NameTaken": 409,
     "BadName": 409,
     "NodeKeyTaken": 409,
+    "RouteNotAdvertised": 409,
+    "RouteOverlaps": 409,
     "UserHasMachines": 409,
     "EntropyFault": 500,
     "Full": 507,
@@ -54,6 +59,7 @@ ROUTES = [
     ("/api/v1/node/{id}/expire", {"POST": "expire_node"}),
     ("/api/v1/node/{id}/rename", {"POST": "rename"}),
     ("/api/v1/node/{id}/tags", {"POST": "set_tags"}),
+    ("/api/v1/node/{id}/routes", {"POST": "set_routes"}),
     ("/api/v1/register", {"GET": "waiting", "POST": "admit"}),
     ("/api/v1/policy", {"GET": "policy", "PUT": "save_policy"}),
     ("/api/v1/sweep", {"POST": "sweep"}),
@@ -181,17 +187,19 @@ class Front:
                 "Routes": {domain: self.resolvers(routes[domain]) for domain in sorted(routes)},
             },
             "Domain": self.settings["base_domain"],
-            "Node": self.node(row),
+            "Node": self.node(row, grants.own_routes(row)),
             "PacketFilter": grants.filter_of(row),
             "UserProfiles": [self.profile(user) for user in sorted({self.owner(other) for other in [row, *peers]})],
         }
-        return {**whole, "Peers": [self.node(peer) for peer in peers]} if peers else whole
+        if not peers:
+            return whole
+        return {**whole, "Peers": [self.node(peer, grants.shown_routes(row, peer, peers)) for peer in peers]}
 
-    def node(self, row):
+    def node(self, row, routes):
         addresses = [f"{row.v4}/32", f"{row.v6}/128"]
         return {
             "Addresses": addresses,
-            "AllowedIPs": addresses,
+            "AllowedIPs": addresses + [str(route) for route in routes],
             "Created": moment_text(row.created),
             "DiscoKey": "discokey:" + row.disco,
             "Endpoints": row.endpoints,
@@ -257,18 +265,20 @@ class Front:
         return {}
 
     def node_line(self, row):
+        policy, login = self.tailnet.policy or NoPolicy(), self.tailnet.users[row.user].login
+        served = approved(policy, row, login) + exits_of(policy, row, login)
         return {
             "addresses": [str(row.v4), str(row.v6)],
             "advertised": [str(route) for route in row.routes],
-            "approved": [],
+            "approved": [str(route) for route in row.approved],
             "expiry": moment_text(row.expiry),
             "id": row.id,
             "live": self.tailnet.is_live(row),
             "name": row.name,
             "online": False,
-            "served": [],
+            "served": [str(route) for route in served],
             "tags": row.tags,
-            "user": self.tailnet.users[row.user].login,
+            "user": login,
         }
 
     def nodes(self, _, body):
@@ -289,6 +299,10 @@ class Front:
     def set_tags(self, id, body):
         tags = read_tags_form(body)
         return self.node_line(self.at_once().set_tags(id, tags))
+
+    def set_routes(self, id, body):
+        routes = read_routes_form(body)
+        return self.node_line(self.at_once().set_routes(id, routes))
 
     def waiting(self, _, body):
         return {

@@ -18,6 +18,8 @@ class NoPolicy:
 
     groups: dict = field(default_factory=dict)
     rules: list | None = None
+    routes: tuple = ()
+    exits: tuple = ()
 
 
 @dataclass(frozen=True)

@@ -1,8 +1,11 @@
-"""Who reaches and sees whom over the live machines, and each machine's packet filter."""
+"""Who reaches and sees whom over the live machines, by which machine a route goes, and each machine's packet filter."""
 
 import ipaddress
 
-from granting import USUAL, End, NoPolicy, covers, dest_covers, joins_own, rules_of, sends
+from granting import USUAL, End, NoPolicy, covers, joins_own, rules_of, sends
+from routes import EXITS, INTERNET, approved, exits_of, meet, served_nets
+
+EVERYTHING = EXITS
 
 
 def merged(ranges):
@@ -44,33 +47,60 @@ class Grants:
         """The ends that the machine's addresses are."""
         return [End(address, (self.login(row), tuple(row.tags))) for address in addresses(row)]
 
-    def lets_through(self, rule, source, dest):
-        return sends(self.policy, rule, source) and any(
-            dest_covers(self.policy, to, source, dest) for to, _ in rule[2]
+    def sending(self, a):
+        """The rules that have a source among the machine's addresses."""
+        return [rule for rule in rules_of(self.policy) if any(sends(self.policy, rule, end) for end in self.ends(a))]
+
+    def is_granted(self, a, nets):
+        """Whether some flow goes from the machine to some of these addresses, of which no machine holds any but its own."""
+        return any(
+            to != "autogroup:self" and meet(self.nets_of(to), nets) for rule in self.sending(a) for to, _ in rule[2]
         )
 
     def reaches(self, a, b):
-        return any(
-            self.lets_through(rule, source, dest)
-            for rule in rules_of(self.policy)
-            for source in self.ends(a)
-            for dest in self.ends(b)
+        joins = joins_own(self.ends(a)[0], self.ends(b)[0])
+        return self.is_granted(a, self.served(b)) or joins and any(
+            to == "autogroup:self" for rule in self.sending(a) for to, _ in rule[2]
         )
 
     def sees(self, a, b):
         return a is not b and (self.reaches(a, b) or self.reaches(b, a))
 
+    def served(self, row):
+        return served_nets(self.policy, row, self.login(row))
+
+    def approved(self, row):
+        return approved(self.policy, row, self.login(row))
+
+    def own_routes(self, row):
+        """The routes that a machine is shown at itself."""
+        return self.approved(row) + exits_of(self.policy, row, self.login(row))
+
+    def shown_routes(self, viewer, peer, peers):
+        """The routes that a viewer of these peers is shown at one. No machine is online, so that the least id is chosen."""
+        routes = [
+            route
+            for route in self.approved(peer)
+            if self.is_granted(viewer, [route]) and peer is next(other for other in peers if route in self.approved(other))
+        ]
+        exits = exits_of(self.policy, peer, self.login(peer))
+        return routes + (exits if exits and self.is_granted(viewer, INTERNET) else [])
+
     def nets_of(self, selector):
-        """What a source covers, as prefixes."""
+        """What a source or a destination covers, as prefixes."""
+        if selector == "*":
+            return EVERYTHING
+        if selector == "autogroup:internet":
+            return INTERNET
         if not isinstance(selector, str):
             return [selector]
         ends = [end for row in self.rows for end in self.ends(row) if covers(self.policy, selector, end)]
         return [ipaddress.ip_network(end.address) for end in ends]
 
-    def dest_ports(self, covered, ports):
+    def dest_ports(self, nets, ports):
         return [
-            {"IP": str(address), "Ports": {"First": first, "Last": last}}
-            for address in covered
+            {"IP": net_text(net), "Ports": {"First": first, "Last": last}}
+            for net in canonical(nets)
             for first, last in merged(ports)
         ]
 
@@ -81,7 +111,7 @@ class Grants:
             each
             for to, ranges in dests
             if to != "autogroup:self"
-            for each in self.dest_ports([end.address for end in self.ends(row) if covers(self.policy, to, end)], ranges)
+            for each in self.dest_ports(meet(self.nets_of(to), self.served(row)), ranges)
         ]
         nets = canonical([net for source in sources if source != "*" for net in self.nets_of(source)])
         texts = ["*"] if "*" in sources else [net_text(net) for net in nets]
@@ -90,9 +120,8 @@ class Grants:
     def own_rule(self, rule, row):
         """The filter rule of its destinations `autogroup:self`."""
         proto, sources, dests = rule
-        ports = [
-            each for to, ranges in dests if to == "autogroup:self" for each in self.dest_ports(addresses(row), ranges)
-        ]
+        own_nets = [ipaddress.ip_network(address) for address in addresses(row)]
+        ports = [each for to, ranges in dests if to == "autogroup:self" for each in self.dest_ports(own_nets, ranges)]
         self_end = self.ends(row)[0]
         own = [
             ipaddress.ip_network(end.address)

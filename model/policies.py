@@ -21,7 +21,7 @@ PROTOCOLS = {
 
 
 class PolicyFault(Exception):
-    """A text is no policy that is served: the code and the place of its first fault."""
+    """A text is no policy: the code and the place of its first fault."""
 
     def __init__(self, code, place):
         super().__init__(f"P{code} {place}")
@@ -35,6 +35,7 @@ class Policy:
     tags: dict = field(default_factory=dict)
     # each rule is its protocol or None, its sources, and its destinations with their ports; None without `acls`
     rules: list | None = None
+    # each prefix with its approvers
     routes: list = field(default_factory=list)
     exits: list = field(default_factory=list)
     # each test is its subject, its protocol or None, and two lists of destinations with their ports
@@ -347,11 +348,8 @@ class Reader:
         return self.policy
 
 
-def served_policy(text):
-    """The policy of a text, in the forms that are served."""
+def read_policy(text):
+    """The policy of a text."""
     if len(text) > MOST["text"]:
         raise PolicyFault(19, "text")
-    policy = Reader().read(value_of(standard(text)))
-    if policy.routes or policy.exits:
-        raise PolicyFault(4, "autoApprovers")
-    return policy
+    return Reader().read(value_of(standard(text)))

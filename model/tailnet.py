@@ -4,7 +4,8 @@ import ipaddress
 from dataclasses import dataclass, field
 
 from granting import first_failure
-from policies import PolicyFault, served_policy
+from policies import PolicyFault, read_policy
+from routes import EXITS, TAILNETS, has_both_exits, meet
 from texts import LAST_MOMENT, ZERO_KEY, clamped, is_label, label_of_host, login_of, numbered
 
 COUNTER_LIMIT = 2147483647
@@ -62,6 +63,7 @@ class Machine:
     user: int = 0
     host: str = ""
     routes: list = field(default_factory=list)
+    approved: list = field(default_factory=list)
     tags: list = field(default_factory=list)
     ephemeral: bool = False
     expiry: int | None = None
@@ -155,6 +157,7 @@ class Tailnet:
         row = Machine(held.id, held.name, held.v4, held.v6, held.created, key, self.now)
         row.node, row.user, row.host, row.routes = form["node"], user, form["host"], form["routes"]
         row.tags, row.ephemeral, row.expiry = sorted(set(tags)), ephemeral, form["expiry"]
+        row.approved = held.approved
         if row.expiry is None and not row.tags and self.settings["key_seconds"]:
             row.expiry = self.later(self.now, self.settings["key_seconds"])
         self.machines[row.id] = row
@@ -317,8 +320,25 @@ class Tailnet:
         row.tags = sorted(set(tags))
         return row
 
+    def refuse_route(self, row, route):
+        if route in EXITS:
+            if not has_both_exits(row.routes):
+                raise Refusal("RouteNotAdvertised")
+        elif route not in row.routes:
+            raise Refusal("RouteNotAdvertised")
+        elif meet([route], TAILNETS):
+            raise Refusal("RouteOverlaps")
+
+    def set_routes(self, id, routes):
+        row = self.machine_with(id)
+        for route in routes:
+            self.refuse_route(row, route)
+        given = routes + EXITS if any(route in EXITS for route in routes) else routes
+        row.approved = [route for route in row.routes if route in given]
+        return row
+
     def save_policy(self, text):
-        policy = served_policy(text)
+        policy = read_policy(text)
         live = [row for row in self.machines.values() if self.is_live(row)]
         failure = first_failure(policy, [((row.v4, row.v6), self.users[row.user].login, tuple(row.tags)) for row in live])
         if failure:

@@ -20,9 +20,11 @@ TIMES = [
     "0001-01-01T00:00:00Z", "0001-01-01T02:00:00+02:00", "2000-02-29T00:00:00.5+23:59",
 ]
 ROUTES = [
-    "10.0.0.0/8", "10.0.0.0/9", "10.1.0.0/16", "192.168.5.0/24", "0.0.0.0/0", "::/0", "0::/0", "fd00::/8", "100.64.0.1/32",
-    "2001:DB8:0:0:1::/80", "1:0:0:2:0:0:0:3/128",
+    "10.0.0.0/8", "10.0.0.0/9", "10.1.0.0/16", "10.1.0.0/16", "192.168.5.0/24", "0.0.0.0/0", "0.0.0.0/0", "::/0", "::/0", "0::/0",
+    "fd00::/8", "100.64.0.1/32", "100.0.0.0/8", "fd7a:115c:a1e0:1::/64", "2001:DB8:0:0:1::/80", "1:0:0:2:0:0:0:3/128",
+    "8.8.8.0/24", "0.0.0.0/1", "fd01::/16",
 ]
+SHARED_ROUTES = ["10.1.0.0/16", "10.1.2.0/24", "8.8.8.0/24", "fd01::/16"]
 NO_ROUTES = [
     "10.0.0.1/8", "10.0.0.0/33", "10/8", "x", "", "10.0.0.0", "::1/64", "10.0.0.0/08", "fd00::/129", "::1.2.3.4/128",
 ]
@@ -42,6 +44,7 @@ POLICIES = [
     '{"tagOwners": {"tag:web": ["group:all",]}, /* all */ "groups": {"group:all": ["ann@", "seed@", "bob@example.org"]}} // so far',
     '{"tagOwners": {"tag:a": ["seed@"], "tag:web": ["seed@"], "tag:Db-1": ["seed@"]}}', "{}", '{"hosts": {"lab": "192.168.5.0/24"}}',
     '{"tagOwners": {"tag:web": ["seed@"]}, "tests": [{"src": "ann@", "accept": ["tag:web:443", "seed@:22"], "deny": []}]}',
+    '{"autoApprovers": {"exitNode": ["ann@", "seed@"], "routes": {"0.0.0.0/0": ["bob@example.org"], "10.0.0.0/8": ["seed@"], "fd00::/8": ["seed@", "ann@"]}}}',
 ]
 # whether these are kept depends on the machines that are live
 TESTED = [
@@ -54,18 +57,19 @@ TESTED = [
 ]
 NO_POLICIES = [
     "", "[,]", "/* open", '{"tagOwners": {"tag:1": []}}', '{"tagOwners": {"tag:a": ["group:x"]}}', '{"tests": [{"src": "*"}]}',
-    '{"autoApprovers": {"exitNode": ["ann@"]}}', '{"a\\"b": 1}', '{"groups": {"group:a": ["ann"]}}', "null", "\ufeff{}",
+    '{"autoApprovers": {"exitNode": ["*"]}}', '{"autoApprovers": {"routes": {"10.0.0.1/8": []}}}', '{"a\\"b": 1}', '{"groups": {"group:a": ["ann"]}}', "null", "\ufeff{}",
 ]
 SOURCES = [
     "*", "ann@", "BOB@example.org", "seed@", "eve@", "group:dev", "group:none", "tag:web", "tag:Db-1", "autogroup:member",
     "autogroup:tagged", "100.64.0.0/10", "100.64.0.1", "100.64.0.2", "[fd7a:115c:a1e0::2]", "fd7a:115c:a1e0::/125", "lab", "one",
     "10.0.0.0/8", "0.0.0.0/0", "::/0",
 ]
-DESTS = SOURCES + ["autogroup:self", "autogroup:self", "autogroup:internet"]
+DESTS = SOURCES + ["autogroup:self", "autogroup:self", "autogroup:internet", "10.1.0.0/24", "192.168.0.0/16", "8.8.8.8", "fd00::/16"]
+APPROVERS = ["ann@", "seed@", "seed@", "group:dev", "tag:web", "tag:Db-1"]
 PORTS = ["*", "*", "22", "80-90,85-100", "443,22", "1-2,3-4,6", "0-65535"]
 STRAY = [
     ("GET", "/"), ("GET", "/machine/map"), ("PUT", "/machine/map"), ("POST", "/machine/map/"), ("GET", "/api/v1/node/1"),
-    ("POST", "/api/v1/policy"), ("POST", "/api/v1/node/1/routes"), ("GET", "/api/v1/dns"), ("DELETE", "/api/v1/user/"),
+    ("POST", "/api/v1/policy"), ("PUT", "/api/v1/node/1/routes"), ("GET", "/api/v1/dns"), ("DELETE", "/api/v1/user/"),
     ("PATCH", "/api/v1/user"), ("GET", "/api/v1/user?x=1"), ("post", "/api/v1/sweep"), ("GET", "//api/v1/user"),
     ("GET", "/api/v1/user/"), ("DELETE", "/api/v1/node/0"), ("GET", "/api/v1/node/01"), ("GET", "/api/v1/node/1/"),
 ]
@@ -76,6 +80,11 @@ class Talk:
 
     def __init__(self, random, tailnet, settings):
         self.random, self.tailnet, self.settings = random, tailnet, settings
+        others = [self.user, self.pre_auth_key, self.waiting]
+        often = 10 * [self.register] + 5 * [self.map] + 5 * [self.whole_map] + 3 * [self.node] + 3 * [self.routes] + 2 * [self.advertise]
+        # every third conversation is about routers and what maps show of them
+        routed = 4 * [self.router] + 3 * [self.advertise] + 5 * [self.routes] + 8 * [self.whole_map] + [self.node]
+        self.draws = (routed if self.once_in(3) else often) + 2 * [self.policy] + others
 
     def once_in(self, times):
         return self.random.randrange(times) == 0
@@ -205,6 +214,44 @@ class Talk:
             ("DELETE", "/api/v1/preauthkey/" + self.id(self.tailnet.keys), None, None),
         ])
 
+    def offered(self):
+        """Routes that a machine advertises, some of which others advertise, too."""
+        routes = [self.one_of(ROUTES, 3 * SHARED_ROUTES) for _ in range(self.one_of([1, 2, 3, 4]))]
+        return routes + self.one_of([[], [], ["0.0.0.0/0", "::/0"]])
+
+    def router(self):
+        """A sound registration of a machine with routes."""
+        number = self.one_of([0, 1, 2, 3, 4])
+        keys = [key.text for key in self.tailnet.keys.values()]
+        body = {
+            "NodeKey": "nodekey:" + 64 * "abcde"[number],
+            "Auth": {"AuthKey": self.one_of(keys or ["k1"])},
+            "Hostinfo": {"RoutableIPs": self.offered()},
+        }
+        return "POST", "/machine/register", "mkey:" + 64 * "12345"[number], body
+
+    def advertise(self):
+        """A sound update with routes, once there is a machine."""
+        held = self.one_of(self.tailnet.machines.values(), [] if self.tailnet.machines else [None])
+        if held is None:
+            return self.register()
+        routes = self.offered()
+        body = {"NodeKey": "nodekey:" + held.node, "OmitPeers": True, "Hostinfo": {"RoutableIPs": routes}}
+        return "POST", "/machine/map", "mkey:" + held.machine, body
+
+    def routes(self):
+        """Routes for a machine that advertises some, by a body that is mostly about these."""
+        row = self.one_of([row for row in self.tailnet.machines.values() if row.routes] or [None])
+        if row is None:
+            return self.advertise()
+        if self.once_in(8):
+            path = "/api/v1/node/" + self.id(self.tailnet.machines)
+            return "POST", path + "/routes", None, self.object(routes=(90, lambda: self.some(ROUTES, NO_ROUTES, 32)))
+        advertised = [str(route) for route in row.routes]
+        given = [route for route in advertised if self.once_in(2)] + [self.one_of(ROUTES) for _ in range(self.one_of([0, 0, 0, 1]))]
+        self.random.shuffle(given)
+        return "POST", f"/api/v1/node/{row.id}/routes", None, {"routes": given}
+
     def node(self):
         path = "/api/v1/node/" + self.id(self.tailnet.machines)
         names = [row.name for row in self.tailnet.machines.values()]
@@ -244,7 +291,18 @@ class Talk:
             "hosts": {"lab": "100.64.0.0/30", "one": "fd7a:115c:a1e0::1"},
             "tagOwners": {"tag:web": ["group:dev", "seed@"], "tag:Db-1": ["seed@"], "tag:a": []},
             "acls": [self.rule() for _ in range(self.one_of([0, 1, 1, 2, 3, 4]))],
+            **({} if self.once_in(2) else {"autoApprovers": self.auto_approvers()}),
         })
+
+    def approvers(self):
+        return [self.one_of(APPROVERS) for _ in range(self.one_of([0, 1, 1, 2]))]
+
+    def auto_approvers(self):
+        nets = ["10.0.0.0/8", "10.1.0.0/16", "10.1.2.0/24", "0.0.0.0/0", "::/0", "fd00::/8", "192.168.0.0/16"]
+        return {
+            "routes": {net: self.approvers() for net in nets if self.once_in(3)},
+            "exitNode": self.approvers(),
+        }
 
     def policy(self):
         text = self.one_of(2 * POLICIES + TESTED, NO_POLICIES) if self.once_in(2) else self.rules()
@@ -301,8 +359,7 @@ class Talk:
         return fields
 
     def request(self):
-        draws = 10 * [self.register] + 5 * [self.map] + 5 * [self.whole_map] + 3 * [self.node] + 2 * [self.policy] + [self.user, self.pre_auth_key, self.waiting]
-        draw = self.stray if self.once_in(40) else self.random.choice(draws)
+        draw = self.stray if self.once_in(40) else self.random.choice(self.draws)
         method, path, machine, body = draw()
         body = b"" if body is None else body if isinstance(body, bytes) else json.dumps(body, ensure_ascii=self.once_in(2)).encode()
         if self.once_in(80) and method == "POST":

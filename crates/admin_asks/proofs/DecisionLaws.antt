@@ -13,6 +13,7 @@ use Rattle.admin_asks.specs.declared.operator_ask.OperatorAsk.TheVariants as ask
 use Rattle.admin_asks.proofs.Admissions.{admit_proper}
 use Rattle.admin_asks.proofs.KeyLaws.{add_key_proper, expire_key_proper}
 use Rattle.admin_asks.proofs.NodeLaws.{drop_node_proper, expire_node_proper, rename_proper, set_tags_proper}
+use Rattle.admin_asks.proofs.RouteLaws.{set_routes_proper}
 use Rattle.admin_asks.proofs.SweepLaws.{sweep_proper}
 use Rattle.admin_asks.proofs.UserLaws.{add_user_proper, drop_user_proper}
 
@@ -29,5 +30,6 @@ operator_decision_sound s (ask.Admit pending login) words hold none short = admi
 operator_decision_sound s (ask.ExpireNode id expiry) words hold none short = expire_node_proper s id expiry (sound_of s.rows none)
 operator_decision_sound s (ask.Rename id name) words hold none short = rename_proper s id name (sound_of s.rows none)
 operator_decision_sound s (ask.SetTags id tags) words hold none short = set_tags_proper s id tags (sound_of s.rows none) short
+operator_decision_sound s (ask.SetRoutes id routes) words hold none short = set_routes_proper s id routes (sound_of s.rows none)
 operator_decision_sound s (ask.DropNode id) words hold none short = drop_node_proper s id (sound_of s.rows none)
 operator_decision_sound s ask.Sweep words hold none short = sweep_proper s (sound_of s.rows none)

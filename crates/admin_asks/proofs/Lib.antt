@@ -3,5 +3,6 @@ mod Admissions
 mod KeyLaws
 mod NamedLaws
 mod NodeLaws
+mod RouteLaws
 mod SweepLaws
 mod UserLaws

@@ -11,6 +11,8 @@ use Rattle.tail_base.specs.Labels.{label_of}
 use Rattle.tail_base.specs.Sorted.{sorted_once}
 use Rattle.tail_base.proofs.Bools.{bytes_eq-from}
 use Rattle.tail_base.proofs.SortedLemmas.{length-sorted_once}
+use Rattle.net_addr.specs.Bits.{Block}
+use Rattle.tailcfg.specs.declared.limits.TheConstants.{ROUTE_LIMIT}
 use Rattle.net_rows.specs.declared.limits.TheConstants.{TAG_LIMIT}
 use Rattle.net_rows.specs.Rows.{machine_with}
 use Rattle.net_rows.specs.Shelf.{IsOwn}
@@ -31,13 +33,17 @@ use Rattle.machine_rows.proofs.SoundChanges.{gone_change}
 use Rattle.admin_asks.specs.Nodes.{changed_node, ends_at, expired_node, expire_node, is_name_taken, renamed_node, rename, same_node, tagged_node, set_tags, drop_node}
 use Rattle.admin_asks.proofs.NamedLaws.{row_there}
 
--- the row with another name, other tags and another expiry
-abbrev row_with : Machine → List ℕ → List (List ℕ) → Option ℤ → Machine
-row_with m name tags expiry = record m { name = name; tags = tags; expiry = expiry }
+-- the row with another name, other tags, other approvals and another expiry
+abbrev pub row_with : Machine → List ℕ → List (List ℕ) → List Block → Option ℤ → Machine
+row_with m name tags approved expiry = record m { name = name; tags = tags; approved = approved; expiry = expiry }
 
-fits_with : (t : Rows) (m : Machine) (name : List ℕ) (tags : List (List ℕ)) (expiry : Option ℤ) → AreSound t → Contains t.machines m
-    → IsOwn (λ r. r.id) (λ r. r.name) t.machines (row_with m name tags expiry) → length tags ≤ TAG_LIMIT → FitsMachine t (row_with m name tags expiry)
-fits_with t m name tags expiry sound inside own short =
+-- its lists are within their limits
+abbrev pub AreShort : List (List ℕ) → List Block → Type 0
+AreShort tags approved = (length tags ≤ TAG_LIMIT) × (length approved ≤ ROUTE_LIMIT)
+
+fits_with : (t : Rows) (m : Machine) (name : List ℕ) (tags : List (List ℕ)) (approved : List Block) (expiry : Option ℤ) → AreSound t → Contains t.machines m
+    → IsOwn (λ r. r.id) (λ r. r.name) t.machines (row_with m name tags approved expiry) → AreShort tags approved → FitsMachine t (row_with m name tags approved expiry)
+fits_with t m name tags approved expiry sound inside own short =
     let keeps = sound.machines.keeps m inside in
     record {
       id = (sound.machines.ids m inside).0;
@@ -54,33 +60,37 @@ fits_with t m name tags expiry sound inside own short =
         host = keeps.host;
         endpoints = keeps.endpoints;
         routes = keeps.routes;
-        approved = keeps.approved;
-        tags = short;
+        approved = short.1;
+        tags = short.0;
       };
     }
 
 -- a row that differs is put in a machine's place
-changed_proper : (s : State) (m : Machine) (name : List ℕ) (tags : List (List ℕ)) (expiry : Option ℤ) → AreSound s.rows → Contains s.rows.machines m
-    → IsOwn (λ r. r.id) (λ r. r.name) s.rows.machines (row_with m name tags expiry) → length tags ≤ TAG_LIMIT
-    → row_with m name tags expiry ≢ m → IsPlain s.rows (Ok (changed_node s (row_with m name tags expiry)))
-changed_proper s m name tags expiry sound inside own short apart =
+pub changed_proper : (s : State) (m : Machine) (name : List ℕ) (tags : List (List ℕ)) (approved : List Block) (expiry : Option ℤ) → AreSound s.rows → Contains s.rows.machines m
+    → IsOwn (λ r. r.id) (λ r. r.name) s.rows.machines (row_with m name tags approved expiry) → AreShort tags approved
+    → row_with m name tags approved expiry ≢ m → IsPlain s.rows (Ok (changed_node s (row_with m name tags approved expiry)))
+changed_proper s m name tags approved expiry sound inside own short apart =
     let t = s.rows in
-    let r : Machine = row_with m name tags expiry in
+    let r : Machine = row_with m name tags approved expiry in
     proper_some t (changed_node s r) (row_replaced t r) refl refl refl
     (sound_change t (row_replaced t r)
-    (row_sound t r t.next.machine None None sound (fits_with t m name tags expiry sound inside own short)
+    (row_sound t r t.next.machine None None sound (fits_with t m name tags approved expiry sound inside own short)
     (sound.machines.ids m inside).1 (omega arith) sound.counters.machine.1 tt)
     (replaced_differs t m r sound inside refl apart) (same_counters t.next))
 
 -- its own name stays its own
-own_name : (t : Rows) (m : Machine) → AreSound t → Contains t.machines m → IsOwn (λ r. r.id) (λ r. r.name) t.machines m
+pub own_name : (t : Rows) (m : Machine) → AreSound t → Contains t.machines m → IsOwn (λ r. r.id) (λ r. r.name) t.machines m
 own_name t m sound inside a within e = sound.machines.names a m within inside e
+
+-- its own lists are within their limits
+pub own_short : (t : Rows) (m : Machine) → AreSound t → Contains t.machines m → AreShort m.tags m.approved
+own_short t m sound inside = ((sound.machines.keeps m inside).tags, (sound.machines.keeps m inside).approved)
 
 -- another expiry
 expired_proper : (s : State) (m : Machine) (end : ℤ) → AreSound s.rows → Contains s.rows.machines m → IsPlain s.rows (Ok (expired_node s m end))
 expired_proper s m end sound inside =
     proper_choice s.rows (ends_at m.expiry end) _ _ (λ _. proper_none s.rows (same_node s m) refl refl) (λ other.
-    changed_proper s m m.name m.tags (Some end) sound inside (own_name s.rows m sound inside) (sound.machines.keeps m inside).tags (λ e.
+    changed_proper s m m.name m.tags m.approved (Some end) sound inside (own_name s.rows m sound inside) (own_short s.rows m sound inside) (λ e.
     both_ways (ends_at m.expiry end) other
     (subst (λ (x : Option ℤ). ends_at x end ≡ true) (ap (λ (x : Machine). x.expiry) e) ((Decides-int_eq end end).1 refl))))
 
@@ -105,7 +115,7 @@ renamed_proper : (s : State) (m : Machine) (name : List ℕ) → AreSound s.rows
     → IsPlain s.rows (Ok (renamed_node s m name))
 renamed_proper s m name sound inside free =
     proper_choice s.rows (bytes_eq m.name name) _ _ (λ _. proper_none s.rows (same_node s m) refl refl) (λ other.
-    changed_proper s m name m.tags m.expiry sound inside (name_free s.rows m name free) (sound.machines.keeps m inside).tags (λ e.
+    changed_proper s m name m.tags m.approved m.expiry sound inside (name_free s.rows m name free) (own_short s.rows m sound inside) (λ e.
     both_ways (bytes_eq m.name name) other (bytes_eq-from m.name name (sym (ap (λ (x : Machine). x.name) e)))))
 
 pub rename_proper : (s : State) (id : ℕ) (name : List ℕ) → AreSound s.rows → IsPlain s.rows (rename s id name)
@@ -121,7 +131,7 @@ tagged_proper : (s : State) (m : Machine) (tags : List (List ℕ)) → AreSound 
     → IsPlain s.rows (Ok (tagged_node s m tags))
 tagged_proper s m tags sound inside short =
     proper_choice s.rows (pointwise bytes_eq m.tags tags) _ _ (λ _. proper_none s.rows (same_node s m) refl refl) (λ other.
-    changed_proper s m m.name tags m.expiry sound inside (own_name s.rows m sound inside) short (λ e.
+    changed_proper s m m.name tags m.approved m.expiry sound inside (own_name s.rows m sound inside) (short, (sound.machines.keeps m inside).approved) (λ e.
     both_ways (pointwise bytes_eq m.tags tags) other
     ((slice_eq-Decides bytes_eq-Decides m.tags tags _ refl).1 (sym (ap (λ (x : Machine). x.tags) e)))))
 

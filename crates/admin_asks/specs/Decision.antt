@@ -6,6 +6,7 @@ use Rattle.desk_state.specs.declared.refusal.Refusal.{Refusal}
 use Rattle.admin_asks.specs.Admit.{admit}
 use Rattle.admin_asks.specs.Keys.{add_key, keys, expire_key}
 use Rattle.admin_asks.specs.Nodes.{nodes, expire_node, rename, set_tags, drop_node}
+use Rattle.admin_asks.specs.Routes.{set_routes}
 use Rattle.admin_asks.specs.Sweep.{sweep}
 use Rattle.admin_asks.specs.Users.{add_user, users, drop_user}
 use Rattle.admin_asks.specs.Waiting.{waiting}
@@ -27,5 +28,6 @@ decision s (ask.Admit pending login) words = admit s pending login
 decision s (ask.ExpireNode id expiry) words = expire_node s id expiry
 decision s (ask.Rename id name) words = rename s id name
 decision s (ask.SetTags id tags) words = set_tags s id tags
+decision s (ask.SetRoutes id routes) words = set_routes s id routes
 decision s (ask.DropNode id) words = drop_node s id
 decision s ask.Sweep words = sweep s

@@ -17,5 +17,6 @@ draws (ask.Admit pending login) = false
 draws (ask.ExpireNode id expiry) = false
 draws (ask.Rename id name) = false
 draws (ask.SetTags id tags) = false
+draws (ask.SetRoutes id routes) = false
 draws (ask.DropNode id) = false
 draws ask.Sweep = false

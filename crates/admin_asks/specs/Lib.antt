@@ -3,6 +3,7 @@ pub mod Decision
 pub mod Draws
 pub mod Keys
 pub mod Nodes
+pub mod Routes
 pub mod Short
 pub mod Sweep
 pub mod Users

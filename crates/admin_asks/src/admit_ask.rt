@@ -1,12 +1,13 @@
 //! An operator admits a machine that waits.
-ghost use Rattle.std.specs.Prelude.{◌≡◌, IfOk};
+ghost use Rattle.std.specs.Prelude.{◌≡◌, IfOk, None, Some};
 ghost use Rattle.tail_base.specs.Steps.{Gives};
+ghost use Rattle.machine_rows.specs.Rows.{row_change};
 ghost use Rattle.admin_asks.specs.Admit as spec;
 
 use crate::operator_answer::OperatorAnswer;
 use desk_state::{Decision, Refusal, Snapshot, is_overdue, offline_line, tags_granted, user_named};
 use machine_rows::{Entrant, expiry_of, is_taken, machine_row, place_for, row_change};
-use net_rows::{Machine, Pending};
+use net_rows::{Change, Machine, Pending, Tables};
 use std::alloc::Global;
 use tail_base::{Duplicate, Failure, Items, NoMemory, Text, sorted_once};
 
@@ -43,6 +44,20 @@ fn entrant_of_entry(
     })
 }
 
+/// The row is put, this is the next id, and the entry goes.
+fn admission_change(
+    alloc: Global,
+    tables: &Tables,
+    entry: &Pending,
+    row: &Machine,
+    next: u32,
+) -> Result<Change, NoMemory>
+    ensures value { IfOk result (λ change. change
+        ≡ row_change tables.now.rows row.now next None (Some entry.now)) }
+{
+    row_change(alloc, tables, row.copy(alloc)?, next, None, Some(entry))
+}
+
 fn admission(
     alloc: Global,
     at: &Snapshot<'_>,
@@ -54,9 +69,10 @@ fn admission(
 {
     let mut offline = Items::new(alloc);
     offline.push(row.id)?;
-    let line = offline_line(alloc, at, row.copy(alloc)?)?;
+    let change = admission_change(alloc, at.tables, entry, &row, next)?;
+    let line = offline_line(alloc, at, row)?;
     Ok(Decision {
-        change: Some(row_change(alloc, at.tables, row, next, None, Some(entry))?),
+        change: Some(change),
         policy: None,
         offline,
         ended: Items::new(alloc),

@@ -7,6 +7,7 @@ use crate::key_asks::{add_key, expire_key, keys};
 use crate::node_asks::{drop_node, expire_node, nodes, rename, set_tags};
 use crate::operator_answer::OperatorAnswer;
 use crate::operator_ask::OperatorAsk;
+use crate::route_asks::set_routes;
 use crate::sweeping::sweep;
 use crate::user_asks::{add_user, drop_user, users};
 use crate::waiting_list::waiting;
@@ -37,6 +38,7 @@ pub fn decide(
         OperatorAsk::ExpireNode { id, at: end } => expire_node(alloc, at, *id, *end),
         OperatorAsk::Rename { id, name } => rename(alloc, at, *id, name),
         OperatorAsk::SetTags { id, tags } => set_tags(alloc, at, *id, tags.as_slice()),
+        OperatorAsk::SetRoutes { id, routes } => set_routes(alloc, at, *id, routes.as_slice()),
         OperatorAsk::DropNode { id } => drop_node(alloc, at, *id),
         OperatorAsk::Sweep => sweep(alloc, at),
     }

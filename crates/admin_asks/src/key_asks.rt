@@ -1,11 +1,12 @@
 //! Operators make and list pre-auth keys, and let them expire.
-ghost use Rattle.std.specs.Prelude.{◌≡◌, IfOk, true};
+ghost use Rattle.std.specs.Prelude.{◌≡◌, ◌+◌, IfOk, true};
 ghost use Rattle.net_rows.specs.Room.{has_room};
 ghost use Rattle.net_rows.specs.declared.change.Kind.TheVariants as kind;
 ghost use Rattle.tail_base.specs.Steps.{Gives};
 ghost use Rattle.admin_asks.specs.Keys as spec;
 
 use crate::operator_answer::OperatorAnswer;
+use crate::row_puts::one_row;
 use desk_state::{
     Decision, KeyForm, KeyLine, Refusal, Scarce, Snapshot, is_ahead, key_line, row_text,
     tags_defined, user_named,
@@ -36,20 +37,27 @@ fn new_key(
     })
 }
 
+/// The counters, when a key is made.
+fn counters_after_key(tables: &Tables) -> Counters
+    requires room { has_room tables.now.rows kind.Key ≡ true }
+    ensures value { result ≡ record tables.now.rows.next { key = tables.now.rows.next.key + 1 } }
+{
+    let next = tables.next();
+    Counters {
+        key: next.key + 1,
+        ..next
+    }
+}
+
 fn key_change(alloc: Global, tables: &Tables, key: AuthKey) -> Result<Change, NoMemory>
     requires room { has_room tables.now.rows kind.Key ≡ true }
     ensures value { IfOk result (λ change. change ≡ spec.key_change tables.now.rows key) }
 {
-    let next = tables.next();
-    let mut puts = Items::new(alloc);
-    puts.push(Row::Key(key))?;
+    let next = counters_after_key(tables);
     Ok(Change {
-        puts,
+        puts: one_row(alloc, Row::Key(key))?,
         gone: Items::new(alloc),
-        next: Counters {
-            key: next.key + 1,
-            ..next
-        },
+        next,
     })
 }
 
@@ -111,10 +119,8 @@ fn expiry_change(alloc: Global, at: &Snapshot<'_>, key: &AuthKey) -> Result<Chan
 {
     let mut expired = key.copy(alloc)?;
     expired.expiry = Some(at.time);
-    let mut puts = Items::new(alloc);
-    puts.push(Row::Key(expired))?;
     Ok(Change {
-        puts,
+        puts: one_row(alloc, Row::Key(expired))?,
         gone: Items::new(alloc),
         next: at.tables.next(),
     })

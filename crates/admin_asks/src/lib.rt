@@ -1,5 +1,5 @@
-//! What is decided on the asks of operators: on users, pre-auth keys, machines, admissions, and the
-//! sweep. A decision changes nothing yet.
+//! What is decided on the asks of operators: on users, pre-auth keys, machines, their routes,
+//! admissions, and the sweep. A decision changes nothing yet.
 #![tactic(auto)]
 
 mod admit_ask;
@@ -9,6 +9,8 @@ mod laws;
 mod node_asks;
 mod operator_answer;
 mod operator_ask;
+mod route_asks;
+mod row_puts;
 mod sweeping;
 mod user_asks;
 mod waiting_list;

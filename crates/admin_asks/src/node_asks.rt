@@ -3,13 +3,14 @@ ghost use Rattle.std.specs.Prelude.{◌≡◌, IfOk};
 ghost use Rattle.std.specs.Cmp.Lexicographic.{pointwise};
 ghost use Rattle.std.specs.Str.{bytes_eq};
 ghost use Rattle.tail_base.specs.Steps.{Gives};
+ghost use Rattle.machine_rows.specs.Rows.{row_replaced};
 ghost use Rattle.admin_asks.specs.Nodes as spec;
 
 use crate::operator_answer::OperatorAnswer;
 use desk_state::{Decision, NodeLine, Refusal, Snapshot, machine_gone, node_line, tags_defined};
 use machine_rows::row_replaced;
 use moments::Moment;
-use net_rows::Machine;
+use net_rows::{Change, Machine, Tables};
 use std::alloc::Global;
 use tail_base::{Duplicate, Failure, Items, Label, NoMemory, Tag, Text, sorted_once};
 
@@ -36,7 +37,7 @@ pub fn nodes(alloc: Global, at: &Snapshot<'_>) -> Result<Decision<OperatorAnswer
 }
 
 /// The machine's row stays as it is.
-fn same_node(
+pub(crate) fn same_node(
     alloc: Global,
     at: &Snapshot<'_>,
     machine: &Machine,
@@ -47,16 +48,23 @@ fn same_node(
     Ok(Decision::only(alloc, OperatorAnswer::Node(line)))
 }
 
+/// The change that puts this row in the place of the machine's.
+fn replacement(alloc: Global, tables: &Tables, machine: &Machine) -> Result<Change, NoMemory>
+    ensures value { IfOk result (λ change. change ≡ row_replaced tables.now.rows machine.now) }
+{
+    row_replaced(alloc, tables, machine.copy(alloc)?)
+}
+
 /// The machine's row is this one from now on.
-fn changed_node(
+pub(crate) fn changed_node(
     alloc: Global,
     at: &Snapshot<'_>,
     machine: Machine,
 ) -> Result<Decision<OperatorAnswer>, NoMemory>
     ensures value { IfOk result (λ d. d ≡ spec.changed_node at.now machine) }
 {
-    let line = node_line(alloc, at, machine.copy(alloc)?)?;
-    let change = row_replaced(alloc, at.tables, machine)?;
+    let change = replacement(alloc, at.tables, &machine)?;
+    let line = node_line(alloc, at, machine)?;
     Ok(Decision::changing(alloc, change, OperatorAnswer::Node(line)))
 }
 

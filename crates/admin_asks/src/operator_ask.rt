@@ -4,6 +4,7 @@ ghost use Rattle.admin_asks.specs.Draws as spec;
 
 use desk_state::KeyForm;
 use moments::Moment;
+use net_addr::Prefix;
 use tail_base::{Items, Tag, Text};
 
 /// One thing that an operator asks.
@@ -33,6 +34,8 @@ pub enum OperatorAsk {
     Rename { id: u32, name: Text },
     /// Gives a machine these tags in place of those that it has.
     SetTags { id: u32, tags: Items<Tag> },
+    /// Approves these routes of a machine in place of those that were approved.
+    SetRoutes { id: u32, routes: Items<Prefix> },
     /// Removes a machine.
     DropNode { id: u32 },
     /// Removes the ephemeral machines that aren't live, and the pending entries whose time has
@@ -57,6 +60,7 @@ pub fn draws(ask: &OperatorAsk) -> bool
         | OperatorAsk::ExpireNode { .. }
         | OperatorAsk::Rename { .. }
         | OperatorAsk::SetTags { .. }
+        | OperatorAsk::SetRoutes { .. }
         | OperatorAsk::DropNode { .. }
         | OperatorAsk::Sweep => false,
     }

@@ -53,11 +53,9 @@ fn overdue_entries(
 fn append(first: Items<RowKey>, more: &[RowKey]) -> Result<Items<RowKey>, NoMemory>
     ensures value { IfOk result (λ all. all ≡ first ++ more.now) }
 {
-    let mut all = first;
-    for key in more {
-        all.push(*key)?;
-    }
-    Ok(all)
+    let mut all = first.into_vec();
+    all.extend_from_slice(more)?;
+    Ok(Items::from_vec(all))
 }
 
 fn sweep_change(

@@ -1,11 +1,12 @@
 //! Operators make, list and remove users.
-ghost use Rattle.std.specs.Prelude.{◌≡◌, IfOk, true};
+ghost use Rattle.std.specs.Prelude.{◌≡◌, ◌+◌, IfOk, true};
 ghost use Rattle.net_rows.specs.Room.{has_room};
 ghost use Rattle.net_rows.specs.declared.change.Kind.TheVariants as kind;
 ghost use Rattle.tail_base.specs.Steps.{Gives};
 ghost use Rattle.admin_asks.specs.Users as spec;
 
 use crate::operator_answer::OperatorAnswer;
+use crate::row_puts::one_row;
 use desk_state::{Decision, Refusal, Scarce, Snapshot, user_named};
 use net_rows::{AuthKey, Change, Counters, Kind, Machine, Row, RowKey, Tables, User};
 use std::alloc::Global;
@@ -36,20 +37,27 @@ fn is_login_taken(users: &[User], login: &Login) -> bool
         .any(|user| user.login.as_slice() == login.as_slice())
 }
 
+/// The counters, when a user is made.
+fn counters_after_user(tables: &Tables) -> Counters
+    requires room { has_room tables.now.rows kind.User ≡ true }
+    ensures value { result ≡ record tables.now.rows.next { user = tables.now.rows.next.user + 1 } }
+{
+    let next = tables.next();
+    Counters {
+        user: next.user + 1,
+        ..next
+    }
+}
+
 fn user_change(alloc: Global, tables: &Tables, user: User) -> Result<Change, NoMemory>
     requires room { has_room tables.now.rows kind.User ≡ true }
     ensures value { IfOk result (λ change. change ≡ spec.user_change tables.now.rows user) }
 {
-    let next = tables.next();
-    let mut puts = Items::new(alloc);
-    puts.push(Row::User(user))?;
+    let next = counters_after_user(tables);
     Ok(Change {
-        puts,
+        puts: one_row(alloc, Row::User(user))?,
         gone: Items::new(alloc),
-        next: Counters {
-            user: next.user + 1,
-            ..next
-        },
+        next,
     })
 }
 

@@ -3,10 +3,13 @@ use Rattle.std.specs.Prelude.{ℕ, ℤ, List, [], false, Option, Some, None, Res
 use Rattle.serde_json.specs.Data.{Data}
 use Rattle.serde_json.specs.Find.{as_str, as_bool}
 use Rattle.tail_base.specs.Tags.{tag_of}
-use Rattle.tailcfg.specs.declared.limits.TheConstants.{ASKED_TAG_LIMIT}
+use Rattle.net_addr.specs.Bits.{Block}
+use Rattle.net_addr.specs.Routes.{sorted_routes}
+use Rattle.tailcfg.specs.declared.limits.TheConstants.{ASKED_TAG_LIMIT, ROUTE_LIMIT}
 use Rattle.net_rows.specs.declared.limits.TheConstants.{TAG_LIMIT}
 use Rattle.wire_json.specs.Body.{◌>>=◌, object_at, body_value}
 use Rattle.wire_json.specs.Readers.{required, optional, some_time, short_list}
+use Rattle.wire_json.specs.Register.{prefix_spelled}
 use Rattle.wire_json.specs.declared.admin_field.AdminField.{AdminField}
 use Rattle.wire_json.specs.declared.admin_field.AdminField.TheVariants as admin
 use Rattle.wire_json.specs.declared.field.Field.TheVariants as field
@@ -55,6 +58,18 @@ needed_tags d = required (field.Admin admin.Tags) (short_list TAG_LIMIT tag_of) 
 -- the new tags of a machine
 abbrev pub tags_form_of_body : List ℕ → Result (List (List ℕ)) WireFault
 tags_form_of_body body = object_at (body_value body) >>= needed_tags
+
+-- the routes, that have to be there
+abbrev pub needed_routes : Data → Result (List Block) WireFault
+needed_routes d = required (field.Admin admin.Routes) (short_list ROUTE_LIMIT prefix_spelled) (Some d)
+
+-- such routes in order, each once
+abbrev pub routes_form_at : Data → Result (List Block) WireFault
+routes_form_at d = needed_routes d >>= (λ routes. Ok (sorted_routes routes))
+
+-- the routes of a machine that are approved
+abbrev pub routes_form_of_body : List ℕ → Result (List Block) WireFault
+routes_form_of_body body = object_at (body_value body) >>= routes_form_at
 
 -- the entry, and then the user
 unfoldable pub admit_form_at : Data → Result AdmitForm WireFault

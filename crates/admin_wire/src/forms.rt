@@ -2,18 +2,19 @@
 ghost use Rattle.std.specs.Prelude.{◌≤◌, length, Some, IfOk};
 ghost use Rattle.serde_json.specs.Find.{as_str};
 ghost use Rattle.serde_json.specs.View.{view};
-ghost use Rattle.tailcfg.specs.declared.limits.TheConstants.{ASKED_TAG_LIMIT};
+ghost use Rattle.tailcfg.specs.declared.limits.TheConstants.{ASKED_TAG_LIMIT, ROUTE_LIMIT};
 ghost use Rattle.net_rows.specs.declared.limits.TheConstants.{TAG_LIMIT};
 ghost use Rattle.wire_json.specs.Body.{Gives};
-ghost use Rattle.admin_wire.specs.Forms.{admit_form_at, admit_form_of_body, empty_form_of_body, expiry_form_of_body, key_form_at, key_form_of_body, needed_tags, needed_text, rename_form_of_body, tags_form_of_body, user_form_of_body};
+ghost use Rattle.admin_wire.specs.Forms.{admit_form_at, admit_form_of_body, empty_form_of_body, expiry_form_of_body, key_form_at, key_form_of_body, needed_routes, needed_tags, needed_text, rename_form_of_body, routes_form_at, routes_form_of_body, tags_form_of_body, user_form_of_body};
 
 use desk_state::KeyForm;
 use moments::Moment;
+use net_addr::{Prefix, sorted_routes};
 use net_rows::TAG_LIMIT;
 use serde_json::Value;
 use std::alloc::Global;
 use tail_base::{Items, Tag, Text};
-use tailcfg::ASKED_TAG_LIMIT;
+use tailcfg::{ASKED_TAG_LIMIT, ROUTE_LIMIT};
 use wire_json::{
     AdminField, Field, WireFault, field_of, flag_of, list_of, object_of_body, some_time_of,
 };
@@ -51,6 +52,27 @@ fn needed_tags(alloc: Global, body: &Value) -> Result<Items<Tag>, WireFault>
         return Err(WireFault::Missing(field));
     }
     list_of(alloc, Some(body), field, TAG_LIMIT)
+}
+
+/// Routes that have to be there.
+fn needed_routes(alloc: Global, body: &Value) -> Result<Items<Prefix>, WireFault>
+    ensures value { Gives (λ routes. routes) result (needed_routes (view body.now)) }
+    ensures short { IfOk result (λ routes. length routes ≤ ROUTE_LIMIT) }
+{
+    let field = Field::Admin(AdminField::Routes);
+    if field_of(Some(body), field).is_none() {
+        return Err(WireFault::Missing(field));
+    }
+    list_of(alloc, Some(body), field, ROUTE_LIMIT)
+}
+
+/// Such routes in order, each once.
+fn routes_form_of(alloc: Global, body: &Value) -> Result<Items<Prefix>, WireFault>
+    ensures value { Gives (λ routes. routes) result (routes_form_at (view body.now)) }
+    ensures short { IfOk result (λ routes. length routes ≤ ROUTE_LIMIT) }
+{
+    let routes = needed_routes(alloc, body)?;
+    Ok(sorted_routes(alloc, routes.as_slice())?)
 }
 
 #[tactic(auto, unfolding(crate::specs::Forms::key_form_at))]
@@ -130,6 +152,16 @@ pub fn read_tags_form(alloc: Global, body: &[u8]) -> Result<Items<Tag>, WireFaul
 {
     let value = object_of_body(alloc, body)?;
     needed_tags(alloc, &value)
+}
+
+/// The routes of a machine that are approved: up to 32 `routes`, which have to be there, by family,
+/// base and length, each once.
+pub fn read_routes_form(alloc: Global, body: &[u8]) -> Result<Items<Prefix>, WireFault>
+    ensures value { Gives (λ routes. routes) result (routes_form_of_body body.now) }
+    ensures short { IfOk result (λ routes. length routes ≤ ROUTE_LIMIT) }
+{
+    let value = object_of_body(alloc, body)?;
+    routes_form_of(alloc, &value)
 }
 
 /// Who is admitted, and for whom: the text `id` of the pending entry and then the login `user`, which

@@ -13,7 +13,7 @@ mod written;
 
 pub use forms::{
     AdmitForm, read_admit_form, read_empty_form, read_expiry_form, read_key_form, read_rename_form,
-    read_tags_form, read_user_form,
+    read_routes_form, read_tags_form, read_user_form,
 };
 pub use keys::{key_text, keys_text};
 pub use nodes::{node_text, nodes_text};

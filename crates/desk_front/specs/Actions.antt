@@ -30,6 +30,7 @@ action_of route.Node method = if_method method (codes "DELETE") (Operator operat
 action_of route.NodeExpire method = if_method method (codes "POST") (Operator operator.ExpireNode)
 action_of route.NodeRename method = if_method method (codes "POST") (Operator operator.Rename)
 action_of route.NodeTags method = if_method method (codes "POST") (Operator operator.SetTags)
+action_of route.NodeRoutes method = if_method method (codes "POST") (Operator operator.SetRoutes)
 action_of route.Waiting method =
     option_or (if_method method (codes "GET") (Operator operator.Waiting))
     (if_method method (codes "POST") (Operator operator.Admit))

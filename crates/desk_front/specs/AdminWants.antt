@@ -1,7 +1,7 @@
 -- What operators want.
 use Rattle.std.specs.Prelude.{ℕ, List, Bool, false, ◌&&◌, Option, None, Some, codes, take, drop}
 use Rattle.std.specs.Str.{bytes_eq}
-use Rattle.admin_wire.specs.Forms.{admit_form_of_body, empty_form_of_body, expiry_form_of_body, key_form_of_body, rename_form_of_body, tags_form_of_body, user_form_of_body}
+use Rattle.admin_wire.specs.Forms.{admit_form_of_body, empty_form_of_body, expiry_form_of_body, key_form_of_body, rename_form_of_body, routes_form_of_body, tags_form_of_body, user_form_of_body}
 use Rattle.admin_wire.specs.declared.forms.AdmitForm.{AdmitForm}
 use Rattle.path_routes.specs.Finds.{text_of}
 use Rattle.admin_asks.specs.declared.operator_ask.OperatorAsk.{OperatorAsk}
@@ -58,6 +58,10 @@ abbrev pub set_tags_wants : ℕ → List ℕ → Wanted
 set_tags_wants id body =
     unless_faulty (λ tags. operator_ask (ask.SetTags id tags)) (tags_form_of_body body)
 
+abbrev pub set_routes_wants : ℕ → List ℕ → Wanted
+set_routes_wants id body =
+    unless_faulty (λ routes. operator_ask (ask.SetRoutes id routes)) (routes_form_of_body body)
+
 abbrev pub admit_wants : List ℕ → Wanted
 admit_wants body =
     unless_faulty (λ (form : AdmitForm). operator_ask (ask.Admit form.pending form.login))
@@ -87,6 +91,7 @@ admin_wants action.DropNode id owner body = operator_ask (ask.DropNode id)
 admin_wants action.ExpireNode id owner body = expire_node_wants id body
 admin_wants action.Rename id owner body = rename_wants id body
 admin_wants action.SetTags id owner body = set_tags_wants id body
+admin_wants action.SetRoutes id owner body = set_routes_wants id body
 admin_wants action.Waiting id owner body = operator_ask ask.Waiting
 admin_wants action.Admit id owner body = admit_wants body
 admin_wants action.Policy id owner body = policy_ask policy.Policy

@@ -2,7 +2,7 @@
 use Rattle.std.specs.Prelude.{ℕ, List, ◌++◌, Bool, codes, decimal, if◌then◌else◌}
 use Rattle.admin_wire.specs.Refused.{refused_text}
 use Rattle.desk_state.specs.declared.refusal.Refusal.{Refusal}
-use Rattle.desk_state.specs.declared.refusal.Refusal.TheVariants.{UnknownUser, NameTaken, BadName, UnknownMachine, KeyUnknown, KeyExpired, KeyUsed, TagNotOwned, TagUndefined, NodeKeyTaken, PolicyRefused, NotLive, Full, AddressesSpent, UserHasMachines, PendingUnknown, EntropyFault}
+use Rattle.desk_state.specs.declared.refusal.Refusal.TheVariants.{UnknownUser, NameTaken, BadName, UnknownMachine, KeyUnknown, KeyExpired, KeyUsed, TagNotOwned, TagUndefined, NodeKeyTaken, RouteNotAdvertised, RouteOverlaps, PolicyRefused, NotLive, Full, AddressesSpent, UserHasMachines, PendingUnknown, EntropyFault}
 use Rattle.desk_state.specs.declared.refusal.Scarce.{Scarce}
 use Rattle.desk_state.specs.declared.refusal.Scarce.TheVariants as scarce
 use Rattle.tailnet_desk.specs.declared.reply.Loss.{Loss}
@@ -33,6 +33,8 @@ refusal_status is_machine PendingUnknown = 404
 refusal_status is_machine NameTaken = 409
 refusal_status is_machine BadName = 409
 refusal_status is_machine NodeKeyTaken = 409
+refusal_status is_machine RouteNotAdvertised = 409
+refusal_status is_machine RouteOverlaps = 409
 refusal_status is_machine UserHasMachines = 409
 refusal_status is_machine (PolicyRefused code place) = 422
 refusal_status is_machine EntropyFault = 500
@@ -51,6 +53,8 @@ refusal_body KeyUsed = error_body (codes "KeyUsed")
 refusal_body TagNotOwned = error_body (codes "TagNotOwned")
 refusal_body TagUndefined = error_body (codes "TagUndefined")
 refusal_body NodeKeyTaken = error_body (codes "NodeKeyTaken")
+refusal_body RouteNotAdvertised = error_body (codes "RouteNotAdvertised")
+refusal_body RouteOverlaps = error_body (codes "RouteOverlaps")
 refusal_body (PolicyRefused code place) = refused_text code place
 refusal_body NotLive = error_body (codes "NotLive")
 refusal_body (Full kind) =

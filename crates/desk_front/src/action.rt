@@ -27,6 +27,7 @@ pub enum OperatorAction {
     ExpireNode,
     Rename,
     SetTags,
+    SetRoutes,
     Waiting,
     Admit,
     Policy,
@@ -88,6 +89,7 @@ pub(crate) fn action_of(route: Route, method: &Method) -> Option<Action>
         Route::NodeExpire => if_operator(method, "POST", OperatorAction::ExpireNode),
         Route::NodeRename => if_operator(method, "POST", OperatorAction::Rename),
         Route::NodeTags => if_operator(method, "POST", OperatorAction::SetTags),
+        Route::NodeRoutes => if_operator(method, "POST", OperatorAction::SetRoutes),
         Route::Waiting => if_operator(method, "GET", OperatorAction::Waiting).or(if_operator(
             method,
             "POST",

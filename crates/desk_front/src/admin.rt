@@ -10,7 +10,7 @@ use crate::want::Wanted;
 use admin_asks::OperatorAsk;
 use admin_wire::{
     AdmitForm, read_admit_form, read_empty_form, read_expiry_form, read_key_form, read_rename_form,
-    read_tags_form, read_user_form,
+    read_routes_form, read_tags_form, read_user_form,
 };
 use http::StatusCode;
 use path_routes::text_of;
@@ -115,6 +115,17 @@ fn set_tags_wants(alloc: Global, id: u32, body: &[u8]) -> Result<Wanted, NoMemor
 }
 
 #[tactic(auto, using(crate::proofs::FaultLemmas::faulty))]
+fn set_routes_wants(alloc: Global, id: u32, body: &[u8]) -> Result<Wanted, NoMemory>
+    ensures value { IfOk result (λ w. w ≡ spec.set_routes_wants id body.now) }
+    ensures sound { IfOk result IsSound }
+{
+    match read_routes_form(alloc, body) {
+        Ok(routes) => Ok(operator_ask(OperatorAsk::SetRoutes { id, routes })),
+        Err(fault) => body_answer(alloc, fault),
+    }
+}
+
+#[tactic(auto, using(crate::proofs::FaultLemmas::faulty))]
 fn admit_wants(alloc: Global, body: &[u8]) -> Result<Wanted, NoMemory>
     ensures value { IfOk result (λ w. w ≡ spec.admit_wants body.now) }
     ensures sound { IfOk result IsSound }
@@ -171,6 +182,7 @@ pub(crate) fn admin_wants(
         OperatorAction::ExpireNode => expire_node_wants(alloc, id, body),
         OperatorAction::Rename => rename_wants(alloc, id, body),
         OperatorAction::SetTags => set_tags_wants(alloc, id, body),
+        OperatorAction::SetRoutes => set_routes_wants(alloc, id, body),
         OperatorAction::Waiting => Ok(operator_ask(OperatorAsk::Waiting)),
         OperatorAction::Admit => admit_wants(alloc, body),
         OperatorAction::Policy => Ok(policy_ask(PolicyAsk::Policy)),

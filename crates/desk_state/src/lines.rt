@@ -7,6 +7,7 @@ use crate::life::{Snapshot, is_live, is_live_with, is_online, presence_of};
 use crate::presence::Presence;
 use net_addr::Prefix;
 use net_rows::{AuthKey, Machine, Tables, User};
+use route_rules::served_routes;
 use std::alloc::Global;
 use tail_base::{Duplicate, Items, NoMemory, Text};
 
@@ -18,7 +19,8 @@ pub struct NodeLine {
     pub login: Text,
     pub live: bool,
     pub online: bool,
-    /// The approved routes in effect; none, as long as no route can be approved.
+    /// The approved routes in effect, and behind them both exit routes of an exit node. They don't
+    /// depend on whether the machine is live.
     pub served: Items<Prefix>,
 }
 
@@ -56,20 +58,21 @@ pub fn key_line(alloc: Global, tables: &Tables, row: AuthKey) -> Result<KeyLine,
 
 fn line_of(
     alloc: Global,
-    tables: &Tables,
+    at: &Snapshot<'_>,
     row: Machine,
     live: bool,
     online: bool,
 ) -> Result<NodeLine, NoMemory>
-    ensures value { IfOk result (λ line. line ≡ line_of tables.now.rows.users row live online) }
+    ensures value { IfOk result (λ line. line ≡ line_of at.now row live online) }
 {
-    let login = login_of(alloc, tables, row.user)?;
+    let login = login_of(alloc, at.tables, row.user)?;
+    let served = served_routes(alloc, at.policy.policy(), at.tables, &row)?;
     Ok(NodeLine {
         row,
         login,
         live,
         online,
-        served: Items::new(alloc),
+        served,
     })
 }
 
@@ -79,7 +82,7 @@ pub fn node_line(alloc: Global, at: &Snapshot<'_>, row: Machine) -> Result<NodeL
 {
     let live = is_live(at, &row);
     let online = is_online(presence_of(at.presence, row.id));
-    line_of(alloc, at.tables, row, live, online)
+    line_of(alloc, at, row, live, online)
 }
 
 /// A machine that is offline from now on, as an operator is shown it.
@@ -87,5 +90,5 @@ pub fn offline_line(alloc: Global, at: &Snapshot<'_>, row: Machine) -> Result<No
     ensures value { IfOk result (λ line. line ≡ offline_line at.now row) }
 {
     let live = is_live_with(at, Some(Presence::OfflineSince(at.time)), &row);
-    line_of(alloc, at.tables, row, live, false)
+    line_of(alloc, at, row, live, false)
 }

@@ -35,6 +35,10 @@ pub enum Refusal {
     TagUndefined,
     /// Another machine has that node key.
     NodeKeyTaken,
+    /// The machine doesn't advertise that route, or, of the exit routes, not both.
+    RouteNotAdvertised,
+    /// The route has addresses of tailnets.
+    RouteOverlaps,
     /// The text is no policy that may be kept: its first fault.
     PolicyRefused { code: PolicyCode, place: Text },
     /// The machine isn't live any more.

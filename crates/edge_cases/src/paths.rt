@@ -13,7 +13,7 @@ const NOWHERE: [&str; 14] = [
     "/api/v1/node/2147483648",
     "/api/v1/node/0",
     "/api/v1/node/12345678901",
-    "/api/v1/node/7/routes",
+    "/api/v1/node/7/route",
     "/api/v1/node/x/tags",
     "/api/v1/node//tags",
     "/api/v1/sweep/1",

@@ -12,8 +12,8 @@ use Rattle.net_rows.specs.declared.user.User.{User}
 use Rattle.net_rows.proofs.Members.{cut_member, first_member, no_member, rest_member}
 use Rattle.net_rows.proofs.Sounds.{sound_of}
 use Rattle.policy_rows.specs.declared.policy.Policy.{Policy}
-use Rattle.policy_eval.specs.Sites.{is_among, site_of, sites_of}
-use Rattle.policy_eval.specs.declared.site.Site.{Site}
+use Rattle.policy_sites.specs.Sites.{is_among, site_of, sites_of}
+use Rattle.policy_sites.specs.declared.site.Site.{Site}
 use Rattle.filter_compile.specs.Unrestricted.{HasBothFamilies}
 
 families_at : (policy : Option Policy) (users : List User) (r : Machine) → MachineKeeps users r → HasBothFamilies (site_of policy users r)

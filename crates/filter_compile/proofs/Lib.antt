@@ -1,4 +1,5 @@
 pub mod FamilyLemmas
+pub mod IsolationLemmas
 pub mod KeptLemmas
 pub mod ListLemmas
 pub mod OwnLemmas

@@ -8,12 +8,13 @@ use Rattle.net_addr.specs.Bits.{Address, Block}
 use Rattle.range_sets.specs.Sets.{some_holds}
 use Rattle.tail_base.proofs.Bools.{same_tests}
 use Rattle.net_rows.proofs.Members.{find_member, find_none, list_any_found, list_any_is}
-use Rattle.policy_eval.specs.Covers.{is_own}
-use Rattle.policy_eval.specs.Ends.{holder_of}
-use Rattle.policy_eval.specs.Sites.{AreDistinct, site_has}
-use Rattle.policy_eval.specs.declared.end.Holder.{Holder}
-use Rattle.policy_eval.specs.declared.site.Site.{Site}
-use Rattle.policy_eval.proofs.SetLemmas.{address_held, or_assoc, or_false, some_holds-push}
+use Rattle.policy_sites.specs.Covers.{is_own}
+use Rattle.policy_sites.specs.Ends.{holder_of}
+use Rattle.policy_sites.specs.Sites.{AreDistinct, site_has}
+use Rattle.policy_sites.specs.declared.end.Holder.{Holder}
+use Rattle.policy_sites.specs.declared.site.Site.{Site}
+use Rattle.std.proofs.Math.Bool.{or-false, or_assoc}
+use Rattle.policy_sites.proofs.SetLemmas.{address_held, some_holds-push}
 use Rattle.filter_compile.specs.Filters.{is_of_own, own_site_has}
 
 held_found : (test : Holder → Bool) (addr : Address) (sites : List Site) → AreDistinct sites → (o : Option Site) → find (site_has addr) sites ≡ o
@@ -50,4 +51,4 @@ sites_more m addr sites i site out new all lt is put told =
     ap (λ (b : Bool). b || rest) put ∙ (or_assoc (some_holds out addr) (own_site_has m addr site) rest
     ∙ (ap (λ (zs : List Site). some_holds out addr || list_any (own_site_has m addr) zs) (sym cut) ∙ told))
 
-pub ruleset own_steps = (some_holds-push, address_held, own_held, or_assoc, or_false)
+pub ruleset own_steps = (some_holds-push, address_held, own_held, or_assoc, or-false)

@@ -2,6 +2,7 @@
 use Rattle.std.proofs.Common.{◌≡◌, ◌<◌, ◌⊎◌, ◌&&◌, ◌||◌, ◌==◌, ℕ, suc, Bool, true, false, not, List, [], ◌∷◌, length, arith, refl, ap, sym, ◌∙◌, inl, inr}
 use Rattle.std.specs.Prelude.{Contains, flat_map}
 use Rattle.std.specs.List.{list_any}
+use Rattle.std.proofs.Math.Bool.{or-false}
 use Rattle.std.proofs.lemmas.List.Folds.{list_any-append}
 use Rattle.std.proofs.lemmas.Bool.{and_from, and_parts, both_ways, cases_Bool, ne_eqb, or_cases, or_left, or_right}
 use Rattle.net_addr.specs.Bits.{Address, Block, family_size}
@@ -23,15 +24,15 @@ use Rattle.tailcfg.specs.declared.filter.Sources.TheVariants.{Any, Only}
 use Rattle.tail_base.proofs.Bools.{same_tests}
 use Rattle.tail_base.proofs.Searches.{any_weaker}
 use Rattle.net_rows.proofs.Members.{list_any_found, list_any_is}
-use Rattle.policy_eval.specs.Covers.{covers, dest_covers, is_own_devices, joins_own}
-use Rattle.policy_eval.specs.Ends.{end_at}
+use Rattle.policy_sites.specs.Covers.{covers, dest_covers, is_own_devices, joins_own}
+use Rattle.policy_sites.specs.Ends.{end_at}
 use Rattle.policy_eval.specs.Expansion.{entry_covers, source_covers}
-use Rattle.policy_eval.specs.Grants.{entry_grants, ports_hold, rule_grants, some_source}
-use Rattle.policy_eval.specs.Reach.{AreSoundRules, IsSoundRule}
-use Rattle.policy_eval.specs.Sites.{AreApart, AreDistinct, serves, site_has}
-use Rattle.policy_eval.specs.declared.end.End.{End}
-use Rattle.policy_eval.specs.declared.site.Site.{Site}
-use Rattle.policy_eval.proofs.EndLemmas.{beyond_end, joins_nobody, own_end, served_cases}
+use Rattle.policy_sites.specs.Grants.{entry_grants, ports_hold, rule_grants, some_source}
+use Rattle.policy_sites.specs.Reach.{AreSoundRules, IsSoundRule}
+use Rattle.policy_sites.specs.Sites.{AreServedApart, AreDistinct, serves, site_has}
+use Rattle.policy_sites.specs.declared.end.End.{End}
+use Rattle.policy_sites.specs.declared.site.Site.{Site}
+use Rattle.policy_sites.proofs.EndLemmas.{beyond_end, joins_nobody, own_end, served_cases}
 use Rattle.filter_compile.specs.Admits.{AdmitsGranted, dest_admits, rule_admits, source_admits}
 use Rattle.filter_compile.specs.Filters.{entry_dests, is_of_own, own_dests, own_rule, own_source_covers, plain_rule, rule_filter, rules_filter, sources_of}
 use Rattle.filter_compile.specs.Parts.{dest_ranges, is_all, rule_or_none, with_ports}
@@ -41,10 +42,6 @@ use Rattle.filter_compile.proofs.ListLemmas.{any_and, any_and_behind, any_flat_m
 -- the canonical prefixes hold the set
 canonical_held : (held : Address → Bool) (addr : Address) → addr.bits < family_size addr.v6 → some_holds (canonical held) addr ≡ held addr
 canonical_held held addr small = (canonical_is held).same addr small
-
-or_false : (a : Bool) → (a || false) ≡ a
-or_false true = refl
-or_false false = refl
 
 and_false : (a : Bool) → (a && false) ≡ false
 and_false true = refl
@@ -58,13 +55,13 @@ rule_or_none_admits : (x y : Address) (proto port : ℕ) (protos : List ℕ) (so
 rule_or_none_admits x y proto port protos sources [] =
     ap (λ rules. list_any (rule_admits x y proto port) rules) (left_out protos sources [] refl) ∙ sym (and_false (list_any (λ p. p == proto) protos && source_admits sources x))
 rule_or_none_admits x y proto port protos Any (d ∷ ds) =
-    ap (λ rules. list_any (rule_admits x y proto port) rules) (kept_rule protos Any (d ∷ ds) (some_first d ds) refl) ∙ or_false (rule_admits x y proto port (record { sources = Any; dests = d ∷ ds; protos = protos }))
+    ap (λ rules. list_any (rule_admits x y proto port) rules) (kept_rule protos Any (d ∷ ds) (some_first d ds) refl) ∙ or-false (rule_admits x y proto port (record { sources = Any; dests = d ∷ ds; protos = protos }))
 rule_or_none_admits x y proto port protos (Only []) (d ∷ ds) =
     ap (λ rules. list_any (rule_admits x y proto port) rules) (from_nobody protos (Only []) (d ∷ ds) refl)
     ∙ sym (ap (λ b. b && list_any (dest_admits y proto port) (d ∷ ds)) (and_false (list_any (λ p. p == proto) protos)))
 rule_or_none_admits x y proto port protos (Only (p ∷ ps)) (d ∷ ds) =
     ap (λ rules. list_any (rule_admits x y proto port) rules) (kept_rule protos (Only (p ∷ ps)) (d ∷ ds) (some_first d ds) (ne_eqb (suc (length ps)) 0 (λ e. omega arith)))
-    ∙ or_false (rule_admits x y proto port (record { sources = Only (p ∷ ps); dests = d ∷ ds; protos = protos }))
+    ∙ or-false (rule_admits x y proto port (record { sources = Only (p ∷ ps); dests = d ∷ ds; protos = protos }))
 
 -- ---- sources
 
@@ -160,13 +157,13 @@ rule_filter_admits groups sites m x y proto port r from small sound =
 
 dest_split : (groups : List Group) (to : Selector) (s d : End) → dest_covers groups to s d ≡ (covers groups to d || (is_own_devices to && joins_own s d))
 dest_split groups All s d = refl
-dest_split groups (Net net) s d = sym (or_false (covers groups (Net net) d))
-dest_split groups (User login) s d = sym (or_false (covers groups (User login) d))
-dest_split groups (OfGroup name) s d = sym (or_false (covers groups (OfGroup name) d))
-dest_split groups (Tagged tag) s d = sym (or_false (covers groups (Tagged tag) d))
-dest_split groups Member s d = sym (or_false (covers groups Member d))
-dest_split groups AllTagged s d = sym (or_false (covers groups AllTagged d))
-dest_split groups Internet s d = sym (or_false (covers groups Internet d))
+dest_split groups (Net net) s d = sym (or-false (covers groups (Net net) d))
+dest_split groups (User login) s d = sym (or-false (covers groups (User login) d))
+dest_split groups (OfGroup name) s d = sym (or-false (covers groups (OfGroup name) d))
+dest_split groups (Tagged tag) s d = sym (or-false (covers groups (Tagged tag) d))
+dest_split groups Member s d = sym (or-false (covers groups Member d))
+dest_split groups AllTagged s d = sym (or-false (covers groups AllTagged d))
+dest_split groups Internet s d = sym (or-false (covers groups Internet d))
 dest_split groups OwnDevices s d = refl
 
 -- of a flow to one of the machine's addresses
@@ -201,7 +198,7 @@ own_grants groups sites m x y proto port e distinct inside own h =
     )
 
 -- `autogroup:self` joins a machine to what another serves of its own addresses alone: beside them nobody holds the end
-joined_own : (sites : List Site) (m : Site) (s : End) (y : Address) → AreApart sites → Contains sites m → serves m y ≡ true → joins_own s (end_at sites y) ≡ true → site_has y m ≡ true
+joined_own : (sites : List Site) (m : Site) (s : End) (y : Address) → AreServedApart sites → Contains sites m → serves m y ≡ true → joins_own s (end_at sites y) ≡ true → site_has y m ≡ true
 joined_own sites m s y apart inside served joined =
     elim (served_cases m y served) [
       | inl own ↦ own
@@ -211,7 +208,7 @@ joined_own sites m s y apart inside served joined =
     ]
 
 -- what is granted is a hit of the one kind or the other
-grants_hit : (groups : List Group) (sites : List Site) (m : Site) (x y : Address) (proto port : ℕ) (e : Dest) → AreDistinct sites → AreApart sites → Contains sites m → serves m y ≡ true
+grants_hit : (groups : List Group) (sites : List Site) (m : Site) (x y : Address) (proto port : ℕ) (e : Dest) → AreDistinct sites → AreServedApart sites → Contains sites m → serves m y ≡ true
     → entry_grants groups (end_at sites x) (end_at sites y) proto port e ≡ true
     → (plain_hit groups sites m y proto port e ≡ true) ⊎ ((is_of_own sites m x ≡ true) × (own_hit m y proto port e ≡ true))
 grants_hit groups sites m x y proto port e distinct apart inside served h =
@@ -230,7 +227,7 @@ grants_hit groups sites m x y proto port e distinct apart inside served h =
           )
     ]
 
-rule_passes : (groups : List Group) (sites : List Site) (m : Site) (x y : Address) (proto port : ℕ) (r : Rule) → AreDistinct sites → AreApart sites → Contains sites m
+rule_passes : (groups : List Group) (sites : List Site) (m : Site) (x y : Address) (proto port : ℕ) (r : Rule) → AreDistinct sites → AreServedApart sites → Contains sites m
     → (plain_passes groups sites m x y proto port r || own_passes groups sites m x y proto port r) ≡ (serves m y && rule_grants groups (end_at sites x) (end_at sites y) proto port r)
 rule_passes groups sites m x y proto port r distinct apart inside =
     let s = end_at sites x in
@@ -267,7 +264,7 @@ rule_passes groups sites m x y proto port r distinct apart inside =
     ])
 
 -- A machine's filter admits exactly the flows to what the machine serves that are granted.
-pub filter_admits : (groups : List Group) (rules : List Rule) (sites : List Site) (m : Site) → AreDistinct sites → AreApart sites → AreSoundRules rules → Contains sites m
+pub filter_admits : (groups : List Group) (rules : List Rule) (sites : List Site) (m : Site) → AreDistinct sites → AreServedApart sites → AreSoundRules rules → Contains sites m
     → AdmitsGranted (record { groups = groups; rules = rules; sites = sites }) m (rules_filter groups rules sites m)
 filter_admits groups rules sites m distinct apart sound inside x y proto port from small =
     let granted = rule_grants groups (end_at sites x) (end_at sites y) proto port in

@@ -11,8 +11,8 @@ use Rattle.policy_rows.specs.declared.group.Group.{Group}
 use Rattle.policy_rows.specs.declared.rule.Rule.{Rule}
 use Rattle.tailcfg.specs.declared.filter.DestRange.{DestRange}
 use Rattle.policy_eval.specs.Expansion.{IsSetOf, entry_covers, source_covers}
-use Rattle.policy_eval.specs.Sites.{serves}
-use Rattle.policy_eval.specs.declared.site.Site.{Site}
+use Rattle.policy_sites.specs.Sites.{serves}
+use Rattle.policy_sites.specs.declared.site.Site.{Site}
 use Rattle.filter_compile.specs.Filters.{entry_dests}
 use Rattle.filter_compile.specs.Parts.{dest_ranges, with_ports}
 

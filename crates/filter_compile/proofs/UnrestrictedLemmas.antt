@@ -2,6 +2,7 @@
 use Rattle.std.proofs.Common.{◌≡◌, ◌≢◌, ◌&&◌, ◌==◌, ◌<◌, ◌≤◌, ◌+◌, ◌^◌, ◌||◌, ℕ, zero, suc, Bool, true, false, List, [], ◌∷◌, ◌++◌, arith, refl, ap, sym, ◌∙◌, inl, inr, subst}
 use Rattle.std.specs.Prelude.{flat_map, map}
 use Rattle.std.specs.Bool.{beq}
+use Rattle.std.proofs.Math.Bool.{or-false}
 use Rattle.std.proofs.Math.Nat.{two-pow-succ}
 use Rattle.std.proofs.lemmas.Bool.{and_from, cases_lt, eq-eqb, ne_eqb, or_left}
 use Rattle.std.proofs.lemmas.List.{append-nil}
@@ -21,10 +22,10 @@ use Rattle.tailcfg.specs.declared.filter.DestRange.{DestRange}
 use Rattle.tailcfg.specs.declared.filter.FilterRule.{FilterRule}
 use Rattle.tailcfg.specs.declared.filter.Sources.TheVariants.{Any}
 use Rattle.route_rules.specs.Serving.{serves_with}
-use Rattle.policy_eval.specs.Grants.{open_rule}
-use Rattle.policy_eval.specs.Sites.{serves}
-use Rattle.policy_eval.specs.declared.site.Site.{Site}
-use Rattle.policy_eval.proofs.EndLemmas.{serves_own}
+use Rattle.policy_sites.specs.Grants.{open_rule}
+use Rattle.policy_sites.specs.Sites.{serves}
+use Rattle.policy_sites.specs.declared.site.Site.{Site}
+use Rattle.policy_sites.proofs.EndLemmas.{serves_own}
 use Rattle.filter_compile.specs.Filters.{rules_filter}
 use Rattle.filter_compile.specs.Parts.{rule_or_none, with_ports}
 use Rattle.filter_compile.specs.Unrestricted.{HasBothFamilies, at_all_ports, own_two, unrestricted}
@@ -53,16 +54,12 @@ single v6 h (suc n) base a low high has other =
       ) refl
     ]
 
-or_false : (a : Bool) → (a || false) ≡ a
-or_false true = refl
-or_false false = refl
-
 -- the prefixes of an address of each family
 pair : (a b : ℕ) → a < 2 ^ 32 → b < 2 ^ 128
     → canonical (λ addr. address_eq (record { v6 = false; bits = a }) addr || address_eq (record { v6 = true; bits = b }) addr)
     ≡ prefix_of_addr (record { v6 = false; bits = a }) ∷ prefix_of_addr (record { v6 = true; bits = b }) ∷ []
 pair a b small less =
-    let first = single false (λ x. (a == x) || false) 32 0 a (omega arith) (omega arith) (or_false (a == a) ∙ eq-eqb a a refl) (λ x ne. or_false (a == x) ∙ ne_eqb a x (λ e. ne (sym e))) in
+    let first = single false (λ x. (a == x) || false) 32 0 a (omega arith) (omega arith) (or-false (a == a) ∙ eq-eqb a a refl) (λ x ne. or-false (a == x) ∙ ne_eqb a x (λ e. ne (sym e))) in
     let second = single true (λ x. b == x) 128 0 b (omega arith) (omega arith) (eq-eqb b b refl) (λ x ne. ne_eqb b x (λ e. ne (sym e))) in
     ap (λ ps. ps ++ greatest_in true (λ x. b == x) 128 0) first ∙ ap (λ ps. block_at false 0 a ∷ ps) second
 

@@ -10,11 +10,11 @@ use Rattle.tailcfg.specs.declared.filter.DestRange.{DestRange}
 use Rattle.tailcfg.specs.declared.filter.FilterRule.{FilterRule}
 use Rattle.tailcfg.specs.declared.filter.Sources.{Sources}
 use Rattle.tailcfg.specs.declared.filter.Sources.TheVariants as src
-use Rattle.policy_eval.specs.Ends.{end_at}
+use Rattle.policy_sites.specs.Ends.{end_at}
 use Rattle.policy_eval.specs.Expansion.{Expansion}
-use Rattle.policy_eval.specs.Grants.{some_rule_grants}
-use Rattle.policy_eval.specs.Sites.{serves}
-use Rattle.policy_eval.specs.declared.site.Site.{Site}
+use Rattle.policy_sites.specs.Grants.{some_rule_grants}
+use Rattle.policy_sites.specs.Sites.{serves}
+use Rattle.policy_sites.specs.declared.site.Site.{Site}
 
 -- the sources are `*`, or one of their prefixes holds the address
 abbrev pub source_admits : Sources → Address → Bool

@@ -13,12 +13,12 @@ use Rattle.tailcfg.specs.declared.filter.DestRange.{DestRange}
 use Rattle.tailcfg.specs.declared.filter.FilterRule.{FilterRule}
 use Rattle.tailcfg.specs.declared.filter.Sources.{Sources}
 use Rattle.tailcfg.specs.declared.filter.Sources.TheVariants as src
-use Rattle.policy_eval.specs.Covers.{is_own, is_own_devices}
-use Rattle.policy_eval.specs.Ends.{end_at, holder_of}
+use Rattle.policy_sites.specs.Covers.{is_own, is_own_devices}
+use Rattle.policy_sites.specs.Ends.{end_at, holder_of}
 use Rattle.policy_eval.specs.Expansion.{entry_covers, source_covers}
-use Rattle.policy_eval.specs.Grants.{groups_of, rules_of}
-use Rattle.policy_eval.specs.Sites.{serves, site_has}
-use Rattle.policy_eval.specs.declared.site.Site.{Site}
+use Rattle.policy_sites.specs.Grants.{groups_of, rules_of}
+use Rattle.policy_sites.specs.Sites.{serves, site_has}
+use Rattle.policy_sites.specs.declared.site.Site.{Site}
 use Rattle.filter_compile.specs.Parts.{dest_ranges, is_all, rule_or_none}
 
 -- a rule's sources: `*`, if it is one of them, and else the addresses that they cover

@@ -1,4 +1,5 @@
 pub mod Admits
 pub mod Filters
+pub mod Isolation
 pub mod Parts
 pub mod Unrestricted

@@ -6,8 +6,8 @@ use Rattle.range_sets.specs.Canonical.{canonical}
 use Rattle.tailcfg.specs.declared.filter.DestRange.{DestRange}
 use Rattle.tailcfg.specs.declared.filter.FilterRule.{FilterRule}
 use Rattle.tailcfg.specs.declared.filter.Sources.TheVariants as src
-use Rattle.policy_eval.specs.Sites.{serves}
-use Rattle.policy_eval.specs.declared.site.Site.{Site}
+use Rattle.policy_sites.specs.Sites.{serves}
+use Rattle.policy_sites.specs.declared.site.Site.{Site}
 
 -- one of the machine's addresses is of IPv4, and the other of IPv6
 pub record HasBothFamilies (m : Site) : Type 0 where

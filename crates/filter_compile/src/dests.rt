@@ -1,15 +1,16 @@
 //! The destinations of a rule, as a filter has them.
 ghost use Rattle.std.specs.Prelude.{◌≡◌, ◌<◌, ◌++◌, [], IfOk, OnOk, flat_map, length, slice_index_or, if◌then◌else◌};
 ghost use Rattle.policy_rows.specs.declared.rule.Rule.{Rule};
-ghost use Rattle.policy_eval.specs.Covers.{is_own_devices};
+ghost use Rattle.policy_sites.specs.Covers.{is_own_devices};
 ghost use Rattle.filter_compile.specs.Filters.{entry_dests, own_dests};
 ghost use Rattle.filter_compile.specs.Parts.{with_ports};
 
 use crate::dest_ranges::{add_prefixes, add_shared};
 use crate::own::{own_prefixes, served_set};
 use net_addr::Prefix;
-use policy_eval::{Expanded, Site, is_own_devices};
+use policy_eval::Expanded;
 use policy_rows::{Dest, Rule};
+use policy_sites::{Site, is_own_devices};
 use std::alloc::Global;
 use tail_base::{Items, NoMemory};
 use tailcfg::DestRange;

@@ -1,8 +1,8 @@
 //! Packet filters.
 ghost use Rattle.std.specs.Prelude.{◌≡◌, ◌<◌, ◌++◌, Contains, IfOk, OnOk, length, slice_index_or};
 ghost use Rattle.policy_rows.specs.declared.rule.Rule.{Rule};
-ghost use Rattle.policy_eval.specs.Sites.{AreDistinct};
-ghost use Rattle.policy_eval.specs.declared.site.Site.{Site};
+ghost use Rattle.policy_sites.specs.Sites.{AreDistinct};
+ghost use Rattle.policy_sites.specs.declared.site.Site.{Site};
 ghost use Rattle.range_sets.specs.Canonical.{canonical};
 ghost use Rattle.filter_compile.specs.Admits.{AdmitsGranted};
 ghost use Rattle.filter_compile.specs.Filters.{own_rule, own_source_covers, plain_rule, rule_filter, rules_filter, sources_of};
@@ -12,8 +12,9 @@ use crate::dests::{own_dests, plain_dests};
 use crate::own::own_set;
 use crate::rule_parts::{add_rule, sources_covering};
 use net_addr::Prefix;
-use policy_eval::{Expanded, Site, has_own_devices};
+use policy_eval::Expanded;
 use policy_rows::Rule;
+use policy_sites::{Site, has_own_devices};
 use std::alloc::Global;
 use tail_base::{Items, NoMemory};
 use tailcfg::{FilterRule, Sources};

@@ -10,4 +10,7 @@ mod protocols;
 mod rule_parts;
 
 pub use filter::filter_for;
-pub use laws::{a_filter_admits_what_is_granted, a_filter_without_rules_is_open};
+pub use laws::{
+    a_filter_admits_what_is_granted, a_filter_without_rules_is_open,
+    who_does_not_reach_a_machine_adds_nothing,
+};

@@ -4,12 +4,12 @@ ghost use Rattle.std.specs.List.{list_any};
 ghost use Rattle.net_addr.specs.Bits.{Address};
 ghost use Rattle.range_sets.specs.Canonical.{canonical};
 ghost use Rattle.range_sets.specs.Sets.{has, some_holds};
-ghost use Rattle.policy_eval.specs.Sites.{AreDistinct, serves, site_has};
+ghost use Rattle.policy_sites.specs.Sites.{AreDistinct, serves, site_has};
 ghost use Rattle.filter_compile.specs.Filters.{is_of_own, own_site_has};
 
 use crate::dest_ranges::shared_prefixes;
 use net_addr::Prefix;
-use policy_eval::{Site, are_own};
+use policy_sites::{Site, are_own};
 use range_sets::RangeSet;
 use route_rules::served_with;
 use std::alloc::Global;

@@ -5,10 +5,10 @@ use Rattle.net_rows.specs.Damage.{damage}
 use Rattle.net_rows.specs.declared.rows.Rows.{Rows}
 use Rattle.settings.specs.declared.fields.SettingsFields.{SettingsFields}
 use Rattle.policy_rows.specs.declared.policy.Policy.{Policy}
-use Rattle.policy_eval.specs.Grants.{groups_of, rules_of}
-use Rattle.policy_eval.specs.Reach.{AreSoundRules}
-use Rattle.policy_eval.specs.Sites.{AreApart, AreDistinct}
-use Rattle.policy_eval.proofs.SiteLemmas.{one_site, sites_apart}
+use Rattle.policy_sites.specs.Grants.{groups_of, rules_of}
+use Rattle.policy_sites.specs.Reach.{AreSoundRules}
+use Rattle.policy_sites.specs.Sites.{AreServedApart, AreDistinct}
+use Rattle.policy_sites.proofs.SiteLemmas.{one_site, sites_apart}
 use Rattle.filter_compile.proofs.RuleLemmas.{filter_admits}
 use Rattle.peer_view.specs.Seen.{Node, Seen, seen_of, sites_seen}
 use Rattle.peer_view.proofs.ListLemmas.{map_member}
@@ -16,7 +16,7 @@ use Rattle.peer_view.proofs.WorldLaws.{sites_are}
 use Rattle.fresh_maps.specs.Fresh.{fresh}
 use Rattle.fresh_maps.specs.Granted.{MeetsPolicy}
 
-pub admits_granted : (w : Seen) (m : Node) → AreDistinct (sites_seen w) → AreApart (sites_seen w) → AreSoundRules (rules_of w.policy) → Contains w.nodes m → MeetsPolicy w m (fresh w m).filter
+pub admits_granted : (w : Seen) (m : Node) → AreDistinct (sites_seen w) → AreServedApart (sites_seen w) → AreSoundRules (rules_of w.policy) → Contains w.nodes m → MeetsPolicy w m (fresh w m).filter
 admits_granted w m distinct apart sound inside =
     filter_admits (groups_of w.policy) (rules_of w.policy) (sites_seen w) m.site distinct apart sound (map_member (λ (n : Node). n.site) w.nodes m inside)
 
@@ -26,5 +26,5 @@ pub map_admits : (settings : SettingsFields) (policy : Option Policy) (rows : Ro
 map_admits settings policy rows live online m kept sound inside =
     let w = seen_of settings policy rows live online in
     let distinct : AreDistinct (sites_seen w) = rw (sites_are settings policy rows live online) (one_site policy rows live kept) in
-    let apart : AreApart (sites_seen w) = rw (sites_are settings policy rows live online) (sites_apart policy rows live kept) in
+    let apart : AreServedApart (sites_seen w) = rw (sites_are settings policy rows live online) (sites_apart policy rows live kept) in
     admits_granted w m distinct apart sound inside

@@ -1,4 +1,5 @@
 pub mod FilterLemmas
+pub mod IsolationLemmas
 pub mod OrderLemmas
 pub mod PeerLemmas
 pub mod ShownLemmas

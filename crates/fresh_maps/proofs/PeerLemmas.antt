@@ -4,8 +4,9 @@ use Rattle.std.specs.Prelude.{Contains, Some, filter, flat_map, map, slice_get}
 use Rattle.std.proofs.lemmas.Bool.{cases_Bool}
 use Rattle.net_rows.proofs.Members.{find_member, first_member, rest_member}
 use Rattle.net_rows.proofs.RowAt.{row_at_is}
-use Rattle.policy_eval.specs.declared.site.Site.{Site}
-use Rattle.policy_eval.proofs.CoverLemmas.{get_member, get_or_of}
+use Rattle.policy_sites.specs.declared.site.Site.{Site}
+use Rattle.std.proofs.lemmas.Option.{slice_get-get_or}
+use Rattle.policy_eval.proofs.CoverLemmas.{get_member}
 use Rattle.peer_view.specs.Seen.{IsSoundSeen, Node, Seen, node_with, sees, sites_seen, visible}
 use Rattle.peer_view.proofs.ListLemmas.{filter_member}
 use Rattle.fresh_maps.specs.Fresh.{node_seen}
@@ -47,5 +48,5 @@ visible_inside w v nodes p same inside = filter_member (sees w v) w.nodes p (sub
 
 pub item_inside : (w : Seen) (v : Node) (made items : List Node) (i : ℕ) (p : Node) → made ≡ visible w v → items ≡ made → i < length items → p ≡ get_or items i p → Contains w.nodes p
 item_inside w v made items i p same all lt is =
-    let there : slice_get items i ≡ Some p = get_or_of items i p lt ∙ ap (λ (z : Node). Some z) (sym is) in
+    let there : slice_get items i ≡ Some p = slice_get-get_or items i p lt ∙ ap (λ (z : Node). Some z) (sym is) in
     visible_inside w v items p (all ∙ same) (get_member items i p there)

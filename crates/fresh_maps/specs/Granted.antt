@@ -2,9 +2,9 @@
 use Rattle.std.specs.Prelude.{◌≡◌, ◌<◌, ◌&&◌, ℕ, List}
 use Rattle.net_addr.specs.Bits.{Address, family_size}
 use Rattle.tailcfg.specs.declared.filter.FilterRule.{FilterRule}
-use Rattle.policy_eval.specs.Ends.{end_at}
-use Rattle.policy_eval.specs.Grants.{grants}
-use Rattle.policy_eval.specs.Sites.{serves}
+use Rattle.policy_sites.specs.Ends.{end_at}
+use Rattle.policy_sites.specs.Grants.{grants}
+use Rattle.policy_sites.specs.Sites.{serves}
 use Rattle.filter_compile.specs.Admits.{admits}
 use Rattle.peer_view.specs.Seen.{Node, Seen, sites_seen}
 

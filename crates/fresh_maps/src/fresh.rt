@@ -1,18 +1,21 @@
 //! Maps computed afresh.
-ghost use Rattle.std.specs.Prelude.{◌≡◌, ◌++◌, Contains, IfOk, IsSome, OnOk, Some};
+ghost use Rattle.std.specs.Prelude.{◌≡◌, ◌++◌, ◌∷◌, Contains, IfOk, IsSome, OnOk, Some};
+ghost use Rattle.peer_view.specs.Isolation.{only_seen};
 ghost use Rattle.peer_view.specs.Seen.{Node, node_with, sites_seen, visible};
+ghost use Rattle.peer_view.specs.Shown.{own_row};
 ghost use Rattle.fresh_maps.specs.Fresh.{fresh, node_seen, peers_of};
 ghost use Rattle.fresh_maps.specs.InOrder.{IsInOrder};
 ghost use Rattle.fresh_maps.specs.Granted.{MeetsPolicy};
+ghost use Rattle.fresh_maps.specs.Profiles.{owners_of};
 
 use crate::profile::owners_of;
 use crate::view::View;
 use filter_compile::filter_for;
 use peer_view::{LiveMachine, World, own_row, sees_machine, shown};
-use policy_eval::Site;
+use policy_sites::Site;
 use std::alloc::Global;
 use tail_base::{Duplicate, Items, NoMemory};
-use tailcfg::{Dns, NodeRow};
+use tailcfg::{Dns, NodeRow, Profile};
 
 /// Adds the live machine of the site, if the viewer sees it.
 fn add_visible<'b>(
@@ -84,30 +87,50 @@ fn dns_of(alloc: Global, world: &World<'_>) -> Result<Dns, NoMemory>
     })
 }
 
+/// The machine's own row, and the profiles of who owns it or a peer.
+fn own_row_with_owners(
+    alloc: Global,
+    world: &World<'_>,
+    machine: &LiveMachine<'_>,
+    peers: &[NodeRow],
+) -> Result<(NodeRow, Items<Profile>), NoMemory>
+    ensures value { IfOk result (λ made. (made.0 ≡ own_row world.now machine.now)
+        × (made.1 ≡ owners_of world.now.users (own_row world.now machine.now ∷ peers.now))) }
+{
+    let node = own_row(alloc, world, machine)?;
+    let profiles = owners_of(alloc, world.users(), &node, peers)?;
+    Ok((node, profiles))
+}
+
 /// The map of one of the world's live machines.
 fn map_of(alloc: Global, world: &World<'_>, machine: &LiveMachine<'_>) -> Result<View, NoMemory>
     requires here { Contains world.now.nodes machine.now }
     ensures value { IfOk result (λ view. view ≡ fresh world.now machine.now) }
 {
-    let node = own_row(alloc, world, machine)?;
+    let domain = world.fields().base_domain.copy(alloc)?;
+    let filter = filter_for(alloc, world.expanded(), machine.site)?;
     let peers = peers_of(alloc, world, machine)?;
-    let profiles = owners_of(alloc, world.users(), &node, peers.as_slice())?;
+    let dns = dns_of(alloc, world)?;
+    let (node, profiles) = own_row_with_owners(alloc, world, machine, peers.as_slice())?;
     Ok(View {
         node,
         peers,
-        filter: filter_for(alloc, world.expanded(), machine.site)?,
-        dns: dns_of(alloc, world)?,
-        domain: world.fields().base_domain.copy(alloc)?,
+        filter,
+        dns,
+        domain,
         profiles,
     })
 }
 
-/// The map of a live machine, computed afresh. It is in order, and its filter admits exactly the flows
-/// to what the machine serves that the policy grants.
+/// The map of a live machine, computed afresh. It is in order, its filter admits exactly the flows to
+/// what the machine serves that the policy grants, and without the machines that this one doesn't see
+/// it would be the same.
 pub fn fresh_map(alloc: Global, world: &World<'_>, machine: u32) -> Result<View, NoMemory>
     requires live { IsSome (node_with world.now machine) }
     ensures value { IfOk result (λ view. (m : Node) → node_with world.now machine ≡ Some m
         → view ≡ fresh world.now m) }
+    ensures isolated { IfOk result (λ view. (m : Node) → node_with world.now machine ≡ Some m
+        → view ≡ fresh (only_seen world.now m) m) }
     ensures order { IfOk result IsInOrder }
     ensures admits { IfOk result (λ view. (m : Node) → node_with world.now machine ≡ Some m
         → MeetsPolicy world.now m view.filter) }

@@ -22,12 +22,12 @@ pub struct View {
 impl Duplicate for View {
     fn copy(&self, alloc: Global) -> Result<Self, NoMemory> {
         Ok(View {
-            node: self.node.copy(alloc)?,
+            domain: self.domain.copy(alloc)?,
             peers: self.peers.copy(alloc)?,
             filter: self.filter.copy(alloc)?,
-            dns: self.dns.copy(alloc)?,
-            domain: self.domain.copy(alloc)?,
             profiles: self.profiles.copy(alloc)?,
+            dns: self.dns.copy(alloc)?,
+            node: self.node.copy(alloc)?,
         })
     }
 }

@@ -48,6 +48,10 @@ prefix_of a b h =
 prefix_is : (a : Block) → prefix_eq a a ≡ true
 prefix_is a = and_from (address_eq a.base a.base) (a.len == a.len) (address_is a.base a.base refl) (eq-eqb a.len a.len refl)
 
+-- the same routes pass
+pub routes_is : (routes : List Block) → pointwise prefix_eq routes routes ≡ true
+routes_is routes = lists_is prefix_eq prefix_is routes
+
 disco_of : (a b : DiscoKey) → a.0 ≡ b.0 → a ≡ b
 disco_of a b e = ap (λ (x : List ℕ). record a { 0 = x }) e
 

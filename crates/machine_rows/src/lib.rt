@@ -13,4 +13,4 @@ pub use entrant::{Entrant, expiry_of, joined};
 pub use laws::{kept_rows_stay, rows_that_stay_are_kept};
 pub use place::{Place, is_taken, place_for};
 pub use rows::{machine_row, pending_gone, row_change, row_replaced};
-pub use same::{same_row, same_told};
+pub use same::{same_routes, same_row, same_told};

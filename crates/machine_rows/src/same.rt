@@ -17,7 +17,8 @@ fn same_endpoints(was: &[Endpoint], told: &[Endpoint]) -> bool
     was == told
 }
 
-fn same_routes(was: &[Prefix], told: &[Prefix]) -> bool
+/// Whether routes are as they were, in their order.
+pub fn same_routes(was: &[Prefix], told: &[Prefix]) -> bool
     ensures value { result ≡ pointwise spec.prefix_eq was.now told.now }
 {
     was == told

@@ -9,7 +9,7 @@ use Rattle.net_rows.proofs.Members.{list_any_is}
 use Rattle.net_rows.proofs.RowAt.{row_at_is}
 use Rattle.policy_rows.specs.declared.policy.Policy.{Policy}
 use Rattle.settings.specs.declared.fields.SettingsFields.{SettingsFields}
-use Rattle.policy_eval.specs.Sites.{is_among}
+use Rattle.policy_sites.specs.Sites.{is_among}
 use Rattle.desk_state.specs.State.{State, is_live, live_ids}
 use Rattle.desk_state.specs.declared.presence.MachinePresence.{MachinePresence}
 use Rattle.peer_view.specs.Seen.{Node, Seen, live_node, node_with, seen_of}

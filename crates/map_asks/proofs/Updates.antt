@@ -26,7 +26,7 @@ use Rattle.machine_rows.proofs.Rests.{replaced_differs}
 use Rattle.machine_rows.proofs.Sameness.{told_kept}
 use Rattle.map_asks.specs.Asking.{asking}
 use Rattle.map_asks.specs.OneMap.{IsLiveRow, after_change, map_decision, map_for, one_map}
-use Rattle.map_asks.specs.Update.{given_or, told_host, told_row, told_routes, update, updated}
+use Rattle.map_asks.specs.Update.{told_or, told_host, told_row, told_routes, update, updated}
 use Rattle.map_asks.specs.declared.answer.MachineAnswer.TheVariants.{Updated}
 
 -- the machine that asks is one of the tables
@@ -51,7 +51,7 @@ asking_live s mk node m h =
 pub told_live : (s : State) (m : Machine) (u : Update) → IsLiveRow s m → IsLiveRow (after_change s (row_replaced s.rows (told_row m u))) (told_row m u)
 told_live s m u h = record { inside = put_there (λ (r : Machine). r.id) s.rows.machines (told_row m u); live = h.live }
 
-given_short : (given : Option (List ℕ)) (was : List ℕ) → IfSome given (λ text. length text ≤ HOST_LIMIT) → length was ≤ HOST_LIMIT → length (given_or given was) ≤ HOST_LIMIT
+given_short : (given : Option (List ℕ)) (was : List ℕ) → IfSome given (λ text. length text ≤ HOST_LIMIT) → length was ≤ HOST_LIMIT → length (told_or given was) ≤ HOST_LIMIT
 given_short None was h k = k
 given_short (Some new) was h k = h
 

@@ -18,19 +18,19 @@ use Rattle.map_asks.specs.declared.answer.MachineAnswer.{MachineAnswer}
 use Rattle.map_asks.specs.declared.answer.MachineAnswer.TheVariants.{Updated}
 
 -- what is given, or what there was
-abbrev pub given_or : {A : Type 0} → Option A → A → A
-given_or None was = was
-given_or (Some new) was = new
+abbrev pub told_or : {A : Type 0} → Option A → A → A
+told_or None was = was
+told_or (Some new) was = new
 
 -- the host text, if it is told of
 abbrev pub told_host : List ℕ → Option HostUpdate → List ℕ
 told_host was None = was
-told_host was (Some h) = given_or h.name was
+told_host was (Some h) = told_or h.name was
 
 -- the DERP region, if it is told of
 abbrev pub told_derp : ℕ → Option HostUpdate → ℕ
 told_derp was None = was
-told_derp was (Some h) = given_or h.derp was
+told_derp was (Some h) = told_or h.derp was
 
 -- the advertised routes, where the host is told of
 abbrev pub told_routes : List Block → Option HostUpdate → List Block
@@ -41,7 +41,7 @@ told_routes was (Some h) = h.routes
 abbrev pub told_row : Machine → Update → Machine
 told_row m u = record m {
   endpoints = u.endpoints;
-  disco = given_or u.disco m.disco;
+  disco = told_or u.disco m.disco;
   host = told_host m.host u.host;
   derp = told_derp m.derp u.host;
   routes = told_routes m.routes u.host;

@@ -146,7 +146,8 @@ fn map_after_update(
 ) -> Result<Decision<MachineAnswer>, NoMemory>
     requires sound { damage (after at.now.rows (row_replaced at.now.rows told.now)) ≡ None }
     requires was { IsLiveRow at.now was.now }
-    requires told { IsLiveRow (spec.after_change at.now (row_replaced at.now.rows told.now)) told.now }
+    requires told { IsLiveRow (spec.after_change at.now (row_replaced at.now.rows told.now))
+        told.now }
     ensures value { IfOk result (λ d. d ≡ spec.map_after_update at.now was.now told.now) }
 {
     if same_told(was, told) {

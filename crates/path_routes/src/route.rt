@@ -14,6 +14,7 @@ pub enum Route {
     NodeExpire,
     NodeRename,
     NodeTags,
+    NodeRoutes,
     Waiting,
     Policy,
     Sweep,

@@ -7,7 +7,7 @@ use Rattle.tail_base.proofs.Bools.{same_tests}
 use Rattle.net_addr.specs.Bits.{Address, Block}
 use Rattle.net_addr.specs.Blocks.{holds}
 use Rattle.net_addr.proofs.SearchLemmas.{address_finds, address_found}
-use Rattle.net_rows.specs.Shelf.{BelongsAt, IsAscending, StandsAt, row_at}
+use Rattle.net_rows.specs.Shelf.{BelongsAt, IsAscending, StandsAt}
 use Rattle.net_rows.specs.declared.rows.Rows.{Rows}
 use Rattle.net_rows.proofs.Members.{list_any_is}
 use Rattle.net_rows.proofs.RowAt.{row_at_is}
@@ -18,21 +18,21 @@ use Rattle.policy_rows.specs.declared.group.Group.{Group}
 use Rattle.policy_rows.specs.declared.policy.Policy.{Policy}
 use Rattle.policy_rows.specs.declared.rule.Rule.{Rule}
 use Rattle.range_sets.specs.Sets.{some_holds}
-use Rattle.policy_eval.specs.Beyond.{covers_free, covers_into}
-use Rattle.policy_eval.specs.ByRule.{site_addresses, site_end, site_sends_into}
-use Rattle.policy_eval.specs.Covers.{covers, dest_covers}
-use Rattle.policy_eval.specs.Ends.{end_at}
+use Rattle.policy_sites.specs.Beyond.{covers_free, covers_into}
+use Rattle.policy_sites.specs.ByRule.{site_addresses, site_end, site_sends_into}
+use Rattle.policy_sites.specs.Covers.{covers, dest_covers}
+use Rattle.policy_sites.specs.Ends.{end_at}
 use Rattle.policy_eval.specs.Expansion.{Expansion}
-use Rattle.policy_eval.specs.Grants.{groups_of, rules_of, some_source}
-use Rattle.policy_eval.specs.Reach.{AreSoundRules, entry_reaches, reaches_into, rule_reaches}
-use Rattle.policy_eval.specs.Sites.{AreApart, AreDistinct, site_has}
-use Rattle.policy_eval.specs.declared.end.End.{End}
-use Rattle.policy_eval.specs.declared.site.Site.{Site}
-use Rattle.policy_eval.proofs.EndLemmas.{beyond_end, own_end}
-use Rattle.policy_eval.proofs.OwnLemmas.{has_v4, has_v6}
-use Rattle.policy_eval.proofs.ReachLemmas.{reach_is}
-use Rattle.peer_view.specs.Seen.{Node, Seen, expansion_seen, seen_of, sites_seen}
-use Rattle.peer_view.specs.Shown.{IsFree, granted_into}
+use Rattle.policy_sites.specs.Grants.{groups_of, rules_of, some_source}
+use Rattle.policy_sites.specs.Reach.{AreSoundRules, entry_reaches, reaches_into, rule_reaches}
+use Rattle.policy_sites.specs.Sites.{AreServedApart, AreDistinct, site_has}
+use Rattle.policy_sites.specs.declared.end.End.{End}
+use Rattle.policy_sites.specs.declared.site.Site.{Site}
+use Rattle.policy_sites.proofs.EndLemmas.{beyond_end, own_end}
+use Rattle.policy_sites.proofs.OwnLemmas.{has_v4, has_v6}
+use Rattle.policy_sites.proofs.ReachLemmas.{reach_is}
+use Rattle.peer_view.specs.Seen.{Node, Seen, seen_of, sites_seen}
+use Rattle.peer_view.specs.Shown.{IsUnheld, granted_into}
 use Rattle.peer_view.specs.Worlds.{IsWorld}
 use Rattle.peer_view.proofs.AnyLemmas.{any_pair, any_same, either_and}
 use Rattle.peer_view.proofs.ListLemmas.{map_member}
@@ -40,7 +40,7 @@ use Rattle.peer_view.proofs.ReachLaws.{free_dest}
 use Rattle.peer_view.proofs.WorldLaws.{any_site, expansion_is}
 
 -- an entry that covers an end of the set covers by address alone
-entry_into : (groups : List Group) (sites : List Site) (target : Address → Bool) (s : End) (entry : Dest) → IsFree sites target → entry_reaches groups sites target s entry ≡ covers_into target entry.to
+entry_into : (groups : List Group) (sites : List Site) (target : Address → Bool) (s : End) (entry : Dest) → IsUnheld sites target → entry_reaches groups sites target s entry ≡ covers_into target entry.to
 entry_into groups sites target s entry free = same_tests (entry_reaches groups sites target s entry) (covers_into target entry.to) to from
   where
     there : Address → Bool
@@ -72,7 +72,7 @@ goes_into target r = list_any (λ (entry : Dest). covers_into target entry.to) r
 abbrev sends_at : List Group → Site → Address → Rule → Bool
 sends_at groups a x r = some_source groups r (site_end a x)
 
-one_into : (policy : Option Policy) (sites : List Site) (a : Site) (target : Address → Bool) (x : Address) → AreSoundRules (rules_of policy) → AreDistinct sites → Contains sites a → IsFree sites target → site_has x a ≡ true
+one_into : (policy : Option Policy) (sites : List Site) (a : Site) (target : Address → Bool) (x : Address) → AreSoundRules (rules_of policy) → AreDistinct sites → Contains sites a → IsUnheld sites target → site_has x a ≡ true
     → reaches_into policy sites target (end_at sites x) ≡ list_any (λ r. sends_at (groups_of policy) a x r && goes_into target r) (rules_of policy)
 one_into policy sites a target x sound distinct inside free has =
     let groups = groups_of policy in
@@ -93,7 +93,7 @@ both_into groups rules a target =
     ∙ any_same (λ r. (p r && g r) || ((q r && g r) || false)) (λ r. list_any (λ s. list_any (λ x. covers groups s (site_end a x)) (site_addresses a)) r.sources && g r) rules
     (λ r. either_and (p r) (q r) (g r) ∙ ap (λ m. m && g r) (any_pair (λ s. covers groups s (site_end a a.v4)) (λ s. covers groups s (site_end a a.v6)) r.sources))
 
-granted_is : (w : Seen) (n : Node) (target : Address → Bool) → AreSoundRules (rules_of w.policy) → AreDistinct (sites_seen w) → Contains (sites_seen w) n.site → IsFree (sites_seen w) target
+granted_is : (w : Seen) (n : Node) (target : Address → Bool) → AreSoundRules (rules_of w.policy) → AreDistinct (sites_seen w) → Contains (sites_seen w) n.site → IsUnheld (sites_seen w) target
     → granted_into w n target ≡ site_sends_into (groups_of w.policy) (rules_of w.policy) target n.site
 granted_is w n target sound distinct inside free =
     let a = n.site in
@@ -114,7 +114,7 @@ site_missing_never sites site place ascend inside at =
 
 -- Whether a viewer is granted a flow, by the rules that were expanded.
 pub world_granted : (settings : SettingsFields) (policy : Option Policy) (rows : Rows) (live online : List ℕ) (made : Expansion) (w : Seen) → IsWorld made policy rows live
-    → seen_of settings policy rows live online ≡ w → (n : Node) (target : Address → Bool) (place : ℕ) → Contains w.nodes n → IsFree (sites_seen w) target
+    → seen_of settings policy rows live online ≡ w → (n : Node) (target : Address → Bool) (place : ℕ) → Contains w.nodes n → IsUnheld (sites_seen w) target
     → AreSoundRules made.rules → AreDistinct made.sites → IsAscending (λ (s : Site). s.id) made.sites → StandsAt (λ (s : Site). s.id) made.sites n.site.id place
     → site_sends_into made.groups made.rules target (slice_index_or made.sites place any_site) ≡ granted_into w n target
 world_granted settings policy rows live online made w world seen n target place here free =
@@ -127,11 +127,11 @@ world_granted settings policy rows live online made w world seen n target place 
     ap (site_sends_into (groups_of w.policy) (rules_of w.policy) target) (site_there (sites_seen w) n.site place ascend inside at) ∙ sym (granted_is w n target sound distinct inside free))
 
 -- no machine has an address of an approved route, nor one of the internet that an exit node serves
-pub route_free : (sites : List Site) (p : Site) (route : Block) → AreApart sites → Contains sites p → Contains p.approved route → IsFree sites (holds route)
+pub route_free : (sites : List Site) (p : Site) (route : Block) → AreServedApart sites → Contains sites p → Contains p.approved route → IsUnheld sites (holds route)
 route_free sites p route apart inside among addr hit =
     beyond_end sites apart addr p inside (ap (λ (b : Bool). b || (p.exit && is_internet addr)) (list_any_is (λ r. holds r addr) p.approved route among hit))
 
-pub exit_free : (sites : List Site) (p : Site) → AreApart sites → Contains sites p → p.exit ≡ true → IsFree sites is_internet
+pub exit_free : (sites : List Site) (p : Site) → AreServedApart sites → Contains sites p → p.exit ≡ true → IsUnheld sites is_internet
 exit_free sites p apart inside exit addr hit =
     beyond_end sites apart addr p inside ((λ i. some_holds p.approved addr || (exit i && hit i)) ∙ or_true (some_holds p.approved addr))
   where

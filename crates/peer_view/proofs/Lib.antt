@@ -1,5 +1,7 @@
 pub mod AnyLemmas
+pub mod ChoiceLaws
 pub mod GrantLaws
+pub mod IsolationLaws
 pub mod ListLemmas
 pub mod LiveLaws
 pub mod OpenLaws

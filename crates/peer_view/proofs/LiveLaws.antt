@@ -17,12 +17,12 @@ use Rattle.net_rows.proofs.Members.{find_member}
 use Rattle.net_rows.proofs.Sounds.{sound_of}
 use Rattle.settings.specs.declared.fields.SettingsFields.{SettingsFields}
 use Rattle.policy_rows.specs.declared.policy.Policy.{Policy}
-use Rattle.policy_eval.specs.Grants.{groups_of, rules_of}
-use Rattle.policy_eval.specs.Reach.{AreSoundRules}
-use Rattle.policy_eval.specs.Sites.{is_among, site_of, sites_of}
-use Rattle.policy_eval.specs.declared.site.Site.{Site}
-use Rattle.policy_eval.proofs.SiteLemmas.{one_site, sites_apart}
-use Rattle.policy_eval.specs.ByRule.{IsSoundSite, site_reaches}
+use Rattle.policy_sites.specs.Grants.{groups_of, rules_of}
+use Rattle.policy_sites.specs.Reach.{AreSoundRules}
+use Rattle.policy_sites.specs.Sites.{is_among, site_of, sites_of}
+use Rattle.policy_sites.specs.declared.site.Site.{Site}
+use Rattle.policy_sites.proofs.SiteLemmas.{one_site, sites_apart}
+use Rattle.policy_sites.specs.ByRule.{IsSoundSite, site_reaches}
 use Rattle.peer_view.specs.Reaches.{id_reaches, reaches, site_with}
 use Rattle.peer_view.specs.Seen.{Node, live_node, node_reaches, node_with, of_ids, seen_of}
 use Rattle.peer_view.proofs.ListLemmas.{ascending_filter, ascending_map, filter_member, find_map, map_member, map_twice, mapped_member}

@@ -8,8 +8,8 @@ use Rattle.net_rows.proofs.Members.{cut_member, no_member}
 use Rattle.settings.specs.declared.fields.SettingsFields.{SettingsFields}
 use Rattle.policy_rows.specs.declared.dest.Dest.{Dest}
 use Rattle.policy_rows.specs.declared.rule.Rule.{Rule}
-use Rattle.policy_eval.specs.Grants.{open_rule, rules_of}
-use Rattle.policy_eval.specs.Reach.{AreSoundRules, IsSoundRule}
+use Rattle.policy_sites.specs.Grants.{open_rule, rules_of}
+use Rattle.policy_sites.specs.Reach.{AreSoundRules, IsSoundRule}
 use Rattle.peer_view.specs.Seen.{Node, seen_of, sees}
 use Rattle.peer_view.proofs.SightLaws.{sight_rules}
 

@@ -1,31 +1,29 @@
 -- Reach is local, and goes by rules.
-use Rattle.std.proofs.Common.{◌≡◌, ◌<◌, ◌&&◌, ◌||◌, ◌==◌, ℕ, Bool, true, false, List, ◌⊎◌, refl, ap, sym, ◌∙◌, inl, inr}
+use Rattle.std.proofs.Common.{◌≡◌, ◌<◌, ◌&&◌, ◌||◌, Bool, true, false, List, refl, ap, sym, ◌∙◌, inl, inr}
 use Rattle.std.specs.Prelude.{Contains, Option}
-use Rattle.std.specs.Bool.{beq}
 use Rattle.std.specs.List.{list_any}
-use Rattle.std.proofs.lemmas.Bool.{and_from, and_parts, eqb-true, or_cases, or_left, or_right}
-use Rattle.tail_base.proofs.Bools.{beq-true, same_tests}
+use Rattle.std.proofs.lemmas.Bool.{and_from, and_parts, or_cases, or_left, or_right}
+use Rattle.tail_base.proofs.Bools.{same_tests}
 use Rattle.net_addr.specs.Bits.{Address, family_size}
 use Rattle.net_addr.proofs.SearchLemmas.{address_finds, address_found}
-use Rattle.net_rows.specs.Damage.{address_eq}
 use Rattle.policy_rows.specs.declared.dest.Dest.{Dest}
 use Rattle.policy_rows.specs.declared.group.Group.{Group}
 use Rattle.policy_rows.specs.declared.policy.Policy.{Policy}
 use Rattle.policy_rows.specs.declared.rule.Rule.{Rule}
 use Rattle.policy_rows.specs.declared.selector.Selector.{Selector}
 use Rattle.policy_rows.specs.declared.selector.Selector.TheVariants as sel
-use Rattle.policy_eval.specs.Beyond.{covers_free, covers_into}
-use Rattle.policy_eval.specs.Covers.{covers, dest_covers, is_own, is_own_devices}
-use Rattle.policy_eval.specs.Ends.{end_at, free_end, holder_of}
-use Rattle.policy_eval.specs.Grants.{groups_of, rules_of, some_source}
-use Rattle.policy_eval.specs.Reach.{AreSoundRules, entry_reaches, reaches_into, rule_reaches}
-use Rattle.policy_eval.specs.Sites.{AreApart, AreDistinct, serves, serves_beyond, site_has}
-use Rattle.policy_eval.specs.declared.end.End.{End}
-use Rattle.policy_eval.specs.declared.site.Site.{Site}
-use Rattle.policy_eval.proofs.EndLemmas.{beyond_end, joins_nobody, own_end, served_cases, serves_more, serves_own}
-use Rattle.policy_eval.proofs.OwnLemmas.{has_v4, has_v6, own_two}
-use Rattle.policy_eval.proofs.ReachLemmas.{reach_is}
-use Rattle.policy_eval.specs.ByRule.{IsSoundSite, covers_served, covers_site, site_end, joins_own_by, site_addresses, sends, site_reaches, takes}
+use Rattle.policy_sites.specs.Beyond.{covers_free, covers_into}
+use Rattle.policy_sites.specs.Covers.{covers, dest_covers, is_own, is_own_devices}
+use Rattle.policy_sites.specs.Ends.{end_at, free_end, holder_of}
+use Rattle.policy_sites.specs.Grants.{groups_of, rules_of, some_source}
+use Rattle.policy_sites.specs.Reach.{AreSoundRules, entry_reaches, reaches_into, rule_reaches}
+use Rattle.policy_sites.specs.Sites.{AreServedApart, AreDistinct, serves, serves_beyond, site_has}
+use Rattle.policy_sites.specs.declared.end.End.{End}
+use Rattle.policy_sites.specs.declared.site.Site.{Site}
+use Rattle.policy_sites.proofs.EndLemmas.{beyond_end, joins_nobody, own_end, served_cases, serves_more, serves_own}
+use Rattle.policy_sites.proofs.OwnLemmas.{has_v4, has_v6, own_two}
+use Rattle.policy_sites.proofs.ReachLemmas.{reach_is}
+use Rattle.policy_sites.specs.ByRule.{IsSoundSite, covers_served, covers_site, site_end, joins_own_by, site_addresses, sends, site_reaches, takes}
 use Rattle.peer_view.specs.Reaches.{reaches}
 use Rattle.peer_view.proofs.AnyLemmas.{any_and, any_or, any_pair, any_same, either_and, either_or, or_none}
 
@@ -36,7 +34,7 @@ covers_own groups b s entry = list_any (λ y. dest_covers groups entry.to s (sit
 -- the machine at a site of the list
 record IsSiteOf (sites : List Site) (b : Site) : Type 0 where
   distinct : AreDistinct sites
-  apart : AreApart sites
+  apart : AreServedApart sites
   inside : Contains sites b
 
 end_is : (sites : List Site) (b : Site) → IsSiteOf sites b → (addr : Address) → site_has addr b ≡ true → end_at sites addr ≡ site_end b addr
@@ -201,7 +199,7 @@ both_are groups rules a b =
     (λ r. either_and (p r) (q r) (g r) ∙ ap (λ m. m && g r) (any_pair (λ s. covers groups s (site_end a a.v4)) (λ s. covers groups s (site_end a a.v6)) r.sources))
 
 -- Reach between machines of the list goes by rules, over the two machines alone.
-pub local_reach : (policy : Option Policy) (sites : List Site) (a b : Site) → AreSoundRules (rules_of policy) → AreDistinct sites → AreApart sites → Contains sites a → Contains sites b → IsSoundSite b
+pub local_reach : (policy : Option Policy) (sites : List Site) (a b : Site) → AreSoundRules (rules_of policy) → AreDistinct sites → AreServedApart sites → Contains sites a → Contains sites b → IsSoundSite b
     → reaches policy sites a b ≡ site_reaches (groups_of policy) (rules_of policy) a b
 local_reach policy sites a b sound distinct apart m n small =
     let from : IsSiteOf sites a = record { distinct = distinct; apart = apart; inside = m } in

@@ -10,9 +10,9 @@ use Rattle.net_rows.proofs.Members.{find_member, find_none}
 use Rattle.net_rows.proofs.RowAt.{row_at_is}
 use Rattle.settings.specs.declared.fields.SettingsFields.{SettingsFields}
 use Rattle.policy_rows.specs.declared.policy.Policy.{Policy}
-use Rattle.policy_eval.specs.Grants.{groups_of, rules_of}
-use Rattle.policy_eval.specs.Reach.{AreSoundRules}
-use Rattle.policy_eval.specs.ByRule.{site_reaches}
+use Rattle.policy_sites.specs.Grants.{groups_of, rules_of}
+use Rattle.policy_sites.specs.Reach.{AreSoundRules}
+use Rattle.policy_sites.specs.ByRule.{site_reaches}
 use Rattle.peer_view.specs.Seen.{Node, Seen, is_node, node_reaches, node_with, of_ids, seen_of, sees}
 use Rattle.peer_view.proofs.LiveLaws.{node_reach, on_both}
 

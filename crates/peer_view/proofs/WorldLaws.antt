@@ -17,16 +17,16 @@ use Rattle.policy_rows.specs.declared.policy.Policy.{Policy}
 use Rattle.policy_rows.specs.declared.group.Group.{Group}
 use Rattle.policy_rows.specs.declared.rule.Rule.{Rule}
 use Rattle.policy_eval.specs.Expansion.{Expansion}
-use Rattle.policy_eval.specs.Grants.{groups_of, rules_of}
-use Rattle.policy_eval.specs.Reach.{AreSoundRules}
-use Rattle.policy_eval.specs.Sites.{is_among, is_listed, site_of, sites_of}
-use Rattle.policy_eval.specs.declared.site.Site.{Site}
-use Rattle.policy_eval.specs.ByRule.{site_reaches}
+use Rattle.policy_sites.specs.Grants.{groups_of, rules_of}
+use Rattle.policy_sites.specs.Reach.{AreSoundRules}
+use Rattle.policy_sites.specs.Sites.{is_among, is_listed, site_of, sites_of}
+use Rattle.policy_sites.specs.declared.site.Site.{Site}
+use Rattle.policy_sites.specs.ByRule.{site_reaches}
 use Rattle.peer_view.specs.Reaches.{id_reaches, site_with}
 use Rattle.peer_view.specs.Seen.{IsSoundSeen, Node, Seen, expansion_seen, live_node, node_reaches, node_with, of_ids, seen_of, sites_seen}
 use Rattle.peer_view.specs.Worlds.{IsWorld}
-use Rattle.peer_view.proofs.ListLemmas.{ascending_filter, ascending_map, filter_member, find_map, map_twice, mapped_member}
-use Rattle.peer_view.proofs.LiveLaws.{pair_is, sites_ascend}
+use Rattle.peer_view.proofs.ListLemmas.{ascending_filter, ascending_map, filter_member, find_map, map_member, map_twice, mapped_member}
+use Rattle.peer_view.proofs.LiveLaws.{pair_is, sites_ascend, sound_site}
 
 pub world_ascends : (made : Expansion) (policy : Option Policy) (rows : Rows) (live : List ℕ) (sites : List Site) → IsWorld made policy rows live → sites ≡ made.sites
     → IsAscending (λ (s : Site). s.id) sites
@@ -78,6 +78,7 @@ seen_sound settings policy rows live online kept =
     record {
       nodes = nodes_ascend settings policy rows live online kept;
       sites = λ n inside. let at = row_of_node settings policy rows live online n inside in ap (λ (z : Node). z.site.id) (sym at.1);
+      addresses = λ n inside. sound_site policy rows live kept n.site (subst (λ (ss : List Site). Contains ss n.site) (sites_are settings policy rows live online) (map_member (λ (z : Node). z.site) (seen_of settings policy rows live online).nodes n inside));
       users = sound.users.ascend;
       ids = λ u inside.
           let below : u.id < rows.next.user = (sound.users.ids u inside).1 in

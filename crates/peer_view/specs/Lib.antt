@@ -1,3 +1,5 @@
+pub mod Choices
+pub mod Isolation
 pub mod Nodes
 pub mod Reaches
 pub mod Seen

@@ -5,11 +5,11 @@ use Rattle.std.specs.Option.{option_map_or}
 use Rattle.policy_rows.specs.declared.group.Group.{Group}
 use Rattle.policy_rows.specs.declared.policy.Policy.{Policy}
 use Rattle.policy_rows.specs.declared.rule.Rule.{Rule}
-use Rattle.policy_eval.specs.ByRule.{site_addresses, site_reaches}
-use Rattle.policy_eval.specs.Ends.{end_at}
-use Rattle.policy_eval.specs.Reach.{reaches_into}
-use Rattle.policy_eval.specs.Sites.{serves}
-use Rattle.policy_eval.specs.declared.site.Site.{Site}
+use Rattle.policy_sites.specs.ByRule.{site_addresses, site_reaches}
+use Rattle.policy_sites.specs.Ends.{end_at}
+use Rattle.policy_sites.specs.Reach.{reaches_into}
+use Rattle.policy_sites.specs.Sites.{serves}
+use Rattle.policy_sites.specs.declared.site.Site.{Site}
 
 -- Some flow from an address of one to an address that the other serves is granted.
 abbrev pub reaches : Option Policy → List Site → Site → Site → Bool

@@ -8,10 +8,11 @@ use Rattle.net_rows.specs.Shelf.{HasRow, IsAscending, row_at}
 use Rattle.net_rows.specs.declared.machine.Machine.{Machine}
 use Rattle.net_rows.specs.declared.rows.Rows.{Rows}
 use Rattle.net_rows.specs.declared.user.User.{User}
+use Rattle.policy_sites.specs.ByRule.{IsSoundSite}
 use Rattle.policy_eval.specs.Expansion.{Expansion}
-use Rattle.policy_eval.specs.Grants.{groups_of, rules_of}
-use Rattle.policy_eval.specs.Sites.{is_among, site_of}
-use Rattle.policy_eval.specs.declared.site.Site.{Site}
+use Rattle.policy_sites.specs.Grants.{groups_of, rules_of}
+use Rattle.policy_sites.specs.Sites.{is_among, site_of}
+use Rattle.policy_sites.specs.declared.site.Site.{Site}
 use Rattle.peer_view.specs.Reaches.{reaches}
 use Rattle.peer_view.specs.declared.node.TheConstants.{TAGGED_OWNER}
 
@@ -76,11 +77,12 @@ visible w m = filter (sees w m) w.nodes
 abbrev pub of_ids : (Node → Node → Bool) → Seen → ℕ → ℕ → Bool
 of_ids test w a b = option_map_or (λ m. option_map_or (test m) (node_with w b) false) (node_with w a) false
 
--- What is seen of tables that keep their rules: nodes and users go by id, each node is at its own site, and its user
--- is there. No user has the id that tagged machines are shown to belong to.
+-- What is seen of tables that keep their rules: nodes and users go by id, each node is at its own site, whose addresses
+-- are numbers of their families, and its user is there. No user has the id that tagged machines are shown to belong to.
 pub record IsSoundSeen (w : Seen) : Type 0 where
   pub nodes : IsAscending (λ n. n.row.id) w.nodes
   pub sites : (n : Node) → Contains w.nodes n → n.site.id ≡ n.row.id
+  pub addresses : (n : Node) → Contains w.nodes n → IsSoundSite n.site
   pub users : IsAscending (λ u. u.id) w.users
   pub ids : (u : User) → Contains w.users u → u.id < TAGGED_OWNER
   pub owners : (n : Node) → Contains w.nodes n → HasRow (λ u. u.id) w.users n.row.user

@@ -7,10 +7,10 @@ use Rattle.policy_rows.specs.Internet.{is_internet}
 use Rattle.tailcfg.specs.declared.node_row.NodeRow.{NodeRow}
 use Rattle.route_rules.specs.Exits.{has_route}
 use Rattle.route_rules.specs.Serving.{exits_if}
-use Rattle.policy_eval.specs.ByRule.{site_addresses}
-use Rattle.policy_eval.specs.Ends.{end_at, free_end}
-use Rattle.policy_eval.specs.Reach.{reaches_into}
-use Rattle.policy_eval.specs.declared.site.Site.{Site}
+use Rattle.policy_sites.specs.ByRule.{site_addresses}
+use Rattle.policy_sites.specs.Ends.{end_at, free_end}
+use Rattle.policy_sites.specs.Reach.{reaches_into}
+use Rattle.policy_sites.specs.declared.site.Site.{Site}
 use Rattle.peer_view.specs.Nodes.{node_of, own_addresses}
 use Rattle.peer_view.specs.Seen.{Node, Seen, sites_seen}
 
@@ -20,8 +20,8 @@ granted_into w viewer target =
     list_any (λ x. reaches_into w.policy (sites_seen w) target (end_at (sites_seen w) x)) (site_addresses viewer.site)
 
 -- no machine has an address of the set
-abbrev pub IsFree : List Site → (Address → Bool) → Type 0
-IsFree sites target = (addr : Address) → target addr ≡ true → end_at sites addr ≡ free_end addr
+abbrev pub IsUnheld : List Site → (Address → Bool) → Type 0
+IsUnheld sites target = (addr : Address) → target addr ≡ true → end_at sites addr ≡ free_end addr
 
 -- the route is one of the machine's approved ones
 abbrev pub offers : Block → Node → Bool

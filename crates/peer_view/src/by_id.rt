@@ -4,7 +4,8 @@ ghost use Rattle.std.specs.Option.{option_copied};
 ghost use Rattle.net_rows.specs.Shelf.{BelongsAt, IsAscending, StandsAt};
 ghost use Rattle.peer_view.specs.Reaches.{id_reaches, site_with};
 
-use policy_eval::{Expanded, Site};
+use policy_eval::Expanded;
+use policy_sites::Site;
 
 /// Where the site of the id stands, or where it would go.
 pub(crate) fn site_place(sites: &[Site], id: u32) -> Result<usize, usize>

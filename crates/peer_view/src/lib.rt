@@ -11,7 +11,10 @@ mod shown_rows;
 mod steps;
 mod world;
 
-pub use laws::{all_see_all_without_policy, reach_is_local, sight_is_mutual_and_by_rules};
+pub use laws::{
+    a_route_is_shown_at_one_machine, all_see_all_without_policy,
+    machines_without_routes_change_no_row, reach_is_local, sight_is_mutual_and_by_rules,
+};
 pub use machine::LiveMachine;
 pub use node::TAGGED_OWNER;
 pub use pair::{pair_test, sees, sees_machine};

@@ -1,6 +1,6 @@
 //! Live machines.
 use net_rows::Machine;
-use policy_eval::Site;
+use policy_sites::Site;
 use std::marker::Model;
 
 /// A live machine: its row, what policies see of it, and whether it is online.

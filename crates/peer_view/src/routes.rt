@@ -3,9 +3,9 @@ ghost use Rattle.std.specs.Prelude.{◌≡◌, ◌&&◌, Contains};
 ghost use Rattle.std.specs.List.{find};
 ghost use Rattle.std.specs.Option.{option_copied};
 ghost use Rattle.net_addr.specs.Blocks.{holds};
-ghost use Rattle.policy_eval.specs.ByRule.{target_of};
+ghost use Rattle.policy_sites.specs.ByRule.{target_of};
 ghost use Rattle.peer_view.specs.Seen.{sites_seen};
-ghost use Rattle.peer_view.specs.Shown.{IsFree, choice, granted_into, is_choice, is_shown, offers};
+ghost use Rattle.peer_view.specs.Shown.{IsUnheld, choice, granted_into, is_choice, is_shown, offers};
 
 use crate::by_id::site_place;
 use crate::machine::LiveMachine;
@@ -21,7 +21,7 @@ pub(crate) fn is_granted(
     target: Option<&Prefix>,
 ) -> bool
     requires viewer { Contains world.now.nodes viewer.now }
-    requires free { IsFree (sites_seen world.now) (target_of (option_copied target)) }
+    requires free { IsUnheld (sites_seen world.now) (target_of (option_copied target)) }
     ensures value { result
         ≡ granted_into world.now viewer.now (target_of (option_copied target.entry)) }
 {
@@ -50,6 +50,13 @@ fn first_offering<'a, 'b>(
     machines.iter().find(|machine| offers(route, machine))
 }
 
+/// The same, if it is online, which is looked at first.
+fn offers_online(route: &Prefix, machine: &LiveMachine<'_>) -> bool
+    ensures value { result ≡ (offers route.now machine.now && machine.now.online) }
+{
+    machine.online && offers(route, machine)
+}
+
 /// The first of them that is online and does.
 fn first_online<'a, 'b>(
     machines: &'b [LiveMachine<'a>],
@@ -60,7 +67,7 @@ fn first_online<'a, 'b>(
 {
     machines
         .iter()
-        .find(|machine| offers(route, machine) && machine.online)
+        .find(|machine| offers_online(route, machine))
 }
 
 /// Through which of the machines the route goes.

@@ -7,8 +7,9 @@ ghost use Rattle.peer_view.specs.Seen.{IsSoundSeen, expansion_seen, node_with, s
 use crate::by_id::site_with;
 use crate::machine::LiveMachine;
 use net_rows::{Tables, User};
-use policy_eval::{Expanded, IdList, Site};
+use policy_eval::Expanded;
 use policy_rows::Policy;
+use policy_sites::{IdList, Site};
 use settings::{Settings, SettingsFields};
 use std::marker::Model;
 use tailcfg::DnsExtra;

@@ -20,19 +20,16 @@ use Rattle.desk_state.specs.declared.decision.Decision.{Decision}
 use Rattle.desk_state.proofs.Proper.{same_counters, sound_change}
 use Rattle.policy_asks.specs.Decision.{policy_decision}
 use Rattle.policy_asks.specs.Saving.{is_kept, kept_anew, or_refused, save, saved, tested_in, text_change}
-use Rattle.policy_asks.specs.Served.{policy_in, served_policy}
+use Rattle.policy_asks.specs.Kept.{policy_in}
 use Rattle.policy_asks.specs.declared.answer.PolicyAnswer.{PolicyAnswer}
 use Rattle.policy_asks.specs.declared.answer.PolicyAnswer.TheVariants as answer
 use Rattle.policy_asks.specs.declared.ask.PolicyAsk.{PolicyAsk}
 use Rattle.policy_asks.specs.declared.ask.PolicyAsk.TheVariants as ask
 
 -- a text that states a policy is within the limit of the tables
-pub served_short : (text : List ℕ) (p : Policy) → served_policy text ≡ Ok p → length text ≤ POLICY_LIMIT
-unfolding served_policy policy_of_text
-served_short text p h =
-    let read = bind_parts (policy_of_text text) _ p h in
-    let short = check_parts _ _ _ read.0 read.1 in
-    leb-true _ _ short.0
+policy_short : (text : List ℕ) (p : Policy) → policy_of_text text ≡ Ok p → length text ≤ POLICY_LIMIT
+unfolding policy_of_text
+policy_short text p h = leb-true _ _ (check_parts _ _ _ p h).0
 
 -- a text that isn't refused states its policy
 read_as : (r : Result Policy PolicyFault) (p : Policy) → or_refused r ≡ Ok p → r ≡ Ok p
@@ -41,12 +38,12 @@ read_as (Err f) p h = absurd (cc)
 
 -- what a save that isn't refused decides
 pub saved_is : (s : State) (text : List ℕ) (d : Decision PolicyAnswer) → save s text ≡ Ok d
-    → (p : Policy) × (served_policy text ≡ Ok p) × (saved s.rows text p ≡ d)
+    → (p : Policy) × (policy_of_text text ≡ Ok p) × (saved s.rows text p ≡ d)
 saved_is s text d h =
-    let parts = bind_parts (or_refused (served_policy text)) _ d h in
+    let parts = bind_parts (or_refused (policy_of_text text)) _ d h in
     let rest = bind_parts (or_refused (tested_in s parts.0)) _ d parts.2 in
     let same : saved s.rows text parts.0 ≡ d = let e = rest.2 in cc in
-    (parts.0, read_as (served_policy text) parts.0 parts.1, same)
+    (parts.0, read_as (policy_of_text text) parts.0 parts.1, same)
 
 -- the text that is kept already passes the test
 kept_text : (kept : Option (List ℕ)) (text : List ℕ) → kept ≡ Some text → is_kept kept text ≡ true
@@ -82,7 +79,7 @@ saved_sound t text p sound short = elim (cases_Bool (is_kept t.policy text)) [
 save_sound : (s : State) (text : List ℕ) → AreSound s.rows → IsSound s.rows (save s text)
 save_sound s text sound d is =
     let parts = saved_is s text d is in
-    subst (IsSoundDecision s.rows) parts.2 (saved_sound s.rows text parts.0 sound (served_short text parts.0 parts.1))
+    subst (IsSoundDecision s.rows) parts.2 (saved_sound s.rows text parts.0 sound (policy_short text parts.0 parts.1))
 
 pub policy_decision_sound : (s : State) (x : PolicyAsk) → damage s.rows ≡ None → IsSound s.rows (policy_decision s x)
 policy_decision_sound s ask.Policy none d is =
@@ -91,7 +88,7 @@ policy_decision_sound s ask.Policy none d is =
 policy_decision_sound s (ask.SavePolicy text) none d is = save_sound s text (sound_of s.rows none) d is
 
 -- the policy that is put in force is the one of the tables
-saved_kept : (t : Rows) (text : List ℕ) (p q : Policy) → served_policy text ≡ Ok p → (saved t text p).policy ≡ Some q → policy_in (rows_after t (saved t text p).change) ≡ Some q
+saved_kept : (t : Rows) (text : List ℕ) (p q : Policy) → policy_of_text text ≡ Ok p → (saved t text p).policy ≡ Some q → policy_in (rows_after t (saved t text p).change) ≡ Some q
 saved_kept t text p q read named = elim (cases_Bool (is_kept t.policy text)) [
   | inr other ↦
       let here : Some p ≡ Some q = rw other at named in

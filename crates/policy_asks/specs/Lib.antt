@@ -1,3 +1,3 @@
 pub mod Decision
+pub mod Kept
 pub mod Saving
-pub mod Served

@@ -7,14 +7,14 @@ use Rattle.net_rows.specs.declared.change.Row.TheVariants as row
 use Rattle.net_rows.specs.declared.rows.Rows.{Rows}
 use Rattle.policy_rows.specs.declared.fault.PolicyFault.{PolicyFault}
 use Rattle.policy_rows.specs.declared.policy.Policy.{Policy}
+use Rattle.policy_doc.specs.Document.{policy_of_text}
 use Rattle.desk_state.specs.Decisions.{only}
-use Rattle.policy_eval.specs.Sites.{sites_of}
+use Rattle.policy_sites.specs.Sites.{sites_of}
 use Rattle.policy_tests.specs.Tests.{tested}
 use Rattle.desk_state.specs.State.{State, live_ids}
 use Rattle.desk_state.specs.declared.decision.Decision.{Decision}
 use Rattle.desk_state.specs.declared.refusal.Refusal.{Refusal}
 use Rattle.desk_state.specs.declared.refusal.Refusal.TheVariants.{PolicyRefused}
-use Rattle.policy_asks.specs.Served.{served_policy}
 use Rattle.policy_asks.specs.declared.answer.PolicyAnswer.{PolicyAnswer}
 use Rattle.policy_asks.specs.declared.answer.PolicyAnswer.TheVariants as answer
 
@@ -53,6 +53,6 @@ saved rows text policy = if is_kept rows.policy text then only answer.Saved else
 -- the text is read, and its policy tested, also where it is kept already
 abbrev pub save : State → List ℕ → Result (Decision PolicyAnswer) Refusal
 save s text = do
-  policy ← or_refused (served_policy text)
+  policy ← or_refused (policy_of_text text)
   _ ← or_refused (tested_in s policy)
   Ok (saved s.rows text policy)

@@ -7,7 +7,7 @@ ghost use Rattle.desk_state.specs.Decisions.{IsSound, rows_after};
 ghost use Rattle.desk_state.specs.State.{State};
 ghost use Rattle.desk_state.specs.declared.decision.Decision.{Decision};
 ghost use Rattle.policy_asks.specs.Decision.{policy_decision};
-ghost use Rattle.policy_asks.specs.Served.{policy_in};
+ghost use Rattle.policy_asks.specs.Kept.{policy_in};
 ghost use Rattle.policy_asks.specs.declared.answer.PolicyAnswer.{PolicyAnswer};
 ghost use Rattle.policy_asks.specs.declared.ask.PolicyAsk.{PolicyAsk};
 ghost use Rattle.policy_asks.specs.declared.ask.PolicyAsk.TheVariants.{SavePolicy};

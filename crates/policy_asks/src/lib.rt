@@ -5,12 +5,12 @@
 mod answer;
 mod ask;
 mod deciding;
+mod kept;
 mod laws;
 mod saving;
-mod served;
 
 pub use answer::PolicyAnswer;
 pub use ask::PolicyAsk;
 pub use deciding::decide;
+pub use kept::policy_in;
 pub use laws::{kept_texts_change_nothing, policy_decisions_are_sound, saved_policies_are_kept};
-pub use served::{policy_in, served_policy};

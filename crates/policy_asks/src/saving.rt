@@ -1,13 +1,13 @@
 //! A policy is saved.
 ghost use Rattle.std.specs.Prelude.{◌≡◌, IfOk};
 ghost use Rattle.tail_base.specs.Steps.{Gives};
-ghost use Rattle.policy_asks.specs.Served.{served_policy};
+ghost use Rattle.policy_doc.specs.Document.{policy_of_text};
 ghost use Rattle.policy_asks.specs.Saving as spec;
 
 use crate::answer::PolicyAnswer;
-use crate::served::served_policy;
 use desk_state::{Decision, Refusal, Snapshot, live_ids};
 use net_rows::{Change, Row, Tables};
+use policy_doc::read_policy;
 use policy_rows::{Policy, PolicyFault};
 use policy_tests::tested;
 use std::alloc::Global;
@@ -23,9 +23,9 @@ fn refusal_by(fault: PolicyFault) -> Refusal
 
 /// The policy of a text, whose fault refuses the ask.
 fn policy_or_refused(alloc: Global, text: &Text) -> Result<Policy, Failure<Refusal>>
-    ensures value { Gives (λ p. p) result (spec.or_refused (served_policy text.now)) }
+    ensures value { Gives (λ p. p) result (spec.or_refused (policy_of_text text.now)) }
 {
-    match served_policy(alloc, text.as_slice()) {
+    match read_policy(alloc, text.as_slice()) {
         Ok(policy) => Ok(policy),
         Err(Failure::Fault(fault)) => Err(Failure::Fault(refusal_by(fault))),
         Err(Failure::NoMemory) => Err(Failure::NoMemory),
@@ -102,9 +102,8 @@ fn saved(
     }
 }
 
-/// The text is kept and its policy put in force, unless the text has a fault or a form that isn't
-/// served yet, or else a test of the policy fails, which refuses it. Where it is the text that is kept
-/// already, nothing changes.
+/// The text is kept and its policy put in force, unless the text has a fault, or else a test of the
+/// policy fails, which refuses it. Where it is the text that is kept already, nothing changes.
 pub(crate) fn save(
     alloc: Global,
     at: &Snapshot<'_>,

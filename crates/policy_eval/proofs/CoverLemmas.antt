@@ -1,28 +1,30 @@
 -- What selectors cover, found once: places, flags, and lists that grow.
 use Rattle.std.proofs.Common.{◌≡◌, ◌<◌, ◌≤◌, ◌+◌, ◌||◌, ℕ, zero, suc, Bool, true, false, List, [], ◌∷◌, ◌++◌, length, append_assoc, arith, get_or, take, refl, ap, sym, ◌∙◌, subst, ◌⊎◌, inl, inr}
-use Rattle.std.specs.Prelude.{Contains, Option, Some, map, slice_get, slice_index_or}
+use Rattle.std.specs.Prelude.{Contains, Option, Some, map, slice_get}
 use Rattle.std.specs.List.{list_any}
 use Rattle.std.specs.Option.{option_map, option_map_or}
+use Rattle.std.proofs.Math.Bool.{or-false}
 use Rattle.std.proofs.lemmas.Bool.{cases_lt}
+use Rattle.std.proofs.lemmas.Option.{get_or_from_slice_get, slice_get-get_or, slice_get-map, slice_get_within}
 use Rattle.net_addr.specs.Bits.{Address, Block, family_size}
-use Rattle.net_rows.proofs.Members.{cut_last, first_member, rest_member}
+use Rattle.net_rows.proofs.Members.{cut_last}
 use Rattle.range_sets.specs.Sets.{Ranges, has, some_holds}
 use Rattle.policy_rows.specs.declared.group.Group.{Group}
 use Rattle.policy_rows.specs.declared.rule.Rule.{Rule}
 use Rattle.policy_rows.specs.declared.selector.Selector.{Selector}
-use Rattle.policy_eval.specs.Beyond.{covers_into}
-use Rattle.policy_eval.specs.ByRule.{IsSoundSite, covers_served, covers_site, site_end}
+use Rattle.policy_sites.specs.Beyond.{covers_into}
+use Rattle.policy_sites.specs.ByRule.{IsSoundSite, covers_served, covers_site, site_end}
 use Rattle.policy_eval.specs.Covering.{AreIndexed, Covering, IsCovering, IsGrown, beyond_at, cover_flag, covers_by, flag_at, flags_by, has_site, place_nets, served_at, some_flag}
-use Rattle.policy_eval.specs.Covers.{covers}
-use Rattle.policy_eval.specs.Ends.{end_at}
+use Rattle.policy_sites.specs.Covers.{covers}
+use Rattle.policy_sites.specs.Ends.{end_at}
 use Rattle.policy_eval.specs.Expansion.{AreFlags, AreMatched, CoverFits, IsCoverAt, IsSetOf, source_covers}
-use Rattle.policy_eval.specs.Sites.{AreDistinct, serves_beyond}
+use Rattle.policy_sites.specs.Sites.{AreDistinct, serves_beyond}
 use Rattle.policy_eval.specs.declared.cover.Cover.{Cover}
-use Rattle.policy_eval.specs.declared.end.End.{End}
-use Rattle.policy_eval.specs.declared.site.Site.{Site}
-use Rattle.policy_eval.proofs.EndLemmas.{own_end}
+use Rattle.policy_sites.specs.declared.end.End.{End}
+use Rattle.policy_sites.specs.declared.site.Site.{Site}
+use Rattle.policy_sites.proofs.EndLemmas.{own_end}
 use Rattle.policy_eval.proofs.MatchLemmas.{matched_more}
-use Rattle.policy_eval.proofs.OwnLemmas.{has_v4, has_v6}
+use Rattle.policy_sites.proofs.OwnLemmas.{has_v4, has_v6}
 
 -- ---- places of lists
 
@@ -35,30 +37,8 @@ pub get_end : {A : Type 0} (xs : List A) (x : A) → slice_get (xs ++ x ∷ []) 
 get_end [] x = refl
 get_end (z ∷ xs) x = get_end xs x
 
-get_map : {A B : Type 0} (f : A → B) (xs : List A) (i : ℕ) (x : A) → slice_get xs i ≡ Some x → slice_get (map f xs) i ≡ Some (f x)
-get_map f [] i x h = absurd (cc)
-get_map f (z ∷ xs) zero x h = ap (option_map f) h
-get_map f (z ∷ xs) (suc i) x h = get_map f xs i x h
-
 pub get_member : {A : Type 0} (xs : List A) (i : ℕ) (x : A) → slice_get xs i ≡ Some x → Contains xs x
-get_member [] i x h = absurd (cc)
-get_member (z ∷ xs) zero x h = let same : z ≡ x = cc in subst (λ y. Contains (z ∷ xs) y) same (first_member z xs)
-get_member (z ∷ xs) (suc i) x h = rest_member z xs x (get_member xs i x h)
-
-pub get_inside : {A : Type 0} (xs : List A) (i : ℕ) (x : A) → slice_get xs i ≡ Some x → i < length xs
-get_inside [] i x h = absurd (cc)
-get_inside (z ∷ xs) zero x h = omega arith
-get_inside (z ∷ xs) (suc i) x h = let rest = get_inside xs i x h in omega arith
-
-pub get_is : {A : Type 0} (xs : List A) (i : ℕ) (x d : A) → slice_get xs i ≡ Some x → slice_index_or xs i d ≡ x
-get_is [] i x d h = absurd (cc)
-get_is (z ∷ xs) zero x d h = let same : z ≡ x = cc in same
-get_is (z ∷ xs) (suc i) x d h = get_is xs i x d h
-
-pub get_of : {A : Type 0} (xs : List A) (i : ℕ) (d : A) → i < length xs → slice_get xs i ≡ Some (slice_index_or xs i d)
-get_of [] i d lt = absurd (omega arith)
-get_of (z ∷ xs) zero d lt = refl
-get_of (z ∷ xs) (suc i) d lt = get_of xs i d (omega arith)
+get_member xs i x h = (i, slice_get_within xs i x h, get_or_from_slice_get xs i x _ h)
 
 push_length : {A : Type 0} (xs : List A) (x : A) → length (xs ++ x ∷ []) ≡ length xs + 1
 push_length [] x = refl
@@ -79,11 +59,6 @@ indexed_more test count out new b h is put =
         let same : n ≡ count = omega arith in
         ap (λ (j : ℕ). slice_get (out ++ b ∷ []) j) (same ∙ sym h.whole) ∙ (get_end out b ∙ ap (λ (x : Bool). Some x) (is ∙ ap test (sym same)))
 
-pub get_or_of : {A : Type 0} (xs : List A) (i : ℕ) (d : A) → i < length xs → slice_get xs i ≡ Some (get_or xs i d)
-get_or_of [] i d lt = absurd (omega arith)
-get_or_of (z ∷ xs) zero d lt = refl
-get_or_of (z ∷ xs) (suc i) d lt = get_or_of xs i d (omega arith)
-
 -- ---- lists that go together
 
 pub matched_any : {A B : Type 0} (Fits : A → B → Type 0) (f : A → Bool) (g : B → Bool) → ((x : A) (y : B) → Fits x y → f x ≡ g y)
@@ -102,10 +77,6 @@ matched_weaker Fits More to (x ∷ xs) (y ∷ ys) h = (to x y h.0, matched_weake
 
 -- ---- flags
 
-or_false : (b : Bool) → b ≡ (b || false)
-or_false true = refl
-or_false false = refl
-
 -- a site's own addresses in what the selector covers
 site_flag : (groups : List Group) (sites : List Site) (selector : Selector) (set : Ranges) (site : Site) → AreDistinct sites → Contains sites site → IsSoundSite site
     → IsSetOf set (λ addr. covers groups selector (end_at sites addr)) → has_site set site ≡ covers_site groups site selector
@@ -114,14 +85,14 @@ site_flag groups sites selector set site distinct inside small is =
     let end6 = own_end sites distinct site.v6 site inside (has_v6 site) in
     let at4 : has set site.v4 ≡ covers groups selector (site_end site site.v4) = is site.v4 small.v4 ∙ ap (λ (e : End). covers groups selector e) end4 in
     let at6 : has set site.v6 ≡ covers groups selector (site_end site site.v6) = is site.v6 small.v6 ∙ ap (λ (e : End). covers groups selector e) end6 in
-    (λ i. at4 i || at6 i) ∙ ap (λ (b : Bool). covers groups selector (site_end site site.v4) || b) (or_false (covers groups selector (site_end site site.v6)))
+    (λ i. at4 i || at6 i) ∙ ap (λ (b : Bool). covers groups selector (site_end site site.v4) || b) (sym (or-false (covers groups selector (site_end site site.v6))))
 
 pub flags_fit : (groups : List Group) (sites : List Site) (selector : Selector) (set : Ranges) (flags : List Bool) → AreDistinct sites → ((s : Site) → Contains sites s → IsSoundSite s)
     → IsSetOf set (λ addr. covers groups selector (end_at sites addr)) → flags ≡ map (has_site set) sites → AreFlags (λ site. covers_site groups site selector) sites flags
 flags_fit groups sites selector set flags distinct sound is made at site there =
     let inside = get_member sites at site there in
     let flag = site_flag groups sites selector set site distinct inside (sound site inside) is in
-    ap (λ (bs : List Bool). slice_get bs at) made ∙ (get_map (has_site set) sites at site there ∙ ap (λ (b : Bool). Some b) flag)
+    ap (λ (bs : List Bool). slice_get bs at) made ∙ (slice_get-map (has_site set) sites at ∙ (ap (option_map (has_site set)) there ∙ ap (λ (b : Bool). Some b) flag))
 
 -- what it covers that sites serve
 pub served_fit : (groups : List Group) (sites : List Site) (selector : Selector) (flags slice served : List Bool) → AreFlags (λ site. covers_site groups site selector) sites flags → slice ≡ flags
@@ -130,7 +101,7 @@ served_fit groups sites selector flags slice served fit same made at site there 
     let own : flag_at slice at ≡ covers_site groups site selector =
     ap (λ (bs : List Bool). flag_at bs at) same ∙ ap (λ (o : Option Bool). option_map_or (λ b. b) o false) (fit at site there) in
     let beyond : beyond_at sites selector at ≡ covers_into (serves_beyond site) selector = ap (λ (o : Option Site). option_map_or (λ s. covers_into (serves_beyond s) selector) o false) there in
-    made.at at (get_inside sites at site there) ∙ (λ i. Some (own i || beyond i))
+    made.at at (slice_get_within sites at site there) ∙ (λ i. Some (own i || beyond i))
 
 by_fits : (served : Bool) (groups : List Group) (sites : List Site) (selector : Selector) (cover : Cover) → CoverFits groups sites selector cover
     → AreFlags (λ site. covers_by served groups site selector) sites (flags_by served cover)
@@ -150,7 +121,7 @@ pub some_flags_fit : {A : Type 0} (served : Bool) (to : A → Selector) (groups 
     → AreMatched (λ x place. IsCoverAt groups sites list (to x) place) xs places → AreIndexed (some_flag served list places) (length sites) flags
     → AreFlags (λ site. list_any (λ x. covers_by served groups site (to x)) xs) sites flags
 some_flags_fit {A} served to groups sites list xs places flags matched made at site there =
-    let inside = get_inside sites at site there in
+    let inside = slice_get_within sites at site there in
     let same = matched_any (λ x place. IsCoverAt groups sites list (to x) place) (λ x. covers_by served groups site (to x)) (cover_flag served list at)
     (λ x place fits. at_place served groups sites list (to x) place at site there fits) xs places matched in
     made.at at inside ∙ ap (λ (b : Bool). Some b) (sym same)
@@ -182,17 +153,16 @@ places_kept {A} to x y xs places grown h =
     matched_weaker (λ z place. IsCoverAt x.groups x.sites x.list (to z) place) (λ z place. IsCoverAt y.groups y.sites y.list (to z) place)
     (λ z place at. cover_kept x y (to z) place grown at) xs places h
 
-pub sources_kept : (x y : Covering) (sources asked : List Selector) (places slice : List ℕ) → asked ≡ sources → slice ≡ places → IsGrown x y
-    → AreMatched (IsCoverAt x.groups x.sites x.list) asked places → AreMatched (IsCoverAt y.groups y.sites y.list) sources slice
-sources_kept x y sources asked places slice same is grown h =
-    subst (λ (ps : List ℕ). AreMatched (IsCoverAt y.groups y.sites y.list) sources ps) (sym is)
-    (subst (λ (ss : List Selector). AreMatched (IsCoverAt y.groups y.sites y.list) ss places) same (places_kept (λ (s : Selector). s) x y asked places grown h))
+pub sources_kept : (x y : Covering) (sources asked : List Selector) (places : List ℕ) → asked ≡ sources → IsGrown x y
+    → AreMatched (IsCoverAt x.groups x.sites x.list) asked places → AreMatched (IsCoverAt y.groups y.sites y.list) sources places
+sources_kept x y sources asked places same grown h =
+    subst (λ (ss : List Selector). AreMatched (IsCoverAt y.groups y.sites y.list) ss places) same (places_kept (λ (s : Selector). s) x y asked places grown h)
 
 -- the selector's own stands where it was found
 pub found_at : (x : Covering) (items : List Cover) (place : ℕ) (cover : Cover) (selector : Selector) → IsCovering x → items ≡ x.list → place < length items → cover ≡ get_or items place cover
     → cover.selector ≡ selector → IsCoverAt x.groups x.sites x.list selector place
 found_at x items place cover selector sound same inside is own =
-    let there : slice_get items place ≡ Some cover = get_or_of items place cover inside ∙ ap (λ (c : Cover). Some c) (sym is) in
+    let there : slice_get items place ≡ Some cover = slice_get-get_or items place cover inside ∙ ap (λ (c : Cover). Some c) (sym is) in
     let here : slice_get x.list place ≡ Some cover = ap (λ (cs : List Cover). slice_get cs place) (sym same) ∙ there in
     (cover, here, subst (λ (s : Selector). CoverFits x.groups x.sites s cover) own (sound.covers cover (get_member x.list place cover here)))
 
@@ -230,13 +200,13 @@ places_more {A} to start x y xs i places new item place lt is old grown h at put
 
 -- one cover more
 pub covering_more : (groups : List Group) (sites : List Site) (list new : List Cover) (cover : Cover) (selector : Selector) → IsCovering (record { groups = groups; sites = sites; list = list })
-    → cover.selector ≡ selector → CoverFits groups sites selector cover → new ≡ list ++ cover ∷ [] → IsCovering (record { groups = groups; sites = sites; list = new })
-covering_more groups sites list new cover selector sound own fits put = record {
+    → CoverFits groups sites selector cover → new ≡ list ++ cover ∷ [] → IsCovering (record { groups = groups; sites = sites; list = new })
+covering_more groups sites list new cover selector sound fits put = record {
   distinct = sound.distinct;
   sound = sound.sound;
   covers = λ c inside.
       elim (cut_last list cover c (subst (λ (cs : List Cover). Contains cs c) put inside)) [
-        | inl e ↦ subst (λ (z : Cover). CoverFits groups sites z.selector z) (sym e) (subst (λ (s : Selector). CoverFits groups sites s cover) (sym own) fits)
+        | inl e ↦ subst (λ (z : Cover). CoverFits groups sites z.selector z) (sym e) (subst (λ (s : Selector). CoverFits groups sites s cover) (sym fits.own) fits)
         | inr before ↦ sound.covers c before
       ];
 }

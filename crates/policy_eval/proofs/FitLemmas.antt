@@ -3,25 +3,34 @@ use Rattle.std.proofs.Common.{◌≡◌, ◌<◌, ◌&&◌, ◌||◌, ℕ, Bool,
 use Rattle.std.specs.Prelude.{Option, slice_index_or}
 use Rattle.std.specs.List.{list_any}
 use Rattle.std.specs.Option.{option_map_or}
+use Rattle.std.proofs.lemmas.Option.{slice_get-get_or}
 use Rattle.policy_rows.specs.declared.dest.Dest.{Dest}
 use Rattle.policy_rows.specs.declared.group.Group.{Group}
 use Rattle.policy_rows.specs.declared.rule.Rule.{Rule}
-use Rattle.policy_eval.specs.ByRule.{lets_through, sends, site_reaches, takes}
+use Rattle.policy_rows.specs.declared.selector.Selector.{Selector}
+use Rattle.policy_sites.specs.ByRule.{lets_through, sends, site_reaches, takes}
 use Rattle.policy_eval.specs.Covering.{Covering, IsGrown, flag_at, sets_let}
-use Rattle.policy_eval.specs.Covers.{is_own}
-use Rattle.policy_eval.specs.Ends.{holder_of}
+use Rattle.policy_sites.specs.Covers.{is_own}
+use Rattle.policy_sites.specs.Ends.{holder_of}
 use Rattle.policy_eval.specs.Expansion.{AreFlags, AreMatched, Expansion, IsCoverAt, IsEntryAt, RuleFits, SetsFit}
 use Rattle.policy_eval.specs.declared.cover.Cover.{Cover}
 use Rattle.policy_eval.specs.declared.rule_sets.RuleSets.{RuleSets}
-use Rattle.policy_eval.specs.declared.site.Site.{Site}
-use Rattle.policy_eval.proofs.CoverLemmas.{get_of, grown_twice, matched_any, matched_weaker, places_kept}
+use Rattle.policy_sites.specs.declared.site.Site.{Site}
+use Rattle.policy_eval.proofs.CoverLemmas.{grown_twice, matched_any, matched_weaker, places_kept}
 use Rattle.policy_eval.proofs.MatchLemmas.{matched_at, matched_length, matched_more}
 
 pub rule_kept : (x y : Covering) (r : Rule) (sets : RuleSets) → IsGrown x y → RuleFits x.groups x.sites x.list r sets → RuleFits y.groups y.sites y.list r sets
 rule_kept x y r sets grown h =
     let moved : RuleFits y.groups y.sites x.list r sets = subst (λ (gs : List Group). RuleFits gs y.sites x.list r sets) (sym grown.groups)
     (subst (λ (ss : List Site). RuleFits x.groups ss x.list r sets) (sym grown.sites) h) in
-    record { sources = moved.sources; dests = places_kept (λ (e : Dest). e.to) x y r.dests sets.dests grown h.dests; sends = moved.sends; takes = moved.takes; owns = moved.owns }
+    record {
+      sources = moved.sources;
+      source_places = places_kept (λ (s : Selector). s) x y r.sources sets.source_places grown h.source_places;
+      dests = places_kept (λ (e : Dest). e.to) x y r.dests sets.dests grown h.dests;
+      sends = moved.sends;
+      takes = moved.takes;
+      owns = moved.owns;
+    }
 
 pub rule_inside : (x : Expansion) (list : List Cover) (sets : List RuleSets) (i : ℕ) → SetsFit x list sets → i < length x.rules → i < length sets
 rule_inside x list sets i fit lt = let same = matched_length (RuleFits x.groups x.sites list) x.rules sets fit.matched in omega arith
@@ -49,21 +58,9 @@ entry_at x list sets i got j place fit lt is at d e inside =
     subst (λ (p : ℕ). IsEntryAt x.groups x.sites list (slice_index_or r.dests j e) p) (sym at) (matched_at (IsEntryAt x.groups x.sites list) r.dests got.dests fits.dests j e 0 inside)
 
 -- a flag at a place
-flag_is : (test : Site → Bool) (sites : List Site) (flags : List Bool) (at : ℕ) (s : Site) → AreFlags test sites flags → at < length sites → test (slice_index_or sites at s) ≡ flag_at flags at
+pub flag_is : (test : Site → Bool) (sites : List Site) (flags : List Bool) (at : ℕ) (s : Site) → AreFlags test sites flags → at < length sites → test (slice_index_or sites at s) ≡ flag_at flags at
 flag_is test sites flags at s h lt =
-    sym (ap (λ (o : Option Bool). option_map_or (λ b. b) o false) (h at (slice_index_or sites at s) (get_of sites at s lt)))
-
-pub sends_is : (x : Expansion) (list : List Cover) (sets : List RuleSets) (i at : ℕ) (got : RuleSets) → SetsFit x list sets → i < length x.rules → at < length x.sites → ((d : RuleSets) → got ≡ slice_index_or sets i d)
-    → (r : Rule) (s : Site) → flag_at got.sends at ≡ sends x.groups (slice_index_or x.rules i r) (slice_index_or x.sites at s)
-sends_is x list sets i at got fit lt inside is r s =
-    let fits = rule_fits x list sets i got fit lt is r in
-    sym (flag_is (sends x.groups (slice_index_or x.rules i r)) x.sites got.sends at s fits.sends inside)
-
-pub takes_is : (x : Expansion) (list : List Cover) (sets : List RuleSets) (i at : ℕ) (got : RuleSets) → SetsFit x list sets → i < length x.rules → at < length x.sites → ((d : RuleSets) → got ≡ slice_index_or sets i d)
-    → (r : Rule) (s : Site) → flag_at got.takes at ≡ takes x.groups (slice_index_or x.rules i r) (slice_index_or x.sites at s)
-takes_is x list sets i at got fit lt inside is r s =
-    let fits = rule_fits x list sets i got fit lt is r in
-    sym (flag_is (takes x.groups (slice_index_or x.rules i r)) x.sites got.takes at s fits.takes inside)
+    sym (ap (λ (o : Option Bool). option_map_or (λ b. b) o false) (h at (slice_index_or sites at s) (slice_get-get_or sites at s lt)))
 
 -- a search of what is known of the rules is one of the rules
 pub reach_by_flags : (x : Expansion) (list : List Cover) (sets : List RuleSets) (a b : ℕ) (own : Bool) (s : Site) → SetsFit x list sets → a < length x.sites → b < length x.sites

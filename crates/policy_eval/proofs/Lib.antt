@@ -1,13 +1,5 @@
 pub mod CoverLemmas
-pub mod EndLemmas
 pub mod FitLemmas
-pub mod FittingLemmas
-pub mod IdLemmas
-pub mod InternetLemmas
-pub mod IntoLemmas
+pub mod FlagLemmas
+pub mod ForceLemmas
 pub mod MatchLemmas
-pub mod OwnLemmas
-pub mod ReachLemmas
-pub mod RouteLemmas
-pub mod SetLemmas
-pub mod SiteLemmas

@@ -6,13 +6,13 @@ use Rattle.net_addr.specs.Bits.{Block}
 use Rattle.range_sets.specs.Sets.{Ranges, has}
 use Rattle.policy_rows.specs.declared.group.Group.{Group}
 use Rattle.policy_rows.specs.declared.selector.Selector.{Selector}
-use Rattle.policy_eval.specs.Beyond.{covers_into}
-use Rattle.policy_eval.specs.ByRule.{IsSoundSite, covers_served, covers_site}
+use Rattle.policy_sites.specs.Beyond.{covers_into}
+use Rattle.policy_sites.specs.ByRule.{IsSoundSite, covers_served, covers_site}
 use Rattle.policy_eval.specs.Expansion.{CoverFits}
-use Rattle.policy_eval.specs.Sites.{AreDistinct, serves_beyond}
+use Rattle.policy_sites.specs.Sites.{AreDistinct, serves_beyond}
 use Rattle.policy_eval.specs.declared.cover.Cover.{Cover}
 use Rattle.policy_eval.specs.declared.rule_sets.RuleSets.{RuleSets}
-use Rattle.policy_eval.specs.declared.site.Site.{Site}
+use Rattle.policy_sites.specs.declared.site.Site.{Site}
 
 -- What is covered of which sites.
 pub record Covering : Type 0 where

@@ -1,5 +1,5 @@
 -- A policy expanded over sites: what its selectors and rules cover.
-use Rattle.std.specs.Prelude.{◌≡◌, ◌<◌, ◌&&◌, ℕ, Bool, List, [], ◌∷◌, Option, Some, slice_get}
+use Rattle.std.specs.Prelude.{◌≡◌, ◌<◌, ℕ, Bool, List, [], ◌∷◌, Option, Some, slice_get}
 use Rattle.net_addr.specs.Bits.{Address, family_size}
 use Rattle.range_sets.specs.Sets.{Ranges, has, some_holds}
 use Rattle.policy_rows.specs.declared.dest.Dest.{Dest}
@@ -8,15 +8,16 @@ use Rattle.policy_rows.specs.declared.policy.Policy.{Policy}
 use Rattle.policy_rows.specs.declared.rule.Rule.{Rule}
 use Rattle.policy_rows.specs.declared.selector.Selector.{Selector}
 use Rattle.net_rows.specs.declared.rows.Rows.{Rows}
-use Rattle.policy_eval.specs.ByRule.{covers_served, covers_site, has_own_devices, sends, takes}
-use Rattle.policy_eval.specs.Covers.{covers, names_holder}
-use Rattle.policy_eval.specs.Ends.{end_at, holder_of}
-use Rattle.policy_eval.specs.Grants.{groups_of, rules_of, some_source}
-use Rattle.policy_eval.specs.Reach.{AreSoundRules}
-use Rattle.policy_eval.specs.Sites.{AreApart, AreDistinct, site_has, sites_of}
+use Rattle.policy_sites.specs.ByRule.{covers_served, covers_site, has_own_devices, sends, takes}
+use Rattle.policy_sites.specs.Covers.{covers}
+use Rattle.policy_sites.specs.Ends.{end_at}
+use Rattle.policy_sites.specs.Fitting.{AreApproved}
+use Rattle.policy_sites.specs.Grants.{groups_of, rules_of, some_source}
+use Rattle.policy_sites.specs.Reach.{AreSoundRules}
+use Rattle.policy_sites.specs.Sites.{AreServedApart, AreDistinct, sites_of}
 use Rattle.policy_eval.specs.declared.cover.Cover.{Cover}
 use Rattle.policy_eval.specs.declared.rule_sets.RuleSets.{RuleSets}
-use Rattle.policy_eval.specs.declared.site.Site.{Site}
+use Rattle.policy_sites.specs.declared.site.Site.{Site}
 
 -- What was expanded over which sites.
 pub record Expansion : Type 0 where
@@ -44,10 +45,6 @@ source_covers groups sites r addr = some_source groups r (end_at sites addr)
 abbrev pub entry_covers : List Group → List Site → Dest → Address → Bool
 entry_covers groups sites entry addr = covers groups entry.to (end_at sites addr)
 
--- the site has the address, and the selector names its holder
-abbrev pub site_named : List Group → Selector → Address → Site → Bool
-site_named groups selector addr site = site_has addr site && names_holder groups selector (holder_of site)
-
 -- the lists are of one length, and go together place by place
 abbrev pub AreMatched : {A B : Type 0} → (A → B → Type 0) → List A → List B → Type 0
 AreMatched Fits [] [] = Unit {0}
@@ -59,9 +56,10 @@ AreMatched Fits (x ∷ xs) (y ∷ ys) = Fits x y × AreMatched Fits xs ys
 abbrev pub AreFlags : (Site → Bool) → List Site → List Bool → Type 0
 AreFlags test sites flags = (at : ℕ) (site : Site) → slice_get sites at ≡ Some site → slice_get flags at ≡ Some (test site)
 
--- what the selector covers: as prefixes, as a set, and of each site whether it covers one of its own ends, and whether
+-- what the selector, which is kept beside, covers: as prefixes, as a set, and of each site whether it covers one of its own ends, and whether
 -- it covers something that the site serves
 pub record CoverFits (groups : List Group) (sites : List Site) (selector : Selector) (cover : Cover) : Type 0 where
+  pub own : cover.selector ≡ selector
   pub nets : (addr : Address) → addr.bits < family_size addr.v6 → some_holds cover.nets addr ≡ covers groups selector (end_at sites addr)
   pub set : IsSetOf cover.set (λ addr. covers groups selector (end_at sites addr))
   pub flags : AreFlags (λ site. covers_site groups site selector) sites cover.flags
@@ -78,6 +76,7 @@ IsEntryAt groups sites list entry place = IsCoverAt groups sites list entry.to p
 -- what is known of a rule
 pub record RuleFits (groups : List Group) (sites : List Site) (list : List Cover) (r : Rule) (sets : RuleSets) : Type 0 where
   pub sources : IsSetOf sets.sources (source_covers groups sites r)
+  pub source_places : AreMatched (IsCoverAt groups sites list) r.sources sets.source_places
   pub dests : AreMatched (IsEntryAt groups sites list) r.dests sets.dests
   pub sends : AreFlags (sends groups r) sites sets.sends
   pub takes : AreFlags (takes groups r) sites sets.takes
@@ -86,6 +85,12 @@ pub record RuleFits (groups : List Group) (sites : List Site) (list : List Cover
 -- what is known of the rules, place by place
 pub record SetsFit (x : Expansion) (list : List Cover) (sets : List RuleSets) : Type 0 where
   pub distinct : AreDistinct x.sites
-  pub apart : AreApart x.sites
+  pub apart : AreServedApart x.sites
   pub sound : AreSoundRules x.rules
   pub matched : AreMatched (RuleFits x.groups x.sites list) x.rules sets
+
+-- what was expanded is the policy, over whatever sites, of which it approves what they say
+pub record IsOfPolicy (policy : Option Policy) (made : Expansion) : Type 0 where
+  pub groups : made.groups ≡ groups_of policy
+  pub rules : made.rules ≡ rules_of policy
+  pub sites : AreApproved policy made.sites

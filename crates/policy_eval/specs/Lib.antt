@@ -1,10 +1,2 @@
-pub mod Beyond
-pub mod ByRule
 pub mod Covering
-pub mod Covers
-pub mod Ends
 pub mod Expansion
-pub mod Fitting
-pub mod Grants
-pub mod Reach
-pub mod Sites

@@ -3,19 +3,18 @@ ghost use Rattle.std.specs.Prelude.{◌≡◌, ◌<◌, Contains, IfOk, map, tru
 ghost use Rattle.net_addr.specs.Bits.{Address, family_size};
 ghost use Rattle.range_sets.specs.Sets.{has, some_holds};
 ghost use Rattle.policy_rows.specs.declared.selector.Selector.{Selector};
-ghost use Rattle.policy_eval.specs.ByRule.{IsSoundSite};
+ghost use Rattle.policy_sites.specs.ByRule.{IsSoundSite};
 ghost use Rattle.policy_eval.specs.Covering.{has_site};
-ghost use Rattle.policy_eval.specs.Covers.{covers};
-ghost use Rattle.policy_eval.specs.Ends.{end_at};
+ghost use Rattle.policy_sites.specs.Covers.{covers};
+ghost use Rattle.policy_sites.specs.Ends.{end_at};
 ghost use Rattle.policy_eval.specs.Expansion.{CoverFits};
-ghost use Rattle.policy_eval.specs.Sites.{AreDistinct};
-ghost use Rattle.policy_eval.specs.declared.site.Site.{Site};
+ghost use Rattle.policy_sites.specs.Sites.{AreDistinct};
+ghost use Rattle.policy_sites.specs.declared.site.Site.{Site};
 
 use crate::flags::served_flags;
-use crate::listing::add_covered;
-use crate::site::Site;
 use net_addr::Prefix;
 use policy_rows::{Group, Selector};
+use policy_sites::{Site, add_covered};
 use range_sets::RangeSet;
 use std::alloc::Global;
 use tail_base::{Duplicate, Items, NoMemory};
@@ -117,7 +116,6 @@ pub(crate) fn cover_of(
 ) -> Result<Cover, NoMemory>
     requires distinct { AreDistinct sites.now }
     requires sound { (site : Site) → Contains sites.now site → IsSoundSite site }
-    ensures own { IfOk result (λ cover. cover.selector ≡ selector.now) }
     ensures fits { IfOk result (CoverFits groups.now sites.now selector.now) }
 {
     let nets = covered_nets(alloc, groups, sites, selector)?;

@@ -1,13 +1,13 @@
 //! What the selectors of rules cover, each found once for all rules.
 ghost use Rattle.std.specs.Prelude.{◌≡◌, [], IfOk, IfSome, Contains};
-ghost use Rattle.policy_eval.specs.ByRule.{IsSoundSite};
+ghost use Rattle.policy_sites.specs.ByRule.{IsSoundSite};
 ghost use Rattle.policy_eval.specs.Covering.{IsGrown};
 ghost use Rattle.policy_eval.specs.Expansion.{AreMatched, IsCoverAt, IsEntryAt};
-ghost use Rattle.policy_eval.specs.Sites.{AreDistinct};
+ghost use Rattle.policy_sites.specs.Sites.{AreDistinct};
 
 use crate::cover::{Cover, cover_of, look_at_sites, same_selector};
-use crate::site::Site;
 use policy_rows::{Dest, Group, Selector};
+use policy_sites::Site;
 use std::alloc::Global;
 use std::marker::Model;
 use tail_base::{Items, NoMemory};

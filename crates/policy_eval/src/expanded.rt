@@ -1,31 +1,30 @@
 //! Policies expanded over the machines that are live.
-ghost use Rattle.std.specs.Prelude.{◌≡◌, ◌<◌, IfOk, length, slice_index_or};
+ghost use Rattle.std.specs.Prelude.{◌≡◌, ◌<◌, IfOk, length, map, slice_index_or};
 ghost use Rattle.std.specs.List.{list_any};
 ghost use Rattle.std.specs.Option.{option_copied};
 ghost use Rattle.policy_rows.specs.declared.dest.Dest.{Dest};
 ghost use Rattle.policy_rows.specs.declared.rule.Rule.{Rule};
-ghost use Rattle.policy_eval.specs.ByRule.{sends, sends_into, site_reaches, site_sends_into, takes, target_of};
+ghost use Rattle.policy_sites.specs.ByRule.{sends, sends_into, site_reaches, site_sends_into, takes, target_of};
 ghost use Rattle.policy_eval.specs.Covering.{sets_let};
-ghost use Rattle.policy_eval.specs.Expansion.{Expansion, IsSetOf, entry_covers, expansion_of, source_covers};
-ghost use Rattle.policy_eval.specs.Grants.{some_rule_grants};
-ghost use Rattle.policy_eval.specs.Reach.{AreSoundRules};
-ghost use Rattle.policy_eval.specs.Sites.{AreApart, AreDistinct};
+ghost use Rattle.policy_eval.specs.Expansion.{AreFlags, Expansion, IsSetOf, entry_covers, expansion_of, source_covers};
+ghost use Rattle.policy_sites.specs.Grants.{some_rule_grants};
+ghost use Rattle.policy_sites.specs.Reach.{AreSoundRules};
+ghost use Rattle.policy_sites.specs.Sites.{AreServedApart, AreDistinct};
 ghost use Rattle.policy_eval.specs.declared.cover.Cover.{Cover};
 ghost use Rattle.policy_eval.specs.declared.rule_sets.RuleSets.{RuleSets};
-ghost use Rattle.policy_eval.specs.declared.site.Site.{Site};
+ghost use Rattle.policy_sites.specs.declared.site.Site.{Site};
 
 use crate::cover::Cover;
 use crate::cover_list::Covers;
-use crate::end::End;
 use crate::flags::flag_at;
-use crate::granting::some_rule_grants;
 use crate::rule_sets::{RuleSets, sets_let, sets_of_rules};
-use crate::rules::{groups_of, look_at_rules, rules_of};
-use crate::site::{Site, are_own, sites_of};
-use crate::touching::dests_into;
+use crate::site_flags::{SiteFlags, flags_of_rules, selector_flags};
 use net_addr::Prefix;
 use net_rows::Tables;
 use policy_rows::{Group, Policy, Rule};
+use policy_sites::{
+    End, Site, are_own, dests_into, groups_of, look_at_rules, rules_of, sites_of, some_rule_grants,
+};
 use range_sets::RangeSet;
 use std::alloc::Global;
 use std::marker::Model;
@@ -79,7 +78,7 @@ pub struct Expanded {
 }
 
 impl Model for Expanded {
-    ghost use Rattle.policy_eval.specs.ByRule.{sends, site_reaches, takes};
+    ghost use Rattle.policy_sites.specs.ByRule.{sends, site_reaches, takes};
     ghost use Rattle.policy_eval.specs.Covering.{sets_let};
     ghost use Rattle.policy_eval.specs.Expansion.{Expansion, SetsFit};
 
@@ -137,9 +136,22 @@ impl Expanded {
     pub fn sites(&self) -> &[Site]
         ensures value { result.now ≡ self.now.sites }
         ensures distinct { AreDistinct self.now.sites }
-        ensures apart { AreApart self.now.sites }
+        ensures apart { AreServedApart self.now.sites }
     {
         self.sites.as_slice()
+    }
+
+    /// What is known of that rule.
+    fn known_of(&self, rule: usize) -> &RuleSets
+        requires inside { rule < length self.now.rules }
+        ensures sources { (d : Rule) → IsSetOf result.now.sources (source_covers self.now.groups
+            self.now.sites (slice_index_or self.now.rules rule d)) }
+        ensures sends { (d : Rule) → AreFlags (sends self.now.groups
+            (slice_index_or self.now.rules rule d)) self.now.sites result.now.sends }
+        ensures takes { (d : Rule) → AreFlags (takes self.now.groups
+            (slice_index_or self.now.rules rule d)) self.now.sites result.now.takes }
+    {
+        sets_of(self.sets.as_slice(), rule)
     }
 
     /// The addresses that some source of that rule covers.
@@ -148,8 +160,7 @@ impl Expanded {
         ensures held { (d : Rule) → IsSetOf result.now (source_covers self.now.groups self.now.sites
             (slice_index_or self.now.rules rule d)) }
     {
-        let sets = sets_of(self.sets.as_slice(), rule);
-        &sets.sources
+        &self.known_of(rule).sources
     }
 
     /// The addresses that that destination of that rule covers; none for `autogroup:self`.
@@ -173,8 +184,7 @@ impl Expanded {
         ensures value { (r : Rule) (s : Site) → result ≡ sends self.now.groups
             (slice_index_or self.now.rules rule r) (slice_index_or self.now.sites site s) }
     {
-        let sets = sets_of(self.sets.as_slice(), rule);
-        flag_at(sets.sends.as_slice(), site)
+        flag_at(self.known_of(rule).sends.as_slice(), site)
     }
 
     /// Whether that rule lets through to something that the machine at that place serves whoever may
@@ -185,8 +195,22 @@ impl Expanded {
         ensures value { (r : Rule) (s : Site) → result ≡ takes self.now.groups
             (slice_index_or self.now.rules rule r) (slice_index_or self.now.sites site s) }
     {
-        let sets = sets_of(self.sets.as_slice(), rule);
-        flag_at(sets.takes.as_slice(), site)
+        flag_at(self.known_of(rule).takes.as_slice(), site)
+    }
+
+    /// What a machine may do by each rule, also one over which the policy wasn't expanded, or whose row has
+    /// changed. Each selector is tried once.
+    pub fn flags_of(&self, alloc: Global, site: &Site) -> Result<SiteFlags, NoMemory>
+        ensures sends { IfOk result (λ flags. flags.sends
+            ≡ map (λ r. sends self.now.groups r site.now) self.now.rules) }
+        ensures takes { IfOk result (λ flags. flags.takes
+            ≡ map (λ r. takes self.now.groups r site.now) self.now.rules) }
+    {
+        let covers = self.covers.as_slice();
+        let found = selector_flags(alloc, self.groups.as_slice(), covers, site)?;
+        let (own, served) = (found.own.as_slice(), found.served.as_slice());
+        let flags = flags_of_rules(alloc, self.sets.as_slice(), own, served)?;
+        Ok(flags)
     }
 
     /// Whether by that rule the machine at that place sends into the route, or, without one, into the

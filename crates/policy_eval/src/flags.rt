@@ -2,10 +2,9 @@
 ghost use Rattle.std.specs.Prelude.{◌≡◌, IfOk, length};
 ghost use Rattle.policy_eval.specs.Covering.{AreIndexed, beyond_at, cover_flag, flag_at, flags_by, served_at, some_flag};
 
-use crate::beyond::covers_beyond;
 use crate::cover::Cover;
-use crate::site::Site;
 use policy_rows::Selector;
+use policy_sites::{Site, covers_beyond};
 use std::alloc::Global;
 use tail_base::{Items, NoMemory};
 

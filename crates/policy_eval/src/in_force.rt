@@ -4,9 +4,9 @@ ghost use Rattle.std.specs.Option.{option_copied};
 ghost use Rattle.policy_eval.specs.Expansion.{expansion_of};
 
 use crate::expanded::Expanded;
-use crate::fitting::sites_fit;
 use net_rows::Tables;
 use policy_rows::Policy;
+use policy_sites::sites_fit;
 use std::alloc::Global;
 use std::marker::Model;
 use tail_base::NoMemory;
@@ -21,7 +21,7 @@ pub struct InForce {
 impl Model for InForce {
     ghost use Rattle.std.specs.Prelude.{IfSome, Option};
     ghost use Rattle.policy_rows.specs.declared.policy.Policy.{Policy};
-    ghost use Rattle.policy_eval.specs.Fitting.{IsOfPolicy};
+    ghost use Rattle.policy_eval.specs.Expansion.{IsOfPolicy};
 
     ghost Value = { Option Policy };
 

@@ -1,31 +1,15 @@
-//! Policies in force over the live machines of a tailnet: which flows they grant, and which addresses
-//! their rules cover.
+//! Policies expanded over the live machines of a tailnet: the addresses that their rules cover, which
+//! machines send and take by them, and the policy in force.
 #![tactic(auto)]
 
-mod beyond;
 mod cover;
 mod cover_list;
-mod covering;
-mod end;
 mod expanded;
-mod fitting;
 mod flags;
-mod granting;
-mod id_list;
 mod in_force;
-mod laws;
-mod listing;
 mod rule_sets;
-mod rules;
-mod site;
-mod touching;
+mod site_flags;
 
-pub use covering::{covers, is_own_devices, joins_own};
-pub use end::{End, Holder};
 pub use expanded::Expanded;
-pub use granting::{ports_hold, some_source};
-pub use id_list::IdList;
 pub use in_force::InForce;
-pub use laws::{a_reach_is_by_rules, an_address_has_one_site};
-pub use rule_sets::has_own_devices;
-pub use site::{Site, are_own, sites_of};
+pub use site_flags::SiteFlags;

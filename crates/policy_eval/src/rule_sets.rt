@@ -3,27 +3,26 @@ ghost use Rattle.std.specs.Prelude.{◌≡◌, IfOk, slice_get, Some};
 ghost use Rattle.std.specs.List.{list_any};
 ghost use Rattle.net_addr.specs.Bits.{Address};
 ghost use Rattle.range_sets.specs.Sets.{some_holds};
-ghost use Rattle.policy_eval.specs.ByRule.{has_own_devices};
 ghost use Rattle.policy_eval.specs.Covering.{IsGrown, place_nets, sets_let};
 ghost use Rattle.policy_eval.specs.Expansion.{AreMatched, IsCoverAt, IsEntryAt, IsSetOf, RuleFits, source_covers};
 
 use crate::cover::Cover;
 use crate::cover_list::Covers;
-use crate::covering::is_own_devices;
 use crate::flags::{flag_at, some_flags};
-use crate::listing::add_all;
 use net_addr::Prefix;
 use policy_rows::Rule;
+use policy_sites::{add_all, has_own_devices};
 use range_sets::RangeSet;
 use std::alloc::Global;
 use tail_base::{Items, NoMemory};
 
-/// What is known of a rule: the addresses that its sources cover; where what its destinations cover
-/// stands; of each site whether it sends and whether it takes by the rule; and whether `autogroup:self`
-/// is a destination.
+/// What is known of a rule: the addresses that its sources cover; where what its sources and what its
+/// destinations cover stands; of each site whether it sends and whether it takes by the rule; and whether
+/// `autogroup:self` is a destination.
 #[derive(Drop)]
 pub(crate) struct RuleSets {
     pub(crate) sources: RangeSet,
+    pub(crate) source_places: Items<usize>,
     pub(crate) dests: Items<usize>,
     pub(crate) sends: Items<bool>,
     pub(crate) takes: Items<bool>,
@@ -41,7 +40,7 @@ fn place_nets(covers: &[Cover], place: usize) -> &[Prefix]
 }
 
 /// The prefixes at these places.
-#[tactic(auto, using(crate::proofs::SetLemmas::set_steps))]
+#[tactic(auto, using(policy_sites::proofs::SetLemmas::set_steps))]
 fn source_nets(alloc: Global, covers: &[Cover], places: &[usize]) -> Result<Items<Prefix>, NoMemory>
     ensures held { IfOk result (λ nets. (addr : Address) → some_holds nets addr
         ≡ list_any (λ place. some_holds (place_nets covers.now place) addr) places.now) }
@@ -70,35 +69,28 @@ fn source_set(
     Ok(set)
 }
 
-/// Whether `autogroup:self` is a destination of the rule.
-pub fn has_own_devices(rule: &Rule) -> bool
-    ensures value { result ≡ has_own_devices rule.now }
-{
-    let entries = rule.dests.as_slice();
-    entries.iter().any(|entry| is_own_devices(&entry.to))
-}
-
 /// What is known of the rule, where what its sources and destinations cover stands at the places.
 fn sets_at(
     alloc: Global,
     covers: &Covers<'_>,
     rule: &Rule,
-    sources: &[usize],
+    source_places: Items<usize>,
     dests: Items<usize>,
 ) -> Result<RuleSets, NoMemory>
     requires sources { AreMatched (IsCoverAt covers.now.groups covers.now.sites covers.now.list)
-        rule.now.sources sources.now }
+        rule.now.sources source_places }
     requires dests { AreMatched (IsEntryAt covers.now.groups covers.now.sites covers.now.list)
         rule.now.dests dests }
     ensures fits { IfOk result
         (RuleFits covers.now.groups covers.now.sites covers.now.list rule.now) }
 {
     let count = covers.sites().len();
-    let set = source_set(alloc, covers, rule, sources)?;
-    let sends = some_flags(alloc, covers.list(), false, sources, count)?;
+    let sources = source_set(alloc, covers, rule, source_places.as_slice())?;
+    let sends = some_flags(alloc, covers.list(), false, source_places.as_slice(), count)?;
     let takes = some_flags(alloc, covers.list(), true, dests.as_slice(), count)?;
     Ok(RuleSets {
-        sources: set,
+        sources,
+        source_places,
         dests,
         sends,
         takes,
@@ -113,7 +105,7 @@ fn rule_sets(alloc: Global, covers: &mut Covers<'_>, rule: &Rule) -> Result<Rule
 {
     let sources = covers.source_places(alloc, rule.sources.as_slice())?;
     let dests = covers.dest_places(alloc, rule.dests.as_slice())?;
-    sets_at(alloc, covers, rule, sources.as_slice(), dests)
+    sets_at(alloc, covers, rule, sources, dests)
 }
 
 /// What is known of each rule.

@@ -1,8 +1,10 @@
 //! Maps under policies: whom a machine sees, and its packet filter.
 //!
-//! To the marks of `talks` come two. `| RULES` saves a policy with these rules, over the tailnet of `SETUP`, which stands
-//! behind its conversation's beginning. `? N PEERS FILTER` asks for the map of machine N: its peers, each a digit, or `-`
-//! for none, and its filter, where `@` and `#` stand for the beginning of an address, and `~` for all ports.
+//! To the marks of `talks` come three. `| RULES` saves a policy with these rules, over the tailnet of `SETUP`, which stands
+//! behind its conversation's beginning; `& RULES` has the routers of `ROUTERS` in it, too. `? N PEERS FILTER` asks for the
+//! map of machine N: its peers, each a digit, or `-` for none, and its filter, where `@` and `#` stand for the beginning of
+//! an address, and `~` for all ports. Behind a digit stand the routes that the map has at the machine: `a` for 10.1.0.0/16,
+//! `b` for 10.2.0.0/16, `x` for both exit routes.
 use std::alloc::Global;
 use std::test::Fail;
 use tail_base::NoMemory;
@@ -34,6 +36,65 @@ const SETUP: &str = r#"> POST /api/v1/user Bearer/secret {"name":"bob"}
 /// A policy with groups, hosts, tags, and these rules.
 const BEFORE_RULES: &str =
     r#"> PUT /api/v1/policy Bearer/secret {"groups":{"group:g":["bob@","eve@"]},"hosts":{"lab":"100.64.0.4/31"},"tagOwners":{"tag:web":[]},"acls":["#;
+
+/// The same with approvers of routes and of exit nodes.
+const BEFORE_ROUTED_RULES: &str =
+    r#"> PUT /api/v1/policy Bearer/secret {"groups":{"group:g":["bob@","eve@"]},"tagOwners":{"tag:web":[]},"autoApprovers":{"routes":{"10.0.0.0/8":["tag:web","bob@"]},"exitNode":["bob@"]},"acls":["#;
+
+/// Machine 3 advertises two routes, and 4 one of them and the exit routes.
+const ROUTERS: &str =
+    r#"> POST /machine/map mkey:%3 {"NodeKey":"nodekey:%3","OmitPeers":true,"Hostinfo":{"RoutableIPs":["10.1.0.0/16","10.2.0.0/16"]}}
+< 200
+> POST /machine/map mkey:%4 {"NodeKey":"nodekey:%4","OmitPeers":true,"Hostinfo":{"RoutableIPs":["10.1.0.0/16","0.0.0.0/0","::/0"]}}
+< 200
+"#;
+
+const ROUTED: &str = r##"= everything to everybody
+& {"action":"accept","src":["*"],"dst":["*:*"]}
+? 1 3ab4x [{"DstPorts":[{"IP":"@1",~},{"IP":"#1",~}],"IPProto":[1,6,17,58],"SrcIPs":["*"]}]
+? 3ab 14ax [{"DstPorts":[{"IP":"10.1.0.0/16",~},{"IP":"10.2.0.0/16",~},{"IP":"@3",~},{"IP":"#3",~}],"IPProto":[1,6,17,58],"SrcIPs":["*"]}]
+= seed@ -> 10.1.0.0/16:*
+& {"action":"accept","src":["seed@"],"dst":["10.1.0.0/16:*"]}
+? 1 3a4 []
+? 3ab 1 [{"DstPorts":[{"IP":"10.1.0.0/16",~}],"IPProto":[1,6,17,58],"SrcIPs":["@1","#1"]}]
+? 4ax 1 [{"DstPorts":[{"IP":"10.1.0.0/16",~}],"IPProto":[1,6,17,58],"SrcIPs":["@1","#1"]}]
+> POST /api/v1/node/3/expire Bearer/secret {}
+< 200 {"addresses":["100.64.0.3","fd7a:115c:a1e0::3"],"advertised":["10.1.0.0/16","10.2.0.0/16"],"approved":[],"expiry":"2001-09-09T01:46:40Z","id":3,"live":false,"name":"node-2","online":false,"served":["10.1.0.0/16","10.2.0.0/16"],"tags":["tag:web"],"user":"seed@"}
+? 1 4a []
+= bob@ -> 10.2.0.0/16:22
+& {"action":"accept","src":["bob@"],"dst":["10.2.0.0/16:22"]}
+? 1 - []
+? 3ab 4 [{"DstPorts":[{"IP":"10.2.0.0/16","Ports":{"First":22,"Last":22}}],"IPProto":[1,6,17,58],"SrcIPs":["@4","#4"]}]
+? 4ax 3b []
+= seed@ -> 10.1.2.0/24:*, inside a route
+& {"action":"accept","src":["seed@"],"dst":["10.1.2.0/24:*"]}
+? 1 3a4 []
+? 3ab 1 [{"DstPorts":[{"IP":"10.1.2.0/24",~}],"IPProto":[1,6,17,58],"SrcIPs":["@1","#1"]}]
+= seed@ -> 10.0.0.0/8:*, around two routes
+& {"action":"accept","src":["seed@"],"dst":["10.0.0.0/8:*"]}
+? 1 3ab4 []
+? 3ab 1 [{"DstPorts":[{"IP":"10.1.0.0/16",~},{"IP":"10.2.0.0/16",~}],"IPProto":[1,6,17,58],"SrcIPs":["@1","#1"]}]
+? 4ax 1 [{"DstPorts":[{"IP":"10.1.0.0/16",~}],"IPProto":[1,6,17,58],"SrcIPs":["@1","#1"]}]
+= seed@ -> autogroup:internet:443
+& {"action":"accept","src":["seed@"],"dst":["autogroup:internet:443"]}
+? 1 4x []
+? 3ab - []
+= seed@ -> 8.8.8.8:53 2001:db8::8:53
+& {"action":"accept","src":["seed@"],"dst":["8.8.8.8:53","2001:db8::8:53"]}
+? 1 4x []
+? 4ax 1 [{"DstPorts":[{"IP":"8.8.8.8","Ports":{"First":53,"Last":53}},{"IP":"2001:db8::8","Ports":{"First":53,"Last":53}}],"IPProto":[1,6,17,58],"SrcIPs":["@1","#1"]}]
+= seed@ -> 192.168.0.0/16:*, which nobody serves
+& {"action":"accept","src":["seed@"],"dst":["192.168.0.0/16:*"]}
+? 1 - []
+? 4ax - []
+= seed@ -> bob@:22 tag:web:22, and no route
+& {"action":"accept","src":["seed@"],"dst":["bob@:22","tag:web:22"]}
+? 1 34 []
+? 3ab 1 [{"DstPorts":[{"IP":"@3","Ports":{"First":22,"Last":22}},{"IP":"#3","Ports":{"First":22,"Last":22}}],"IPProto":[1,6,17,58],"SrcIPs":["@1","#1"]}]
+= tag:web -> *:*
+& {"action":"accept","src":["tag:web"],"dst":["*:*"]}
+? 1 3 [{"DstPorts":[{"IP":"@1",~},{"IP":"#1",~}],"IPProto":[1,6,17,58],"SrcIPs":["@3","#3"]}]
+? 3ab 14ax [{"DstPorts":[{"IP":"10.1.0.0/16",~},{"IP":"10.2.0.0/16",~},{"IP":"@3",~},{"IP":"#3",~}],"IPProto":[1,6,17,58],"SrcIPs":["@3","#3"]}]"##;
 
 const FILTERS: &str = r##"= * -> *:*
 | {"action":"accept","src":["*"],"dst":["*:*"]}
@@ -215,6 +276,7 @@ const FILTERS: &str = r##"= * -> *:*
 #[derive(Clone, Copy, Drop)]
 struct Shown {
     id: &'static str,
+    digit: char,
     label: &'static str,
     tags: &'static str,
     owner: &'static str,
@@ -223,18 +285,21 @@ struct Shown {
 const MACHINES: [Shown; 3] = [
     Shown {
         id: "1",
+        digit: '1',
         label: "node",
         tags: "",
         owner: "1",
     },
     Shown {
         id: "3",
+        digit: '3',
         label: "node-2",
         tags: "\"tag:web\"",
         owner: "2147483647",
     },
     Shown {
         id: "4",
+        digit: '4',
         label: "node-3",
         tags: "",
         owner: "2",
@@ -251,16 +316,35 @@ const PROFILES: [(&str, &str); 3] = [
     ),
 ];
 
-fn add_node(alloc: Global, out: &mut String, machine: &Shown) -> Result<(), NoMemory> {
+/// The routes that the letters behind the machine's digit stand for, each behind a comma.
+fn routes_of(alloc: Global, ids: &str, machine: &Shown) -> Result<String, NoMemory> {
+    let mut out = String::new(alloc);
+    let mut is_own = false;
+    for part in ids.chars() {
+        match part {
+            'a' if is_own => out.push_str(r#","10.1.0.0/16""#)?,
+            'b' if is_own => out.push_str(r#","10.2.0.0/16""#)?,
+            'x' if is_own => out.push_str(r#","0.0.0.0/0","::/0""#)?,
+            'a' | 'b' | 'x' => {}
+            digit => is_own = digit == machine.digit,
+        }
+    }
+    Ok(out)
+}
+
+/// The machine as these ids show it.
+fn add_node(alloc: Global, out: &mut String, ids: &str, machine: &Shown) -> Result<(), NoMemory> {
+    let routes = routes_of(alloc, ids, machine)?;
     let Shown {
         id,
+        digit: _,
         label,
         tags,
         owner,
     } = machine;
-    let addresses = format!(in alloc; r#"["100.64.0.{id}/32","fd7a:115c:a1e0::{id}/128"]"#)?;
+    let addresses = format!(in alloc; r#""100.64.0.{id}/32","fd7a:115c:a1e0::{id}/128""#)?;
     let node = format!(in alloc;
-        r#"{{"Addresses":{addresses},"AllowedIPs":{addresses},"Created":"2001-09-09T01:46:40Z","DiscoKey":"discokey:%0","Endpoints":[],"HomeDERP":0,"Hostinfo":{{"Hostname":""}},"ID":{id},"Key":"nodekey:%{id}","KeyExpiry":"0001-01-01T00:00:00Z","Machine":"mkey:%{id}","MachineAuthorized":true,"Name":"{label}.tail.example.","Online":false,"StableID":"n{id}","Tags":[{tags}],"User":{owner}}}"#
+        r#"{{"Addresses":[{addresses}],"AllowedIPs":[{addresses}{routes}],"Created":"2001-09-09T01:46:40Z","DiscoKey":"discokey:%0","Endpoints":[],"HomeDERP":0,"Hostinfo":{{"Hostname":""}},"ID":{id},"Key":"nodekey:%{id}","KeyExpiry":"0001-01-01T00:00:00Z","Machine":"mkey:%{id}","MachineAuthorized":true,"Name":"{label}.tail.example.","Online":false,"StableID":"n{id}","Tags":[{tags}],"User":{owner}}}"#
     )?;
     out.push_str(node.as_str())?;
     Ok(())
@@ -280,7 +364,7 @@ fn add_nodes(alloc: Global, out: &mut String, ids: &str) -> Result<(), NoMemory>
     for machine in &MACHINES {
         if ids.contains(machine.id) {
             add_comma(out, is_first)?;
-            add_node(alloc, out, machine)?;
+            add_node(alloc, out, ids, machine)?;
             is_first = false;
         }
     }
@@ -356,24 +440,41 @@ fn add_owners(out: &mut String, ids: &str) -> Result<(), NoMemory> {
     Ok(())
 }
 
+/// The id that the digit stands for.
+fn id_of(own: &str) -> &'static str {
+    for machine in &MACHINES {
+        if own.contains(machine.id) {
+            return machine.id;
+        }
+    }
+    ""
+}
+
 /// The request for the map of a machine, and its answer.
 fn add_map(alloc: Global, out: &mut String, line: &str) -> Result<(), NoMemory> {
-    let (id, rest) = cut(line);
+    let (own, rest) = cut(line);
     let (peers, filter) = cut(rest);
-    add_request(alloc, out, id)?;
-    add_own(alloc, out, id)?;
+    add_request(alloc, out, id_of(own))?;
+    add_own(alloc, out, own)?;
     add_filter(out, filter)?;
     add_peers(alloc, out, peers)?;
-    let shown = format!(in alloc; "{id}{peers}")?;
+    let shown = format!(in alloc; "{own}{peers}")?;
     add_owners(out, shown.as_str())
 }
 
 /// A policy with these rules, saved over the tailnet.
-fn add_rules(out: &mut String, rules: &str) -> Result<(), NoMemory> {
+fn add_rules(out: &mut String, before: &str, rules: &str) -> Result<(), NoMemory> {
     out.push_str(SETUP)?;
-    out.push_str(BEFORE_RULES)?;
+    out.push_str(before)?;
     out.push_str(rules)?;
     out.push_str("]}\n< 200 {}\n")?;
+    Ok(())
+}
+
+/// The same with routers.
+fn add_routed_rules(out: &mut String, rules: &str) -> Result<(), NoMemory> {
+    add_rules(out, BEFORE_ROUTED_RULES, rules)?;
+    out.push_str(ROUTERS)?;
     Ok(())
 }
 
@@ -387,16 +488,17 @@ fn add_plain(out: &mut String, line: &str) -> Result<(), NoMemory> {
 fn add_line(alloc: Global, out: &mut String, line: &str) -> Result<(), NoMemory> {
     let (mark, rest) = cut(line);
     match mark {
-        "|" => add_rules(out, rest),
+        "|" => add_rules(out, BEFORE_RULES, rest),
+        "&" => add_routed_rules(out, rest),
         "?" => add_map(alloc, out, rest),
         _ => add_plain(out, line),
     }
 }
 
-/// The table as `talks` has it.
-fn written(alloc: Global) -> Result<String, NoMemory> {
+/// A table as `talks` has it.
+fn written(alloc: Global, table: &str) -> Result<String, NoMemory> {
     let mut talks = String::new(alloc);
-    for line in FILTERS.lines() {
+    for line in table.lines() {
         add_line(alloc, &mut talks, line)?;
     }
     Ok(talks)
@@ -404,7 +506,14 @@ fn written(alloc: Global) -> Result<String, NoMemory> {
 
 #[test]
 fn maps_are_those_of_the_policy_in_force(rt: HostRuntime) -> Result<(), Fail> {
-    let talks = written(rt.alloc())?;
+    let talks = written(rt.alloc(), FILTERS)?;
+    assert_eq!(rt; first_not_held(rt.alloc(), talks.as_str())?, None);
+    Ok(())
+}
+
+#[test]
+fn maps_have_routes_at_one_router(rt: HostRuntime) -> Result<(), Fail> {
+    let talks = written(rt.alloc(), ROUTED)?;
     assert_eq!(rt; first_not_held(rt.alloc(), talks.as_str())?, None);
     Ok(())
 }

@@ -4,4 +4,8 @@
 #[cfg(test)]
 mod filters;
 #[cfg(test)]
+mod office;
+#[cfg(test)]
 mod policies;
+#[cfg(test)]
+mod routes;

@@ -38,15 +38,17 @@ const SAVES: &str = r#"= policy-none
 = policy-quoted-place
 > PUT /api/v1/policy Bearer/secret {"a\"b":1}
 < 422 {"code":"P3","place":"a\"b"}
-= policy-forms-to-come
+= policy-with-approvers
 > PUT /api/v1/policy Bearer/secret {"autoApprovers":{"routes":{"10.0.0.0/8":["ann@"]}},"tests":[{"src":"ann@","accept":["bob@:22"]}]}
-< 422 {"code":"P4","place":"autoApprovers"}
-> PUT /api/v1/policy Bearer/secret {"autoApprovers":{"exitNode":["ann@"]}}
-< 422 {"code":"P4","place":"autoApprovers"}
-> PUT /api/v1/policy Bearer/secret {"autoApprovers":{"exitNode":["ann@"]},"acls":[],"tests":[{"src":"ann@","accept":["bob@:22"]}]}
-< 422 {"code":"P4","place":"autoApprovers"}
-> PUT /api/v1/policy Bearer/secret {"autoApprovers":{"routes":{},"exitNode":[]},"tests":[]}
 < 200 {}
+> PUT /api/v1/policy Bearer/secret {"autoApprovers":{"exitNode":["ann@"]}}
+< 200 {}
+> PUT /api/v1/policy Bearer/secret {"autoApprovers":{"exitNode":["ann@"]},"acls":[],"tests":[{"src":"ann@","accept":["bob@:22"]}]}
+< 422 {"code":"P21","place":"tests[0].accept[0]"}
+> PUT /api/v1/policy Bearer/secret {"autoApprovers":{"exitNode":["*"]}}
+< 422 {"code":"P11","place":"autoApprovers.exitNode[0]"}
+> GET /api/v1/policy Bearer/secret
+< 200 {"autoApprovers":{"exitNode":["ann@"]}}
 = policy-caller
 > PUT /api/v1/policy Bearer/other {}
 < 401 {"error":"BadToken"}
@@ -276,7 +278,7 @@ fn kept_policies_are_opened(rt: HostRuntime) -> Result<(), Fail> {
     assert_damaged(&rt, alloc, "[,]")?;
     assert_damaged(&rt, alloc, "")?;
     assert_damaged(&rt, alloc, "{\"acls\":[{}]}")?;
-    assert_damaged(&rt, alloc, "{\"autoApprovers\":{\"exitNode\":[\"ann@\"]}}")?;
+    assert_damaged(&rt, alloc, "{\"autoApprovers\":{\"exitNode\":[\"*\"]}}")?;
     Ok(())
 }
 

@@ -12,9 +12,9 @@ use Rattle.policy_rows.specs.declared.policy.Policy.{Policy}
 use Rattle.policy_rows.specs.declared.rule.Rule.{Rule}
 use Rattle.policy_rows.specs.declared.selector.Selector.{Selector}
 use Rattle.policy_rows.specs.declared.test.Test.{Test}
-use Rattle.policy_eval.specs.Grants.{rules_of, some_rule_grants}
-use Rattle.policy_eval.specs.declared.end.End.{End}
-use Rattle.policy_eval.specs.declared.site.Site.{Site}
+use Rattle.policy_sites.specs.Grants.{rules_of, some_rule_grants}
+use Rattle.policy_sites.specs.declared.end.End.{End}
+use Rattle.policy_sites.specs.declared.site.Site.{Site}
 use Rattle.policy_tests.specs.Lasting.{StandsFor, is_lasting, lasts}
 use Rattle.policy_tests.specs.TestEnds.{ends_of}
 use Rattle.policy_tests.specs.Tests.{is_accepted, port_of, protos_of}

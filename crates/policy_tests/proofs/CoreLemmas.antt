@@ -10,9 +10,9 @@ use Rattle.policy_rows.specs.Named.{members_of}
 use Rattle.policy_rows.specs.declared.group.Group.{Group}
 use Rattle.policy_rows.specs.declared.selector.Selector.{Selector}
 use Rattle.policy_rows.specs.declared.selector.Selector.TheVariants as sel
-use Rattle.policy_eval.specs.Covers.{joins_own}
-use Rattle.policy_eval.specs.declared.end.End.{End}
-use Rattle.policy_eval.specs.declared.site.Site.{Site}
+use Rattle.policy_sites.specs.Covers.{joins_own}
+use Rattle.policy_sites.specs.declared.end.End.{End}
+use Rattle.policy_sites.specs.declared.site.Site.{Site}
 use Rattle.policy_tests.specs.Lasting.{StandsFor}
 use Rattle.policy_tests.specs.TestEnds.{ends_of, has_tag, is_users, site_ends, tag_ends, tag_phantom, user_ends, user_phantom}
 use Rattle.policy_tests.specs.Trials.{core_of}

@@ -11,9 +11,9 @@ use Rattle.policy_rows.specs.declared.group.Group.{Group}
 use Rattle.policy_rows.specs.declared.rule.Rule.{Rule}
 use Rattle.policy_rows.specs.declared.selector.Selector.{Selector}
 use Rattle.policy_rows.specs.declared.selector.Selector.TheVariants as sel
-use Rattle.policy_eval.specs.Covers.{covers, dest_covers, is_own_devices, joins_own}
-use Rattle.policy_eval.specs.Grants.{entry_grants, ports_hold, rule_grants, some_rule_grants, some_source}
-use Rattle.policy_eval.specs.declared.end.End.{End}
+use Rattle.policy_sites.specs.Covers.{covers, dest_covers, is_own_devices, joins_own}
+use Rattle.policy_sites.specs.Grants.{entry_grants, ports_hold, rule_grants, some_rule_grants, some_source}
+use Rattle.policy_sites.specs.declared.end.End.{End}
 use Rattle.policy_tests.specs.Tests.{protos_of}
 use Rattle.policy_tests.specs.Trials.{is_met, is_open, lets_some, pair_passes, some_passes}
 

@@ -11,8 +11,8 @@ use Rattle.policy_rows.specs.declared.policy.Policy.{Policy}
 use Rattle.policy_rows.specs.declared.test.Test.{Test}
 use Rattle.net_rows.specs.declared.rows.Rows.{Rows}
 use Rattle.policy_eval.specs.Expansion.{Expansion, expansion_of}
-use Rattle.policy_eval.specs.Sites.{sites_of}
-use Rattle.policy_eval.specs.declared.site.Site.{Site}
+use Rattle.policy_sites.specs.Sites.{sites_of}
+use Rattle.policy_sites.specs.declared.site.Site.{Site}
 use Rattle.policy_tests.specs.Trials.{accepted_by, denied_by}
 use Rattle.policy_tests.specs.Lasting.{AcceptsLast}
 use Rattle.policy_tests.specs.Tests.{entry_failure, failure_from, first_failure, is_accepted, is_denied, test_failure}

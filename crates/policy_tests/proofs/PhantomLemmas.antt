@@ -15,12 +15,12 @@ use Rattle.policy_rows.specs.declared.group.Group.{Group}
 use Rattle.policy_rows.specs.declared.rule.Rule.{Rule}
 use Rattle.policy_rows.specs.declared.selector.Selector.{Selector}
 use Rattle.policy_rows.specs.declared.selector.Selector.TheVariants as sel
-use Rattle.policy_eval.specs.Covers.{covers, dest_covers, is_own, joins_own, names_holder}
-use Rattle.policy_eval.specs.Ends.{holder_of}
-use Rattle.policy_eval.specs.Grants.{entry_grants, ports_hold, rule_grants, some_rule_grants, some_source}
-use Rattle.policy_eval.specs.declared.end.End.{End}
-use Rattle.policy_eval.specs.declared.end.Holder.{Holder}
-use Rattle.policy_eval.specs.declared.site.Site.{Site}
+use Rattle.policy_sites.specs.Covers.{covers, dest_covers, is_own, joins_own, names_holder}
+use Rattle.policy_sites.specs.Ends.{holder_of}
+use Rattle.policy_sites.specs.Grants.{entry_grants, ports_hold, rule_grants, some_rule_grants, some_source}
+use Rattle.policy_sites.specs.declared.end.End.{End}
+use Rattle.policy_sites.specs.declared.end.Holder.{Holder}
+use Rattle.policy_sites.specs.declared.site.Site.{Site}
 use Rattle.policy_tests.specs.Lasting.{StandsFor}
 use Rattle.policy_tests.specs.TestEnds.{has_tag, is_users, machine_end, site_ends}
 

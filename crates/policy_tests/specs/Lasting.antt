@@ -5,8 +5,8 @@ use Rattle.policy_rows.specs.declared.policy.Policy.{Policy}
 use Rattle.policy_rows.specs.declared.selector.Selector.{Selector}
 use Rattle.policy_rows.specs.declared.selector.Selector.TheVariants as sel
 use Rattle.policy_rows.specs.declared.test.Test.{Test}
-use Rattle.policy_eval.specs.declared.end.End.{End}
-use Rattle.policy_eval.specs.declared.site.Site.{Site}
+use Rattle.policy_sites.specs.declared.end.End.{End}
+use Rattle.policy_sites.specs.declared.site.Site.{Site}
 use Rattle.policy_tests.specs.TestEnds.{has_tag, is_users, site_ends, tag_phantom, user_phantom}
 use Rattle.policy_tests.specs.Tests.{is_accepted}
 

@@ -7,9 +7,9 @@ use Rattle.policy_rows.specs.Named.{members_of}
 use Rattle.policy_rows.specs.declared.group.Group.{Group}
 use Rattle.policy_rows.specs.declared.selector.Selector.{Selector}
 use Rattle.policy_rows.specs.declared.selector.Selector.TheVariants as sel
-use Rattle.policy_eval.specs.Ends.{end_at, holder_of}
-use Rattle.policy_eval.specs.declared.end.End.{End}
-use Rattle.policy_eval.specs.declared.site.Site.{Site}
+use Rattle.policy_sites.specs.Ends.{end_at, holder_of}
+use Rattle.policy_sites.specs.declared.end.End.{End}
+use Rattle.policy_sites.specs.declared.site.Site.{Site}
 
 -- one of a machine's own addresses, with its holder
 abbrev pub machine_end : Site → Address → End

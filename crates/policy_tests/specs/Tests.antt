@@ -9,9 +9,9 @@ use Rattle.policy_rows.specs.declared.dest.Dest.{Dest}
 use Rattle.policy_rows.specs.declared.fault.PolicyFault.{PolicyFault}
 use Rattle.policy_rows.specs.declared.policy.Policy.{Policy}
 use Rattle.policy_rows.specs.declared.test.Test.{Test}
-use Rattle.policy_eval.specs.Grants.{grants}
-use Rattle.policy_eval.specs.declared.end.End.{End}
-use Rattle.policy_eval.specs.declared.site.Site.{Site}
+use Rattle.policy_sites.specs.Grants.{grants}
+use Rattle.policy_sites.specs.declared.end.End.{End}
+use Rattle.policy_sites.specs.declared.site.Site.{Site}
 use Rattle.policy_tests.specs.TestEnds.{ends_of}
 use Rattle.policy_tests.specs.declared.failure.TestFailure.{TestFailure}
 

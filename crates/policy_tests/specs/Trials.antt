@@ -7,10 +7,10 @@ use Rattle.policy_rows.specs.declared.group.Group.{Group}
 use Rattle.policy_rows.specs.declared.rule.Rule.{Rule}
 use Rattle.policy_rows.specs.declared.selector.Selector.{Selector}
 use Rattle.policy_rows.specs.declared.test.Test.{Test}
-use Rattle.policy_eval.specs.Covers.{dest_covers}
-use Rattle.policy_eval.specs.Grants.{ports_hold, some_rule_grants, some_source}
-use Rattle.policy_eval.specs.declared.end.End.{End}
-use Rattle.policy_eval.specs.declared.site.Site.{Site}
+use Rattle.policy_sites.specs.Covers.{dest_covers}
+use Rattle.policy_sites.specs.Grants.{ports_hold, some_rule_grants, some_source}
+use Rattle.policy_sites.specs.declared.end.End.{End}
+use Rattle.policy_sites.specs.declared.site.Site.{Site}
 use Rattle.policy_tests.specs.Lasting.{is_lasting}
 use Rattle.policy_tests.specs.TestEnds.{ends_of}
 use Rattle.policy_tests.specs.Tests.{port_of, protos_of}

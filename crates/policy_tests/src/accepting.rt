@@ -5,8 +5,9 @@ ghost use Rattle.policy_tests.specs.Trials.{accepted_by, all_pass, core_of, pair
 
 use crate::ends::core_of;
 use crate::opening::port_of;
-use policy_eval::{End, Expanded, Site};
+use policy_eval::Expanded;
 use policy_rows::{Dest, Test};
+use policy_sites::{End, Site};
 use std::alloc::Global;
 use tail_base::NoMemory;
 

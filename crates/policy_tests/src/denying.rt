@@ -1,16 +1,17 @@
 //! Whether deny entries pass: each rule is asked once.
 ghost use Rattle.std.specs.Prelude.{◌≡◌, ◌&&◌, IfOk};
 ghost use Rattle.std.specs.List.{list_any};
-ghost use Rattle.policy_eval.specs.Covers.{covers, joins_own};
-ghost use Rattle.policy_eval.specs.Grants.{some_source};
-ghost use Rattle.policy_eval.specs.declared.end.End.{End};
+ghost use Rattle.policy_sites.specs.Covers.{covers, joins_own};
+ghost use Rattle.policy_sites.specs.Grants.{some_source};
+ghost use Rattle.policy_sites.specs.declared.end.End.{End};
 ghost use Rattle.policy_tests.specs.TestEnds.{ends_of};
 ghost use Rattle.policy_tests.specs.Trials.{denied_by, is_met, lets_some, some_passes};
 
 use crate::ends::{core_of, ends_of};
 use crate::opening::{is_open, port_of};
-use policy_eval::{End, Expanded, Site, covers, is_own_devices, joins_own, some_source};
+use policy_eval::Expanded;
 use policy_rows::{Dest, Group, Rule, Test};
+use policy_sites::{End, Site, covers, is_own_devices, joins_own, some_source};
 use std::alloc::Global;
 use tail_base::NoMemory;
 

@@ -2,15 +2,15 @@
 ghost use Rattle.std.specs.Prelude.{◌≡◌, ◌++◌, [], IfOk, OnOk, flat_map, if◌then◌else◌};
 ghost use Rattle.std.specs.Option.{option_copied};
 ghost use Rattle.std.specs.List.{find};
-ghost use Rattle.policy_eval.specs.Ends.{end_at, holder_of};
-ghost use Rattle.policy_eval.specs.Sites.{site_has};
+ghost use Rattle.policy_sites.specs.Ends.{end_at, holder_of};
+ghost use Rattle.policy_sites.specs.Sites.{site_has};
 ghost use Rattle.policy_tests.specs.Trials.{core_of};
 ghost use Rattle.policy_tests.specs.TestEnds.{ends_of, has_tag, is_users, machine_end, phantom, site_ends, tag_ends, tag_phantom, user_ends, user_phantom};
 
 use crate::opening::is_lasting;
 use net_addr::Addr;
-use policy_eval::{End, Holder, Site};
 use policy_rows::{Group, Selector, members_of};
+use policy_sites::{End, Holder, Site};
 use std::alloc::Global;
 use tail_base::{Duplicate, Items, Login, NoMemory, Tag, Text};
 

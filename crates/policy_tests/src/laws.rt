@@ -3,9 +3,9 @@ ghost use Rattle.std.specs.Prelude.{◌≡◌, ℕ, List, Option, [], true};
 ghost use Rattle.policy_rows.specs.declared.dest.Dest.{Dest};
 ghost use Rattle.policy_rows.specs.declared.policy.Policy.{Policy};
 ghost use Rattle.policy_rows.specs.declared.test.Test.{Test};
-ghost use Rattle.policy_eval.specs.Grants.{grants};
-ghost use Rattle.policy_eval.specs.declared.end.End.{End};
-ghost use Rattle.policy_eval.specs.declared.site.Site.{Site};
+ghost use Rattle.policy_sites.specs.Grants.{grants};
+ghost use Rattle.policy_sites.specs.declared.end.End.{End};
+ghost use Rattle.policy_sites.specs.declared.site.Site.{Site};
 ghost use Rattle.policy_tests.specs.Lasting.{StandsFor, lasts};
 ghost use Rattle.policy_tests.specs.Tests.{is_accepted};
 

@@ -1,13 +1,13 @@
 //! What a rule lets through to a port.
 ghost use Rattle.std.specs.Prelude.{◌≡◌, ◌&&◌};
 ghost use Rattle.port_sets.specs.Protocols.{has_member};
-ghost use Rattle.policy_eval.specs.Grants.{ports_hold};
+ghost use Rattle.policy_sites.specs.Grants.{ports_hold};
 ghost use Rattle.policy_tests.specs.Lasting.{is_lasting};
 ghost use Rattle.policy_tests.specs.Tests.{first_port, port_of};
 ghost use Rattle.policy_tests.specs.Trials.{is_open};
 
-use policy_eval::ports_hold;
 use policy_rows::{Dest, Rule, Selector};
+use policy_sites::ports_hold;
 use port_sets::PortRange;
 
 /// Whether the selector is a user, a group or a tag.

@@ -2,7 +2,7 @@
 ghost use Rattle.std.specs.Prelude.{◌≡◌, IfOk, None, not};
 ghost use Rattle.std.specs.List.{position_from};
 ghost use Rattle.tail_base.specs.Steps.{Gives};
-ghost use Rattle.policy_eval.specs.Sites.{sites_of};
+ghost use Rattle.policy_sites.specs.Sites.{sites_of};
 ghost use Rattle.policy_tests.specs.Lasting.{AcceptsLast};
 ghost use Rattle.policy_tests.specs.Tests.{failure_from, first_failure, list_name, place_of, test_failure, tested};
 ghost use Rattle.policy_tests.specs.Trials.{accepted_by, denied_by};
@@ -12,8 +12,9 @@ use crate::denying::is_denied;
 use crate::ends::{core_of, ends_of};
 use crate::failure::TestFailure;
 use net_rows::Tables;
-use policy_eval::{Expanded, Site, sites_of};
+use policy_eval::Expanded;
 use policy_rows::{Policy, PolicyCode, PolicyFault, Test, indexed, refused, under};
+use policy_sites::{Site, sites_of};
 use std::alloc::Global;
 use tail_base::{Failure, NoMemory, Text};
 

@@ -1,5 +1,7 @@
 //! Databases in files, opened as the program opens them.
-use keeper_sqlite::{HostKeeper, HostOpener};
+ghost use Rattle.std.specs.Prelude.{◌≡◌, None};
+
+use keeper_sqlite::HostOpener;
 use net_rows::{Change, Row, Tables};
 use row_keeper::{Keeper, Opener};
 use std::alloc::Global;
@@ -25,22 +27,25 @@ fn policy(alloc: Global, text: &str) -> Result<Change, Fail> {
     })
 }
 
-fn opened(rt: &HostRuntime) -> Result<HostKeeper, Fail> {
-    match HostOpener::new(*rt).open(rt.alloc(), FILE) {
+/// What the opener opens by the file's name.
+fn opened<O: Opener>(alloc: Global, opener: &mut O) -> Result<O::Keeper, Fail> {
+    match opener.open(alloc, FILE) {
         Ok(keeper) => Ok(keeper),
         Err(_) => Err(Fail::from("the file isn't opened")),
     }
 }
 
-fn load(alloc: Global, keeper: &mut HostKeeper) -> Result<Tables, Fail> {
+fn load<K: Keeper>(alloc: Global, keeper: &mut K) -> Result<Tables, Fail> {
     match keeper.load(alloc) {
         Ok(tables) => Ok(tables),
         Err(_) => Err(Fail::from("the file isn't loaded")),
     }
 }
 
-/// Loads the tables, and keeps this policy.
-fn keep(alloc: Global, keeper: &mut HostKeeper, text: &str) -> Result<(), Fail> {
+/// Loads the tables, and keeps this policy. A keeper that tells what it keeps would want sound tables.
+fn keep<K: Keeper>(alloc: Global, keeper: &mut K, text: &str) -> Result<(), Fail>
+    requires untold { (it : K) → K.told it ≡ None }
+{
     load(alloc, keeper)?;
     match keeper.commit(alloc, &policy(alloc, text)?) {
         Ok(()) => Ok(()),
@@ -56,30 +61,34 @@ fn has_policy(tables: &Tables, text: &str) -> bool {
 }
 
 /// Keeps this policy, and lets the keeper go without a close: the log alone holds the change then.
-fn keep_and_drop(rt: &HostRuntime, text: &str) -> Result<(), Fail> {
-    let mut keeper = opened(rt)?;
-    keep(rt.alloc(), &mut keeper, text)
+fn keep_and_drop<O: Opener>(alloc: Global, opener: &mut O, text: &str) -> Result<(), Fail>
+    requires untold { (it : O.Keeper) → O.Keeper.told it ≡ None }
+{
+    let mut keeper = opened(alloc, opener)?;
+    keep(alloc, &mut keeper, text)
 }
 
 /// Keeps this policy, and closes: the file holds the change then.
-fn keep_and_close(rt: &HostRuntime, text: &str) -> Result<(), Fail> {
-    let mut keeper = opened(rt)?;
-    let kept = keep(rt.alloc(), &mut keeper, text);
-    HostOpener::new(*rt).close(keeper);
+fn keep_and_close<O: Opener>(alloc: Global, opener: &mut O, text: &str) -> Result<(), Fail>
+    requires untold { (it : O.Keeper) → O.Keeper.told it ≡ None }
+{
+    let mut keeper = opened(alloc, opener)?;
+    let kept = keep(alloc, &mut keeper, text);
+    opener.close(keeper);
     kept
 }
 
 /// Whether this policy is loaded.
-fn reads(rt: &HostRuntime, text: &str) -> Result<bool, Fail> {
-    let mut keeper = opened(rt)?;
-    let tables = load(rt.alloc(), &mut keeper)?;
+fn reads<O: Opener>(alloc: Global, opener: &mut O, text: &str) -> Result<bool, Fail> {
+    let mut keeper = opened(alloc, opener)?;
+    let tables = load(alloc, &mut keeper)?;
     Ok(has_policy(&tables, text))
 }
 
 /// Whether the file can't be opened beside a keeper over it.
-fn has_one_opener(rt: &HostRuntime) -> Result<bool, Fail> {
-    let _keeper = opened(rt)?;
-    Ok(HostOpener::new(*rt).open(rt.alloc(), FILE).is_err())
+fn has_one_opener<O: Opener>(alloc: Global, opener: &mut O, other: &mut O) -> Result<bool, Fail> {
+    let _keeper = opened(alloc, opener)?;
+    Ok(other.open(alloc, FILE).is_err())
 }
 
 fn mode(rt: &HostRuntime, name: &str) -> Result<u32, Fail> {
@@ -95,15 +104,25 @@ fn are_private(rt: &HostRuntime) -> Result<bool, Fail> {
 
 /// Whether what the log alone holds is there again, and both files are for their owner alone.
 fn is_kept_without_a_close(rt: &HostRuntime) -> Result<bool, Fail> {
-    keep_and_drop(rt, "{}")?;
-    Ok(are_private(rt)? && reads(rt, "{}")?)
+    let mut opener = HostOpener::new(*rt);
+    keep_and_drop(rt.alloc(), &mut opener, "{}")?;
+    Ok(are_private(rt)? && reads(rt.alloc(), &mut opener, "{}")?)
 }
 
 /// Whether what was kept before a close is there without the log.
 fn is_kept_by_a_close(rt: &HostRuntime) -> Result<bool, Fail> {
-    keep_and_close(rt, "{\"acls\":[]}")?;
+    let mut opener = HostOpener::new(*rt);
+    keep_and_close(rt.alloc(), &mut opener, "{\"acls\":[]}")?;
     fs::remove_file(rt, LOG)?;
-    reads(rt, "{\"acls\":[]}")
+    reads(rt.alloc(), &mut opener, "{\"acls\":[]}")
+}
+
+fn is_opened_once(rt: &HostRuntime) -> Result<bool, Fail> {
+    has_one_opener(
+        rt.alloc(),
+        &mut HostOpener::new(*rt),
+        &mut HostOpener::new(*rt),
+    )
 }
 
 #[test]
@@ -112,7 +131,7 @@ fn what_was_kept_is_there_again(rt: HostRuntime) -> Result<(), Fail> {
     fs::create_dir(&rt, FOLDER)?;
     assert!(rt; is_kept_without_a_close(&rt)?);
     assert!(rt; is_kept_by_a_close(&rt)?);
-    assert!(rt; has_one_opener(&rt)?);
+    assert!(rt; is_opened_once(&rt)?);
     fs::remove_dir_all(&rt, FOLDER)?;
     Ok(())
 }

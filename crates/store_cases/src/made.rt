@@ -6,13 +6,18 @@ use sqlite::{Connection, MemStore};
 use std::alloc::Global;
 use std::test::Fail;
 
+fn load_once<K: Keeper>(alloc: Global, keeper: &mut K) -> Result<(), Fail> {
+    match keeper.load(alloc) {
+        Ok(_) => Ok(()),
+        Err(_) => Err(Fail::from("an empty database isn't loaded")),
+    }
+}
+
 /// A database in memory that has the tables, and no row but that of the counters.
 pub(crate) fn made(alloc: Global) -> Result<Connection<MemStore>, Fail> {
     let mut keeper = SqliteKeeper::adopt(Connection::open_in_memory(alloc)?);
-    match keeper.load(alloc) {
-        Ok(_) => Ok(keeper.give_back()),
-        Err(_) => Err(Fail::from("an empty database isn't loaded")),
-    }
+    load_once(alloc, &mut keeper)?;
+    Ok(keeper.give_back())
 }
 
 /// Runs these statements, one behind the other.

@@ -1,19 +1,20 @@
 //! Names that hold no database of ours.
 use io_edge::EdgeFault;
-use keeper_sqlite::{HostKeeper, HostOpener};
+use keeper_sqlite::HostOpener;
 use net_rows::Kind;
 use row_keeper::{Keeper, LoadFault, Opener};
 use sqlite::Connection;
+use std::alloc::Global;
 use std::fs;
 use std::test::Fail;
 
-fn open(rt: &HostRuntime, name: &str) -> Result<HostKeeper, EdgeFault> {
-    HostOpener::new(*rt).open(rt.alloc(), name)
+/// Whether nothing is opened by this name, at a fault of the opener.
+fn fails_by<O: Opener>(alloc: Global, opener: &mut O, name: &str) -> bool {
+    matches!(opener.open(alloc, name), Err(EdgeFault::Failed))
 }
 
-/// Whether nothing is opened by this name, at a fault of the opener.
 fn fails(rt: &HostRuntime, name: &str) -> bool {
-    matches!(open(rt, name), Err(EdgeFault::Failed))
+    fails_by(rt.alloc(), &mut HostOpener::new(*rt), name)
 }
 
 const FOLDER: &str = "store_cases_others";
@@ -57,29 +58,29 @@ fn make_notes(rt: &HostRuntime) -> Result<(), Fail> {
     let Ok(mut conn) = Connection::open(rt, NOTES) else {
         return Err(Fail::from("the file isn't made"));
     };
-    if conn.execute("CREATE TABLE notes (note TEXT)", &[]).is_err() {
-        return Err(Fail::from("the table isn't made"));
-    }
-    match conn.close() {
-        Ok(()) => Ok(()),
-        Err(_) => Err(Fail::from("the file isn't closed")),
+    let is_made = conn.execute("CREATE TABLE notes (note TEXT)", &[]).is_ok();
+    let is_closed = conn.close().is_ok();
+    if is_made && is_closed {
+        Ok(())
+    } else {
+        Err(Fail::from("the table isn't made"))
     }
 }
 
 /// Why the notes aren't loaded.
-fn fault_of_notes(rt: &HostRuntime) -> Result<Option<LoadFault>, Fail> {
-    let Ok(mut keeper) = open(rt, NOTES) else {
+fn fault_of_notes<O: Opener>(alloc: Global, opener: &mut O) -> Result<Option<LoadFault>, Fail> {
+    let Ok(mut keeper) = opener.open(alloc, NOTES) else {
         return Err(Fail::from("the file isn't opened"));
     };
-    let fault = keeper.load(rt.alloc()).err();
-    HostOpener::new(*rt).close(keeper);
+    let fault = keeper.load(alloc).err();
+    opener.close(keeper);
     Ok(fault)
 }
 
 /// Why the notes aren't loaded, and whether they stay as they are.
 fn fault_and_sameness(rt: &HostRuntime) -> Result<(Option<LoadFault>, bool), Fail> {
     let before = fs::read(rt, NOTES)?;
-    let fault = fault_of_notes(rt)?;
+    let fault = fault_of_notes(rt.alloc(), &mut HostOpener::new(*rt))?;
     let after = fs::read(rt, NOTES)?;
     Ok((fault, before.as_slice() == after.as_slice()))
 }

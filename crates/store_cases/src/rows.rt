@@ -1,4 +1,6 @@
 //! Rows of every kind, written and read again.
+ghost use Rattle.std.specs.Prelude.{◌≡◌, None};
+
 use crate::made::{made, run};
 use io_edge::EdgeFault;
 use keeper_sqlite::SqliteKeeper;
@@ -37,31 +39,56 @@ SELECT * FROM machines
 SELECT * FROM extras
 SELECT * FROM policy";
 
-/// Adds what puts the rows of these tables with ids.
-fn put_rows(alloc: Global, puts: &mut Items<Row>, tables: &Tables) -> Result<(), NoMemory> {
+fn put_users(alloc: Global, puts: &mut Items<Row>, tables: &Tables) -> Result<(), NoMemory> {
     for user in tables.users() {
         puts.push(Row::User(user.copy(alloc)?))?;
     }
+    Ok(())
+}
+
+fn put_keys(alloc: Global, puts: &mut Items<Row>, tables: &Tables) -> Result<(), NoMemory> {
     for key in tables.keys() {
         puts.push(Row::Key(key.copy(alloc)?))?;
     }
+    Ok(())
+}
+
+fn put_pending(alloc: Global, puts: &mut Items<Row>, tables: &Tables) -> Result<(), NoMemory> {
     for entry in tables.pending() {
         puts.push(Row::Pending(entry.copy(alloc)?))?;
     }
+    Ok(())
+}
+
+fn put_machines(alloc: Global, puts: &mut Items<Row>, tables: &Tables) -> Result<(), NoMemory> {
     for machine in tables.machines() {
         puts.push(Row::Machine(machine.copy(alloc)?))?;
     }
     Ok(())
 }
 
-/// The change that makes these tables of empty ones.
-fn change_to(alloc: Global, tables: &Tables) -> Result<Change, NoMemory> {
-    let mut puts = Items::new(alloc);
-    put_rows(alloc, &mut puts, tables)?;
+/// Adds what puts the rows of these tables without ids.
+fn put_single(alloc: Global, puts: &mut Items<Row>, tables: &Tables) -> Result<(), NoMemory> {
     puts.push(Row::Extras(Items::from_slice(alloc, tables.extras())?))?;
     if let Some(text) = tables.policy() {
         puts.push(Row::Policy(text.copy(alloc)?))?;
     }
+    Ok(())
+}
+
+/// Adds what puts the rows of these tables.
+fn put_rows(alloc: Global, puts: &mut Items<Row>, tables: &Tables) -> Result<(), NoMemory> {
+    put_users(alloc, puts, tables)?;
+    put_keys(alloc, puts, tables)?;
+    put_pending(alloc, puts, tables)?;
+    put_machines(alloc, puts, tables)?;
+    put_single(alloc, puts, tables)
+}
+
+/// The change that makes these tables of empty ones.
+fn change_to(alloc: Global, tables: &Tables) -> Result<Change, NoMemory> {
+    let mut puts = Items::new(alloc);
+    put_rows(alloc, &mut puts, tables)?;
     Ok(Change {
         puts,
         gone: Items::new(alloc),
@@ -77,14 +104,17 @@ fn shown(alloc: Global, conn: &mut Connection<MemStore>, text: &str) -> Result<S
     }
 }
 
-fn load(alloc: Global, keeper: &mut SqliteKeeper<MemStore>) -> Result<Tables, Fail> {
+fn load<K: Keeper>(alloc: Global, keeper: &mut K) -> Result<Tables, Fail> {
     match keeper.load(alloc) {
         Ok(tables) => Ok(tables),
         Err(_) => Err(Fail::from("the rows aren't loaded")),
     }
 }
 
-fn commit(alloc: Global, keeper: &mut SqliteKeeper<MemStore>, change: &Change) -> Result<(), Fail> {
+/// Commits the change. A keeper that tells what it keeps would want sound tables.
+fn commit<K: Keeper>(alloc: Global, keeper: &mut K, change: &Change) -> Result<(), Fail>
+    requires untold { (it : K) → K.told it ≡ None }
+{
     match keeper.commit(alloc, change) {
         Ok(()) => Ok(()),
         Err(_) => Err(Fail::from("the change isn't kept")),
@@ -120,19 +150,30 @@ fn first_text(alloc: Global) -> Result<String, Fail> {
     text_of(alloc, conn)
 }
 
+/// The tables of these rows.
+fn loaded(alloc: Global) -> Result<Tables, Fail> {
+    load(alloc, &mut SqliteKeeper::adopt(with_rows(alloc)?))
+}
+
 /// The change that makes these rows of none.
 fn whole_change(alloc: Global) -> Result<Change, Fail> {
-    let mut keeper = SqliteKeeper::adopt(with_rows(alloc)?);
-    let tables = load(alloc, &mut keeper)?;
+    let tables = loaded(alloc)?;
     Ok(change_to(alloc, &tables)?)
 }
 
-/// A database to which the change was committed, twice, so that each row is added and then replaced.
+/// Commits the change twice, so that each row is added and then replaced.
+fn commit_twice<K: Keeper>(alloc: Global, keeper: &mut K, change: &Change) -> Result<(), Fail>
+    requires untold { (it : K) → K.told it ≡ None }
+{
+    load(alloc, keeper)?;
+    commit(alloc, keeper, change)?;
+    commit(alloc, keeper, change)
+}
+
+/// A database to which the change was committed twice.
 fn copied(alloc: Global, change: &Change) -> Result<Connection<MemStore>, Fail> {
     let mut keeper = SqliteKeeper::adopt(made(alloc)?);
-    load(alloc, &mut keeper)?;
-    commit(alloc, &mut keeper, change)?;
-    commit(alloc, &mut keeper, change)?;
+    commit_twice(alloc, &mut keeper, change)?;
     Ok(keeper.give_back())
 }
 
@@ -171,19 +212,32 @@ fn counts(tables: &Tables) -> [usize; 4] {
 }
 
 /// Loads, and counts the rows.
-fn counted(alloc: Global, keeper: &mut SqliteKeeper<MemStore>) -> Result<[usize; 4], Fail> {
+fn counted<K: Keeper>(alloc: Global, keeper: &mut K) -> Result<[usize; 4], Fail> {
     let tables = load(alloc, keeper)?;
     Ok(counts(&tables))
 }
 
-/// The counts before and after the removal.
-fn counts_around_the_removal(alloc: Global) -> Result<([usize; 4], [usize; 4]), Fail> {
-    let mut keeper = SqliteKeeper::adopt(with_rows(alloc)?);
-    let tables = load(alloc, &mut keeper)?;
+/// Loads, and removes the rows. It counts those before.
+fn remove<K: Keeper>(alloc: Global, keeper: &mut K) -> Result<[usize; 4], Fail>
+    requires untold { (it : K) → K.told it ≡ None }
+{
+    let tables = load(alloc, keeper)?;
     let change = removal(alloc, tables.next())?;
-    commit(alloc, &mut keeper, &change)?;
-    let after = counted(alloc, &mut keeper)?;
-    Ok((counts(&tables), after))
+    commit(alloc, keeper, &change)?;
+    Ok(counts(&tables))
+}
+
+/// The counts before and after the removal.
+fn counts_by<K: Keeper>(alloc: Global, keeper: &mut K) -> Result<([usize; 4], [usize; 4]), Fail>
+    requires untold { (it : K) → K.told it ≡ None }
+{
+    let before = remove(alloc, keeper)?;
+    let after = counted(alloc, keeper)?;
+    Ok((before, after))
+}
+
+fn counts_around_the_removal(alloc: Global) -> Result<([usize; 4], [usize; 4]), Fail> {
+    counts_by(alloc, &mut SqliteKeeper::adopt(with_rows(alloc)?))
 }
 
 #[test]

@@ -17,7 +17,7 @@ use Rattle.machine_asks.specs.Decision as machine
 use Rattle.machine_asks.specs.Seed.{seed}
 use Rattle.machine_asks.proofs.DecisionLaws.{machine_decision_sound, seed_sound}
 use Rattle.policy_asks.specs.Decision.{policy_decision}
-use Rattle.policy_asks.specs.Served.{policy_in, policy_of_kept}
+use Rattle.policy_asks.specs.Kept.{policy_in, policy_of_kept}
 use Rattle.policy_asks.proofs.SavingLaws.{decision_kept, policy_decision_sound}
 use Rattle.tailnet_desk.specs.Asks.{IsShort}
 use Rattle.tailnet_desk.specs.Seated.{IsInForce}

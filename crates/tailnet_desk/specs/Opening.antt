@@ -1,14 +1,13 @@
 -- Which tables a desk opens, and the state in which it does.
 use Rattle.std.specs.Prelude.{◌≡◌, ℤ, Bool, List, length, map, nat_lt, Option, None, Some, if◌then◌else◌}
-use Rattle.std.specs.List.{find}
-use Rattle.std.specs.Option.{option_map, option_or}
+use Rattle.std.specs.Option.{option_or}
 use Rattle.net_rows.specs.declared.rows.Rows.{Rows}
 use Rattle.net_rows.specs.declared.machine.Machine.{Machine}
 use Rattle.net_rows.specs.declared.change.Damage.{Damage}
 use Rattle.net_rows.specs.declared.change.Kind.TheVariants as kind
 use Rattle.settings.specs.declared.fields.SettingsFields.{SettingsFields}
 use Rattle.desk_state.specs.State.{State, offline_at}
-use Rattle.policy_asks.specs.Served.{is_unread, policy_in}
+use Rattle.policy_asks.specs.Kept.{is_unread, policy_in}
 use Rattle.tailnet_desk.specs.declared.desk.OpenFault.{OpenFault}
 use Rattle.tailnet_desk.specs.declared.desk.OpenFault.TheVariants as fault
 
@@ -16,20 +15,13 @@ use Rattle.tailnet_desk.specs.declared.desk.OpenFault.TheVariants as fault
 abbrev pub damage_if : Bool → Damage → Option Damage
 damage_if broken damage = if broken then Some damage else None
 
--- a machine whose routes an operator approved
-abbrev pub approved_machine : List Machine → Option Damage
-approved_machine machines = option_map (λ (m : Machine). record { kind = kind.Machine; id = m.id }) (find (λ m. nat_lt 0 (length m.approved)) machines)
+-- the form of rows that isn't served yet: extra records
+abbrev pub unserved_extras : Rows → Option Damage
+unserved_extras rows = damage_if (nat_lt 0 (length rows.extras)) (record { kind = kind.Extras; id = 0 })
 
--- the first form of rows that isn't served yet: approved routes, extra records
-abbrev pub unserved_rows : Rows → Option Damage
-unserved_rows rows =
-    option_or (approved_machine rows.machines)
-    (damage_if (nat_lt 0 (length rows.extras)) (record { kind = kind.Extras; id = 0 }))
-
--- the first of the rows that aren't opened: those of a form that isn't served yet, and then a policy whose text has a
--- fault or such a form
+-- the first of the rows that aren't opened: extra records, and then a policy whose text has a fault
 abbrev pub unserved : Rows → Option Damage
-unserved rows = option_or (unserved_rows rows) (damage_if (is_unread rows.policy) (record { kind = kind.Policy; id = 0 }))
+unserved rows = option_or (unserved_extras rows) (damage_if (is_unread rows.policy) (record { kind = kind.Policy; id = 0 }))
 
 -- Why tables aren't opened: a row isn't served, or memory ran out.
 abbrev pub IsOpenFault : Rows → OpenFault → Type 0

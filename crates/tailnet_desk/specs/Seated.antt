@@ -4,7 +4,7 @@ use Rattle.io_edge.specs.Edge.{IsWhereTold}
 use Rattle.net_rows.specs.declared.rows.Rows.{Rows}
 use Rattle.policy_rows.specs.declared.policy.Policy.{Policy}
 use Rattle.desk_state.specs.State.{State}
-use Rattle.policy_asks.specs.Served.{policy_in}
+use Rattle.policy_asks.specs.Kept.{policy_in}
 
 -- the state of the Tailnet machine, and who keeps its tables
 pub record Seated (K : Type 0) : Type 0 where

@@ -59,8 +59,8 @@ impl<K: Keeper> Model for Desk<K> {
 pub enum OpenFault {
     /// The keeper failed.
     KeeperFault,
-    /// The tables break a rule, have a form that isn't served yet, which are approved routes and extra
-    /// records, or keep a policy whose text has a fault or such a form.
+    /// The tables break a rule, have a form that isn't served yet, which are extra records, or keep a
+    /// policy whose text has a fault.
     Damaged { kind: Kind, id: u32 },
     /// Memory was refused.
     NoMemory,
@@ -75,7 +75,8 @@ fn make_room(
 ) -> Result<(), NoMemory>
     ensures rows { tables.new.rows ≡ tables.old.rows }
     ensures presence { presence.new.0 ≡ presence.old.0 }
-    ensures reserved { OnOk result (IfSome change.entry (λ c. Suffices tables.new.spare c.now.puts)) }
+    ensures reserved { OnOk result (IfSome change.entry
+        (λ c. Suffices tables.new.spare c.now.puts)) }
     ensures room { OnOk result (offline ≤ presence.new.1) }
 {
     if let Some(change) = change {
@@ -132,9 +133,11 @@ impl<K: Keeper> Desk<K> {
         ensures later { IfOk result (λ d. K.faults keeper ≤ K.faults d.keeper) }
         ensures kept { IfErr result (λ e. StillTells (K.told keeper) (K.told e.1)) }
         ensures err_later { IfErr result (λ e. K.faults keeper ≤ K.faults e.1) }
-        ensures fault { IfErr result (λ e. e.0 ≡ OpenFault.KeeperFault → Rose (K.faults keeper) (K.faults e.1)) }
+        ensures fault { IfErr result (λ e. e.0 ≡ OpenFault.KeeperFault
+            → Rose (K.faults keeper) (K.faults e.1)) }
         ensures damaged { IfErr result (λ e. (kind : _) (id : ℕ) → e.0 ≡ OpenFault.Damaged kind id
-            → IfSome (K.told keeper) (λ rows. unserved rows ≡ Some (record { kind = kind; id = id }))) }
+            → IfSome (K.told keeper)
+            (λ rows. unserved rows ≡ Some (record { kind = kind; id = id }))) }
     {
         let tables = match keeper.load(alloc) {
             Ok(tables) => tables,
@@ -170,7 +173,8 @@ impl<K: Keeper> Desk<K> {
         requires policy { IsInForce (rows_after self.old.state.rows change)
             (option_or policy self.old.state.policy) }
         ensures kept { Kept self.old.state change policy ended.now offline.now result self.new.state
-            (keeping_of K.told K.faults K.calls self.old.keeper) (keeping_of K.told K.faults K.calls self.new.keeper) }
+            (keeping_of K.told K.faults K.calls self.old.keeper)
+            (keeping_of K.told K.faults K.calls self.new.keeper) }
         ensures later { K.faults self.old.keeper ≤ K.faults self.new.keeper }
         ensures told { IsWhereTold self.new.state.rows (K.told self.new.keeper) }
     {
@@ -200,7 +204,8 @@ impl<K: Keeper> Desk<K> {
         requires policy { IsInForce (rows_after self.old.state.rows decision.change)
             (option_or decision.policy self.old.state.policy) }
         ensures carried { Carried self.old.state decision result self.new.state
-            (keeping_of K.told K.faults K.calls self.old.keeper) (keeping_of K.told K.faults K.calls self.new.keeper) }
+            (keeping_of K.told K.faults K.calls self.old.keeper)
+            (keeping_of K.told K.faults K.calls self.new.keeper) }
         ensures later { K.faults self.old.keeper ≤ K.faults self.new.keeper }
         ensures told { IsWhereTold self.new.state.rows (K.told self.new.keeper) }
     {
@@ -243,8 +248,8 @@ impl<K: Keeper> Desk<K> {
 
     fn asked(&mut self, alloc: Global, ask: &Ask, moment: Moment, words: Option<[u64; 4]>) -> Reply
         requires short { IsShort ask.now }
-        ensures turn { IsTurn (point_of K.told K.faults K.calls self.old) (event.Ask ask.now moment words) result
-            (point_of K.told K.faults K.calls self.new) }
+        ensures turn { IsTurn (point_of K.told K.faults K.calls self.old)
+            (event.Ask ask.now moment words) result (point_of K.told K.faults K.calls self.new) }
     {
         self.time = self.time.or_later(moment);
         let at = Snapshot {
@@ -272,8 +277,8 @@ impl<K: Keeper> Desk<K> {
         words: Option<[u64; 4]>,
     ) -> Reply
         requires short { IsShort ask.now }
-        ensures turn { IsTurn (point_of K.told K.faults K.calls self.old) (event.Ask ask.now moment words) result
-            (point_of K.told K.faults K.calls self.new) }
+        ensures turn { IsTurn (point_of K.told K.faults K.calls self.old)
+            (event.Ask ask.now moment words) result (point_of K.told K.faults K.calls self.new) }
     {
         self.expand_for(alloc, ask, moment);
         self.asked(alloc, ask, moment, words)

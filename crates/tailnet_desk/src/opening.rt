@@ -1,10 +1,8 @@
 //! What a desk looks at when it opens.
-ghost use Rattle.std.specs.Prelude.{◌≡◌, IfOk, IfErr, OnOk, map, Option, Some, None, length, nat_lt};
-ghost use Rattle.std.specs.List.{find};
-ghost use Rattle.std.specs.Option.{option_copied, option_map};
+ghost use Rattle.std.specs.Prelude.{◌≡◌, IfOk, IfErr, OnOk, map, None};
 ghost use Rattle.desk_state.specs.State.{offline_at};
-ghost use Rattle.policy_asks.specs.Served.{policy_in};
-ghost use Rattle.tailnet_desk.specs.Opening.{IsOpenFault, approved_machine, damage_if, unserved, unserved_rows};
+ghost use Rattle.policy_asks.specs.Kept.{policy_in};
+ghost use Rattle.tailnet_desk.specs.Opening.{IsOpenFault, damage_if, unserved, unserved_extras};
 
 use crate::desk::OpenFault;
 use desk_state::{MachinePresence, Presence};
@@ -21,7 +19,8 @@ fn all_offline_of(
     tables: &Tables,
     now: Moment,
 ) -> Result<Shelf<MachinePresence>, NoMemory>
-    ensures presence { IfOk result (λ made. made.0 ≡ map (λ m. offline_at now m.id) tables.now.rows.machines) }
+    ensures presence { IfOk result (λ made. made.0
+        ≡ map (λ m. offline_at now m.id) tables.now.rows.machines) }
 {
     let offline = offline_since(alloc, tables.machines(), now)?;
     Ok(Shelf::from_items(offline))
@@ -44,33 +43,21 @@ fn offline_since(
     Ok(Items::from_vec(made))
 }
 
-fn approved_machine(machines: &[Machine]) -> Option<Damage>
-    ensures value { result ≡ approved_machine machines.now }
-{
-    machines
-        .iter()
-        .find(|machine| machine.approved.len() > 0)
-        .map(|machine| Damage {
-            kind: Kind::Machine,
-            id: machine.id,
-        })
-}
-
 fn damage_if(broken: bool, damage: Damage) -> Option<Damage>
     ensures value { result ≡ damage_if broken damage }
 {
     if broken { Some(damage) } else { None }
 }
 
-/// The first form of rows that isn't served yet: approved routes, extra records.
-fn unserved_rows(tables: &Tables) -> Option<Damage>
-    ensures value { result ≡ unserved_rows tables.now.rows }
+/// The form of rows that isn't served yet: extra records.
+fn unserved_extras(tables: &Tables) -> Option<Damage>
+    ensures value { result ≡ unserved_extras tables.now.rows }
 {
     let extras = Damage {
         kind: Kind::Extras,
         id: 0,
     };
-    approved_machine(tables.machines()).or(damage_if(tables.extras().len() > 0, extras))
+    damage_if(tables.extras().len() > 0, extras)
 }
 
 /// The policy of tables, or why they aren't opened.
@@ -79,7 +66,7 @@ fn served_policy_in(alloc: Global, tables: &Tables) -> Result<Option<Policy>, Op
     ensures served { OnOk result (unserved tables.now.rows ≡ None) }
     ensures fault { IfErr result (IsOpenFault tables.now.rows) }
 {
-    if let Some(Damage { kind, id }) = unserved_rows(tables) {
+    if let Some(Damage { kind, id }) = unserved_extras(tables) {
         return Err(OpenFault::Damaged { kind, id });
     }
     match policy_in(alloc, tables) {

@@ -16,7 +16,7 @@ use Rattle.net_rows.proofs.Members.{cut_member, find_none, first_member, list_an
 use Rattle.net_rows.proofs.RowAt.{row_at_is}
 use Rattle.tailcfg.specs.declared.node_row.NodeRow.{NodeRow}
 use Rattle.tailcfg.specs.declared.update.Update.{Update}
-use Rattle.policy_eval.specs.Sites.{is_among, is_listed}
+use Rattle.policy_sites.specs.Sites.{is_among, is_listed}
 use Rattle.peer_view.specs.Seen.{Node, sees, visible}
 use Rattle.peer_view.specs.Shown.{shown}
 use Rattle.peer_view.proofs.ListLemmas.{filter_member, filtered_passes, mapped_member}

@@ -7,6 +7,7 @@ use Rattle.std.specs.Str.{bytes_eq}
 use Rattle.tail_base.specs.Labels.{label_of}
 use Rattle.tail_base.specs.Logins.{login_of}
 use Rattle.tail_base.specs.Sorted.{sorted_once}
+use Rattle.net_addr.specs.Bits.{Block}
 use Rattle.net_rows.specs.Room.{has_room}
 use Rattle.net_rows.specs.Rows.{key_with, machine_of, machine_with, pending_with}
 use Rattle.net_rows.specs.declared.change.Kind.TheVariants as kind
@@ -27,11 +28,13 @@ use Rattle.desk_state.specs.declared.key_form.KeyForm.{KeyForm}
 use Rattle.desk_state.specs.declared.refusal.Refusal.TheVariants.{BadName, EntropyFault, Full, KeyUnknown, NameTaken, NodeKeyTaken, PendingUnknown, UnknownMachine, UserHasMachines}
 use Rattle.desk_state.specs.declared.refusal.Scarce.TheVariants as scarce
 use Rattle.machine_rows.specs.Rows.{is_taken, machine_row, place_for, row_change, row_replaced}
+use Rattle.machine_rows.specs.Same.{prefix_eq}
 use Rattle.machine_rows.specs.declared.place.Place.{Place}
 use Rattle.admin_asks.specs.Admit.{admission, admit, entrant_of_entry, timely_entry}
 use Rattle.admin_asks.specs.Decision.{decision}
 use Rattle.admin_asks.specs.Keys.{add_key, added_key, expire_key, expired_key, expiry_change, key_change, key_lines, new_key}
 use Rattle.admin_asks.specs.Nodes.{changed_node, drop_node, ends_at, expire_node, expired_node, is_name_taken, node_lines, rename, renamed_node, same_node, set_tags, tagged_node}
+use Rattle.admin_asks.specs.Routes.{kept_routes, routed_node, routes_approvable, set_routes}
 use Rattle.admin_asks.specs.Sweep.{lost_machines, overdue_entries, sweep_change, sweep_decision}
 use Rattle.admin_asks.specs.Users.{add_user, added_user, drop_user, has_machine, is_login_taken, new_user, user_change, user_gone, with_at}
 use Rattle.admin_asks.specs.declared.operator_answer.OperatorAnswer.{OperatorAnswer}
@@ -117,6 +120,14 @@ module _ (s : State) (x : OperatorAsk) where
       every_ok Operates (tagged_node s m kept)
       (node_puts m (record m { tags = kept }) (pointwise bytes_eq m.tags kept) (machine_there id m found) refl refl)))
 
+  set_routes_puts : (id : ℕ) (routes : List Block) → Every Operates (set_routes s id routes)
+  set_routes_puts id routes =
+      every_or Operates UnknownMachine (machine_with s.rows.machines id) _ (λ (m : Machine) found.
+      every_bind Operates (routes_approvable m.routes routes) _ (λ _ _.
+      let kept = kept_routes m.routes routes in
+      every_ok Operates (routed_node s m kept)
+      (node_puts m (record m { approved = kept }) (pointwise prefix_eq m.approved kept) (machine_there id m found) refl refl)))
+
   drop_node_puts : (id : ℕ) → Every Operates (drop_node s id)
   drop_node_puts id =
       every_or Operates UnknownMachine (machine_with s.rows.machines id) _ (λ (m : Machine) _.
@@ -165,6 +176,7 @@ operator_puts s (ask.Admit text login) words = admit_puts s text login
 operator_puts s (ask.ExpireNode id expiry) words = expire_node_puts s (ask.ExpireNode id expiry) id expiry
 operator_puts s (ask.Rename id name) words = rename_puts s (ask.Rename id name) id name
 operator_puts s (ask.SetTags id tags) words = set_tags_puts s (ask.SetTags id tags) id tags
+operator_puts s (ask.SetRoutes id routes) words = set_routes_puts s (ask.SetRoutes id routes) id routes
 operator_puts s (ask.DropNode id) words = drop_node_puts s (ask.DropNode id) id
 operator_puts s ask.Sweep words =
     every_ok (Operates s ask.Sweep) (sweep_decision s.rows (lost_machines s s.rows.machines) (overdue_entries s s.rows.pending))

@@ -2,12 +2,12 @@
 use Rattle.std.proofs.Common.{ℕ, List, refl}
 use Rattle.tail_base.specs.declared.key.MachineKey.{MachineKey}
 use Rattle.policy_rows.specs.declared.policy.Policy.{Policy}
+use Rattle.policy_doc.specs.Document.{policy_of_text}
 use Rattle.desk_state.specs.Decisions.{only}
 use Rattle.desk_state.specs.State.{State}
 use Rattle.desk_state.specs.declared.decision.Decision.{Decision}
 use Rattle.policy_asks.specs.Decision.{policy_decision}
 use Rattle.policy_asks.specs.Saving.{is_kept, kept_anew, or_refused, saved, tested_in, text_change}
-use Rattle.policy_asks.specs.Served.{served_policy}
 use Rattle.policy_asks.specs.declared.answer.PolicyAnswer.{PolicyAnswer}
 use Rattle.policy_asks.specs.declared.answer.PolicyAnswer.TheVariants as answer
 use Rattle.policy_asks.specs.declared.ask.PolicyAsk.{PolicyAsk}
@@ -34,5 +34,5 @@ module _ (s : State) where
   pub policy_puts : (x : PolicyAsk) → Every Saves (policy_decision s x)
   policy_puts ask.Policy = every_ok Saves (only (answer.PolicyText s.rows.policy)) (quiet (answer.PolicyText s.rows.policy))
   policy_puts (ask.SavePolicy text) =
-      every_bind Saves (or_refused (served_policy text)) _ (λ (p : Policy) _.
+      every_bind Saves (or_refused (policy_of_text text)) _ (λ (p : Policy) _.
       every_bind Saves (or_refused (tested_in s p)) _ (λ passed _. every_ok Saves (saved s.rows text p) (saved_puts text p)))

@@ -33,5 +33,6 @@ IsAdmission s operator.Waiting mk = ⊥
 IsAdmission s (operator.ExpireNode id expiry) mk = ⊥
 IsAdmission s (operator.Rename id name) mk = ⊥
 IsAdmission s (operator.SetTags id tags) mk = ⊥
+IsAdmission s (operator.SetRoutes id routes) mk = ⊥
 IsAdmission s (operator.DropNode id) mk = ⊥
 IsAdmission s operator.Sweep mk = ⊥

@@ -235,7 +235,7 @@ const REFUSALS: &str = r#"= logins
 = path-then-method-then-token-then-body
 > GET /api/v1/dns Bearer/secret
 < 404 {"error":"NoPath"}
-> POST /api/v1/node/1/routes Bearer/secret {"routes":[]}
+> POST /api/v1/node/1/route Bearer/secret {"routes":[]}
 < 404 {"error":"NoPath"}
 > PATCH /api/v1/node/0 Bearer/x
 < 404 {"error":"NoPath"}

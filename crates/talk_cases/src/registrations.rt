@@ -48,7 +48,7 @@ fn assert_run(
     assert!(rt; ran.status == status);
     assert!(rt; ran.output.bytes() == output);
     assert!(rt; ran.errors.bytes() == line);
-    assert_eq!(rt; ran.machines, machines);
+    assert_eq!(rt; ran.tables.machines().len(), machines);
     Ok(())
 }
 

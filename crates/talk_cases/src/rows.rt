@@ -190,6 +190,8 @@ const WORKED: &str = r#"= first-registration
 < 200 {"addresses":["100.64.0.2","fd7a:115c:a1e0::2"],"advertised":[],"approved":[],"expiry":"2002-01-01T00:00:00Z","id":2,"live":true,"name":"workshop","online":false,"served":[],"tags":[],"user":"ann@"}
 > POST /api/v1/node/2/tags Bearer/secret {"tags":[]}
 < 200 {"addresses":["100.64.0.2","fd7a:115c:a1e0::2"],"advertised":[],"approved":[],"expiry":"2002-01-01T00:00:00Z","id":2,"live":true,"name":"workshop","online":false,"served":[],"tags":[],"user":"ann@"}
+> POST /api/v1/node/2/routes Bearer/secret {"routes":[]}
+< 200 {"addresses":["100.64.0.2","fd7a:115c:a1e0::2"],"advertised":[],"approved":[],"expiry":"2002-01-01T00:00:00Z","id":2,"live":true,"name":"workshop","online":false,"served":[],"tags":[],"user":"ann@"}
 > DELETE /api/v1/node/2 Bearer/secret
 < 200 {}
 > DELETE /api/v1/user/ann@ Bearer/secret

@@ -69,8 +69,8 @@ pub struct PipeRun {
     pub output: MemorySink,
     /// What it wrote on errors.
     pub errors: MemorySink,
-    /// How many machines its tables have.
-    pub machines: usize,
+    /// Its tables.
+    pub tables: Tables,
 }
 
 /// The list of that call, or of none.
@@ -172,7 +172,7 @@ fn stores_of(
 }
 
 /// The command, over these objects.
-fn run(alloc: Global, mut streams: Streams, mut stores: Stores) -> PipeRun {
+fn run(alloc: Global, mut streams: Streams, mut stores: Stores) -> Result<PipeRun, NoMemory> {
     let status = pipe_command(
         alloc,
         "tailnet.toml",
@@ -185,13 +185,13 @@ fn run(alloc: Global, mut streams: Streams, mut stores: Stores) -> PipeRun {
         &mut stores.clock,
         &mut stores.entropy,
     );
-    let machines = stores.opener.tables().machines().len();
-    PipeRun {
+    let tables = stores.opener.tables().copy(alloc)?;
+    Ok(PipeRun {
         status,
         output: streams.output,
         errors: streams.errors,
-        machines,
-    }
+        tables,
+    })
 }
 
 /// The same with this clock.
@@ -205,7 +205,7 @@ pub fn piped_at(
 ) -> Result<PipeRun, NoMemory> {
     let stores = stores_of(alloc, clock, tables, settings, plan)?;
     let streams = streams_of(alloc, input, plan)?;
-    Ok(run(alloc, streams, stores))
+    run(alloc, streams, stores)
 }
 
 /// The same over kept tables, at 2001-09-09T01:46:40Z.

@@ -10,6 +10,7 @@ pub enum AdminField {
     Ephemeral,
     Expiry,
     Tags,
+    Routes,
     Id,
 }
 
@@ -27,6 +28,7 @@ impl AdminField {
             AdminField::Ephemeral => "ephemeral",
             AdminField::Expiry => "expiry",
             AdminField::Tags => "tags",
+            AdminField::Routes => "routes",
             AdminField::Id => "id",
         }
     }

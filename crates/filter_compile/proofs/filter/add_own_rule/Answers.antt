@@ -1,6 +1,6 @@
 use Rattle.std.proofs.Common.{◌≡◌, ◌++◌, List, false, rules, sym, ap, ◌∙◌}
 use Rattle.std.proofs.lemmas.List.{append-nil}
-use Rattle.policy_eval.specs.ByRule.{has_own_devices}
+use Rattle.policy_sites.specs.ByRule.{has_own_devices}
 use Rattle.tailcfg.specs.declared.filter.FilterRule.{FilterRule}
 use Rattle.filter_compile.proofs.TakeLemmas.{own_rule_none}
 use Rattle.filter_compile.proofs.filter.add_own_rule.Goals as goal

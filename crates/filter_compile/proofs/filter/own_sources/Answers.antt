@@ -2,7 +2,7 @@ use Rattle.std.proofs.Common.{◌∙◌, ◌&&◌, Bool, List, ap}
 use Rattle.range_sets.specs.Sets.{has}
 use Rattle.range_sets.proofs.CanonicalLemmas.{canonical_same}
 use Rattle.policy_eval.specs.Expansion.{source_covers}
-use Rattle.policy_eval.specs.declared.site.Site.{Site}
+use Rattle.policy_sites.specs.declared.site.Site.{Site}
 use Rattle.filter_compile.specs.Filters.{is_of_own, own_source_covers}
 use Rattle.filter_compile.proofs.StepLemmas.{source_set_is}
 use Rattle.filter_compile.proofs.filter.own_sources.Goals as goal

@@ -1,7 +1,7 @@
 use Rattle.std.proofs.Common.{◌≡◌, true, false, rules}
 use Rattle.net_rows.specs.Damage.{address_eq}
-use Rattle.policy_eval.specs.declared.site.Site.{Site}
-use Rattle.policy_eval.proofs.MatchLemmas.{told_more}
+use Rattle.policy_sites.specs.declared.site.Site.{Site}
+use Rattle.policy_sites.proofs.ListLemmas.{told_more}
 use Rattle.filter_compile.proofs.TakeLemmas.{place_is, stands_somewhere}
 use Rattle.filter_compile.proofs.filter.place_of.Goals as goal
 

@@ -1,7 +1,7 @@
 use Rattle.std.proofs.Common.{◌≡◌, false, take}
 use Rattle.std.specs.Prelude.{Contains}
 use Rattle.net_rows.specs.Damage.{address_eq}
-use Rattle.policy_eval.specs.declared.site.Site.{Site}
+use Rattle.policy_sites.specs.declared.site.Site.{Site}
 use Rattle.filter_compile.proofs.filter.place_of.Given as goal
 
 abbrev pub invariant-loop-place : goal.invariant-loop-place

@@ -1,4 +1,4 @@
-use Rattle.policy_eval.specs.Grants.{groups_of, rules_of}
+use Rattle.policy_sites.specs.Grants.{groups_of, rules_of}
 use Rattle.filter_compile.proofs.RuleLemmas.{filter_admits}
 use Rattle.filter_compile.proofs.laws.a_filter_admits_what_is_granted.Goals as goal
 

@@ -1,7 +1,7 @@
 use Rattle.std.proofs.Common.{[], List, ap, ◌∙◌}
 use Rattle.std.specs.Prelude.{Option}
 use Rattle.policy_rows.specs.declared.rule.Rule.{Rule}
-use Rattle.policy_eval.specs.Grants.{rules_or_open}
+use Rattle.policy_sites.specs.Grants.{rules_or_open}
 use Rattle.filter_compile.specs.Filters.{rules_filter}
 use Rattle.filter_compile.proofs.FamilyLemmas.{families}
 use Rattle.filter_compile.proofs.UnrestrictedLemmas.{alone, open_is}

@@ -1,7 +1,7 @@
 use Rattle.std.proofs.Common.{◌∙◌, ◌&&◌, ap}
 use Rattle.range_sets.specs.Sets.{has}
 use Rattle.range_sets.proofs.CanonicalLemmas.{canonical_same}
-use Rattle.policy_eval.specs.Sites.{serves, site_has}
+use Rattle.policy_sites.specs.Sites.{serves, site_has}
 use Rattle.filter_compile.proofs.own.own_prefixes.Goals as goal
 
 pub returns : goal.returns

@@ -1,7 +1,7 @@
 use Rattle.std.proofs.Common.{◌∙◌, List, ap, refl}
 use Rattle.std.specs.Prelude.{flat_map}
 use Rattle.policy_eval.specs.Expansion.{Expansion}
-use Rattle.policy_eval.specs.declared.site.Site.{Site}
+use Rattle.policy_sites.specs.declared.site.Site.{Site}
 use Rattle.peer_view.specs.Seen.{node_with}
 use Rattle.filter_compile.proofs.StepLemmas.{flat_end, flat_more}
 use Rattle.fresh_maps.specs.Fresh.{node_seen}

@@ -1,6 +1,6 @@
 use Rattle.std.proofs.Common.{◌≡◌, ◌++◌, drop}
 use Rattle.std.specs.Prelude.{flat_map}
-use Rattle.policy_eval.specs.declared.site.Site.{Site}
+use Rattle.policy_sites.specs.declared.site.Site.{Site}
 use Rattle.peer_view.specs.Seen.{node_with}
 use Rattle.fresh_maps.specs.Fresh.{node_seen}
 use Rattle.fresh_maps.proofs.fresh.visible_of.Given as goal

@@ -2,9 +2,9 @@ use Rattle.std.proofs.Common.{◌∙◌, List, refl, subst, sym}
 use Rattle.std.specs.Option.{option_copied}
 use Rattle.std.specs.Prelude.{Contains}
 use Rattle.net_rows.specs.Shelf.{BelongsAt, StandsAt}
-use Rattle.policy_eval.specs.ByRule.{target_of}
+use Rattle.policy_sites.specs.ByRule.{target_of}
 use Rattle.policy_eval.specs.Expansion.{Expansion}
-use Rattle.policy_eval.specs.declared.site.Site.{Site}
+use Rattle.policy_sites.specs.declared.site.Site.{Site}
 use Rattle.peer_view.specs.Seen.{Node, sites_seen}
 use Rattle.peer_view.specs.Shown.{granted_into}
 use Rattle.peer_view.proofs.GrantLaws.{site_missing_never, world_granted}

@@ -1,7 +1,7 @@
 use Rattle.std.proofs.Common.{◌≡◌, rules, subst, true}
 use Rattle.std.specs.Option.{option_copied}
 use Rattle.policy_eval.specs.Expansion.{Expansion}
-use Rattle.policy_eval.specs.Sites.{AreApart}
+use Rattle.policy_sites.specs.Sites.{AreServedApart}
 use Rattle.peer_view.specs.Seen.{Node, sites_seen}
 use Rattle.peer_view.proofs.GrantLaws.{exit_free}
 use Rattle.peer_view.proofs.ListLemmas.{map_member}
@@ -12,7 +12,7 @@ pub is_granted-requires-clause-free : goal.is_granted-requires-clause-free
 is_granted-requires-clause-free c =
     let w = c.world.inside in
     let made = expansion_is w.settings.now (option_copied w.policy) w.tables.now.rows w.live.now w.online w.expanded.now c.args.world.now c.world.invariant c.world.view_is in
-    let apart = subst (λ (x : Expansion). AreApart x.sites) made c.sites-sites.ensures.apart in
+    let apart = subst (λ (x : Expansion). AreServedApart x.sites) made c.sites-sites.ensures.apart in
     let inside = map_member (λ (z : Node). z.site) c.args.world.now.nodes c.args.peer.now c.requires.peer in
     let exit : c.args.peer.now.site.exit ≡ true = search rules in
     exit_free (sites_seen c.args.world.now) c.args.peer.now.site apart inside exit

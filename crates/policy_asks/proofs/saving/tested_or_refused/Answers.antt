@@ -1,9 +1,7 @@
 use Rattle.std.proofs.Common.{◌≡◌, ◌∙◌, Err, ap, subst, sym}
 use Rattle.std.specs.Prelude.{Some}
 use Rattle.tail_base.specs.Steps.{Fails}
-use Rattle.tail_base.specs.declared.failure.Failure.{Failure}
-use Rattle.policy_rows.specs.declared.fault.PolicyFault.{PolicyFault}
-use Rattle.policy_eval.specs.Sites.{sites_of}
+use Rattle.policy_sites.specs.Sites.{sites_of}
 use Rattle.policy_tests.specs.Tests.{tested}
 use Rattle.desk_state.specs.State.{State}
 use Rattle.desk_state.specs.declared.refusal.Refusal.{Refusal}

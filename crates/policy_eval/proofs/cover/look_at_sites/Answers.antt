@@ -1,5 +1,5 @@
-use Rattle.policy_eval.specs.ByRule.{IsSoundSite}
-use Rattle.policy_eval.proofs.MatchLemmas.{told_all, told_more}
+use Rattle.policy_sites.specs.ByRule.{IsSoundSite}
+use Rattle.policy_sites.proofs.ListLemmas.{told_all, told_more}
 use Rattle.policy_eval.proofs.cover.look_at_sites.Goals as goal
 
 pub loop-site-preserved : goal.loop-site-preserved

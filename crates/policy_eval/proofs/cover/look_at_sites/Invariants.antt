@@ -1,7 +1,7 @@
 use Rattle.std.proofs.Common.{take}
 use Rattle.std.specs.Prelude.{Contains}
-use Rattle.policy_eval.specs.ByRule.{IsSoundSite}
-use Rattle.policy_eval.specs.declared.site.Site.{Site}
+use Rattle.policy_sites.specs.ByRule.{IsSoundSite}
+use Rattle.policy_sites.specs.declared.site.Site.{Site}
 use Rattle.policy_eval.proofs.cover.look_at_sites.Given as goal
 
 abbrev pub invariant-loop-site : goal.invariant-loop-site

@@ -1,4 +1,4 @@
-use Rattle.policy_eval.specs.Grants.{groups_of, rules_of}
+use Rattle.policy_sites.specs.Grants.{groups_of, rules_of}
 use Rattle.policy_tests.proofs.PhantomLemmas.{dest_stands, source_stands}
 use Rattle.policy_tests.proofs.laws.phantoms_stand_for_machines.Goals as goal
 

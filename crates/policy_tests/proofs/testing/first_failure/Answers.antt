@@ -1,6 +1,6 @@
 use Rattle.std.proofs.Common.{◌≡◌, ◌∙◌, sym}
 use Rattle.std.specs.Prelude.{Some}
-use Rattle.policy_eval.specs.Sites.{sites_of}
+use Rattle.policy_sites.specs.Sites.{sites_of}
 use Rattle.policy_tests.specs.Tests.{first_failure}
 use Rattle.policy_tests.proofs.FailureLemmas.{accepts_last, first_is}
 use Rattle.policy_tests.proofs.testing.first_failure.Goals as goal

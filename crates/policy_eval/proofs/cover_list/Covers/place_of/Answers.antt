@@ -6,7 +6,7 @@ use Rattle.policy_eval.proofs.cover_list.Covers.place_of.Goals as goal
 
 pub invariant_of-self-2 : goal.invariant_of-self-2
 invariant_of-self-2 c =
-    covering_more c.self.inside.groups.now c.self.inside.sites.now c.self.inside.list c.push.new.self c.in_ok-cover.cover c.args.selector.now c.self.invariant c.in_ok-cover.ensures.own c.in_ok-cover.ensures.fits c.in_ok-push.ensures.ok
+    covering_more c.self.inside.groups.now c.self.inside.sites.now c.self.inside.list c.push.new.self c.in_ok-cover.cover c.args.selector.now c.self.invariant c.in_ok-cover.ensures.fits c.in_ok-push.ensures.ok
 
 pub returns-clause-there : goal.returns-clause-there
 returns-clause-there c =

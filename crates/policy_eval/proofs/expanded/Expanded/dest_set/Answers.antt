@@ -1,9 +1,9 @@
 use Rattle.std.proofs.Common.{◌∙◌, ◌≡◌, List, ℕ, ap, sym, subst}
 use Rattle.std.specs.Prelude.{slice_index_or}
 use Rattle.policy_eval.specs.Expansion.{IsSetOf, entry_covers}
-use Rattle.policy_eval.specs.Grants.{open_dest, open_rule}
+use Rattle.policy_sites.specs.Grants.{open_dest, open_rule}
 use Rattle.policy_eval.specs.declared.cover.Cover.{Cover}
-use Rattle.policy_eval.proofs.CoverLemmas.{get_inside, get_is}
+use Rattle.std.proofs.lemmas.Option.{get_or_from_slice_get, slice_get_within}
 use Rattle.policy_eval.proofs.FitLemmas.{entry_at, entry_inside, fit_moved, rule_inside}
 use Rattle.policy_eval.proofs.expanded.Expanded.dest_set.Goals as goal
 
@@ -28,7 +28,7 @@ cover_at-requires c =
     let place = c.place_of-place.ensures.value ∙ ap (λ (ps : List ℕ). slice_index_or ps c.args.entry 0) c.as_slice-2.ensures.value in
     let at = entry_at c.args.self.now c.self.inside.covers c.as_slice.result.now c.args.rule c.sets_of-sets.result.now c.args.entry c.place_of-place.result fit c.requires.rule_inside c.sets_of-sets.ensures.value
     place open_rule open_dest (c.requires.entry_inside open_rule) in
-    record { inside = rw c.as_slice-3.ensures.value (get_inside c.self.inside.covers c.place_of-place.result at.0 at.1) }
+    record { inside = rw c.as_slice-3.ensures.value (slice_get_within c.self.inside.covers c.place_of-place.result at.0 at.1) }
 
 pub returns : goal.returns
 returns c =
@@ -39,6 +39,6 @@ returns c =
           let at = entry_at c.args.self.now c.self.inside.covers c.as_slice.result.now c.args.rule c.sets_of-sets.result.now c.args.entry c.place_of-place.result fit c.requires.rule_inside c.sets_of-sets.ensures.value
           place d e (c.requires.entry_inside d) in
           let got : c.cover_at.result.now ≡ at.0 = c.cover_at.ensures.value at.0 ∙ (ap (λ (cs : List Cover). slice_index_or cs c.place_of-place.result at.0) c.as_slice-3.ensures.value
-          ∙ get_is c.self.inside.covers c.place_of-place.result at.0 at.0 at.1) in
+          ∙ get_or_from_slice_get c.self.inside.covers c.place_of-place.result at.0 at.0 at.1) in
           subst (λ (x : Cover). IsSetOf x.set (entry_covers c.args.self.now.groups c.args.self.now.sites (slice_index_or (slice_index_or c.args.self.now.rules c.args.rule d).dests c.args.entry e))) (sym got) at.2.set;
     }

@@ -1,6 +1,6 @@
 use Rattle.std.proofs.Common.{◌∙◌, List, [], subst}
 use Rattle.policy_rows.specs.declared.rule.Rule.{Rule}
-use Rattle.policy_eval.specs.Reach.{AreSoundRules}
+use Rattle.policy_sites.specs.Reach.{AreSoundRules}
 use Rattle.policy_eval.proofs.FitLemmas.{expansion_fits}
 use Rattle.policy_eval.proofs.expanded.Expanded.of.Goals as goal
 

@@ -1,9 +1,9 @@
 use Rattle.std.proofs.Common.{◌≡◌, ◌∙◌, List, ap}
 use Rattle.std.specs.Prelude.{slice_index_or}
-use Rattle.policy_eval.specs.Covers.{is_own}
-use Rattle.policy_eval.specs.Ends.{holder_of}
+use Rattle.policy_sites.specs.Covers.{is_own}
+use Rattle.policy_sites.specs.Ends.{holder_of}
 use Rattle.policy_eval.specs.Expansion.{Expansion}
-use Rattle.policy_eval.specs.declared.site.Site.{Site}
+use Rattle.policy_sites.specs.declared.site.Site.{Site}
 use Rattle.policy_eval.proofs.FitLemmas.{fit_moved, reach_by_flags}
 use Rattle.policy_eval.proofs.expanded.Expanded.reaches.Goals as goal
 

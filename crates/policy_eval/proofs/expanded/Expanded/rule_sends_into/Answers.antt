@@ -4,8 +4,8 @@ use Rattle.std.specs.List.{list_any}
 use Rattle.std.specs.Option.{option_copied}
 use Rattle.policy_rows.specs.declared.dest.Dest.{Dest}
 use Rattle.policy_rows.specs.declared.rule.Rule.{Rule}
-use Rattle.policy_eval.specs.Beyond.{covers_into}
-use Rattle.policy_eval.specs.ByRule.{sends, target_of}
+use Rattle.policy_sites.specs.Beyond.{covers_into}
+use Rattle.policy_sites.specs.ByRule.{sends, target_of}
 use Rattle.policy_eval.proofs.expanded.Expanded.rule_sends_into.Goals as goal
 
 pub returns-then-sends : goal.returns-then-sends

@@ -1,6 +1,6 @@
 use Rattle.std.specs.Option.{option_copied}
 use Rattle.std.specs.Prelude.{slice_index_or}
-use Rattle.policy_eval.specs.ByRule.{sends_into, target_of}
+use Rattle.policy_sites.specs.ByRule.{sends_into, target_of}
 use Rattle.policy_eval.proofs.MatchLemmas.{any_end, any_more}
 use Rattle.policy_eval.proofs.expanded.Expanded.sends_into.Goals as goal
 

@@ -1,17 +1,14 @@
-use Rattle.std.proofs.Common.{◌∙◌, Bool, List, ap}
+use Rattle.std.proofs.Common.{◌∙◌, Bool, List, ap, sym}
+use Rattle.std.specs.Prelude.{slice_index_or}
+use Rattle.policy_sites.specs.ByRule.{takes}
 use Rattle.policy_eval.specs.Covering.{flag_at}
-use Rattle.policy_eval.proofs.FitLemmas.{fit_moved, rule_inside, takes_is}
+use Rattle.policy_eval.proofs.FitLemmas.{flag_is}
 use Rattle.policy_eval.proofs.expanded.Expanded.takes.Goals as goal
-
-pub sets_of-sets-requires : goal.sets_of-sets-requires
-sets_of-sets-requires c =
-    let fit = fit_moved _ c.args.self.now c.self.inside.covers _ c.as_slice.result.now c.self.invariant c.self.view_is c.as_slice.ensures.value in
-    record { inside = rule_inside c.args.self.now c.self.inside.covers c.as_slice.result.now c.args.rule fit c.requires.rule_inside }
 
 pub returns : goal.returns
 returns c =
-    let fit = fit_moved _ c.args.self.now c.self.inside.covers _ c.as_slice.result.now c.self.invariant c.self.view_is c.as_slice.ensures.value in
+    let x = c.args.self.now in
     record {
-      value = λ r s. c.flag_at.ensures.value ∙ (ap (λ (flags : List Bool). flag_at flags c.args.site) c.as_slice-2.ensures.value
-          ∙ takes_is c.args.self.now c.self.inside.covers c.as_slice.result.now c.args.rule c.args.site c.sets_of-sets.result.now fit c.requires.rule_inside c.requires.site_inside c.sets_of-sets.ensures.value r s);
+      value = λ r s. c.flag_at.ensures.value ∙ (ap (λ (flags : List Bool). flag_at flags c.args.site) c.as_slice.ensures.value
+          ∙ sym (flag_is (takes x.groups (slice_index_or x.rules c.args.rule r)) x.sites c.known_of.result.now.takes c.args.site s (c.known_of.ensures.takes r) c.requires.site_inside));
     }

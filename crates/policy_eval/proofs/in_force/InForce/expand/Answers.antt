@@ -2,7 +2,7 @@ use Rattle.std.proofs.Common.{◌∙◌, ap}
 use Rattle.std.specs.Prelude.{Option}
 use Rattle.policy_rows.specs.declared.policy.Policy.{Policy}
 use Rattle.policy_eval.specs.Expansion.{expansion_of}
-use Rattle.policy_eval.proofs.FittingLemmas.{made_of_policy}
+use Rattle.policy_eval.proofs.ForceLemmas.{made_of_policy}
 use Rattle.policy_eval.proofs.in_force.InForce.expand.Goals as goal
 
 pub invariant_of-self : goal.invariant_of-self

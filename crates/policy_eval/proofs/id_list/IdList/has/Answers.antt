@@ -1,9 +1,0 @@
-use Rattle.std.proofs.Common.{ap, ◌∙◌}
-use Rattle.policy_eval.specs.Sites.{is_listed}
-use Rattle.policy_eval.proofs.IdLemmas.{found_by_halves}
-use Rattle.policy_eval.proofs.id_list.IdList.has.Goals as goal
-
-pub returns-then-self : goal.returns-then-self
-returns-then-self c = record {
-  value = c.is_ok.ensures.value ∙ found_by_halves c.self.inside.ids.now c.args.id c.binary_search.result (c.self.invariant c.if-self.true) c.binary_search.ensures.bound c.binary_search.ensures.position ∙ ap (λ ids. is_listed ids c.args.id) c.self.view_is;
-}

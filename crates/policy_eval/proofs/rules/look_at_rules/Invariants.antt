@@ -1,6 +1,0 @@
-use Rattle.std.proofs.Common.{take}
-use Rattle.policy_eval.specs.Reach.{AreSoundRules}
-use Rattle.policy_eval.proofs.rules.look_at_rules.Given as goal
-
-abbrev pub invariant-loop-rule : goal.invariant-loop-rule
-invariant-loop-rule l = AreSoundRules (take l.rule-index l.rules)

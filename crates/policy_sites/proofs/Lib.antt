@@ -1,0 +1,11 @@
+pub mod EndLemmas
+pub mod FittingLemmas
+pub mod IdLemmas
+pub mod InternetLemmas
+pub mod IntoLemmas
+pub mod ListLemmas
+pub mod OwnLemmas
+pub mod ReachLemmas
+pub mod RouteLemmas
+pub mod SetLemmas
+pub mod SiteLemmas
