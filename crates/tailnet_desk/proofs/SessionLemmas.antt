@@ -33,7 +33,7 @@ entered_kind s d (Attached handle seq resumed may_wait) t e = tt
 entered_kind s d (Frames responses) t e = e
 entered_kind s d Ended t e = e
 entered_kind s d Detached t e = e
-entered_kind s d (Refused refusal) t e = e
+entered_kind s d (Refused refusal) t e = tt
 entered_kind s d (Lost NoMemory) t e = tt
 entered_kind s d (Lost KeeperFault) t e = tt
 

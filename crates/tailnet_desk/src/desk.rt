@@ -15,10 +15,10 @@ ghost use Rattle.tailnet_desk.specs.declared.entry.Event.TheVariants as event;
 
 use crate::ask::Ask;
 use crate::deciding::decide;
+use crate::kept::{apply_change, let_rest};
 use crate::opening::{Beginning, beginning_of};
 use crate::reply::{Answer, Loss, Reply};
-use crate::sessions::{end_sessions, forget_sessions};
-use crate::settling::{end_presence, forget, go_offline, put_in_force};
+use crate::settling::put_in_force;
 use desk_state::{Decision, MachinePresence, Sessions, Snapshot, keep_rules, live_ids};
 use io_edge::EdgeFault;
 use machine_asks::MachineAsk;
@@ -202,17 +202,32 @@ impl<K: Keeper> Desk<K> {
         if room.is_err() {
             return Err(EdgeFault::NoMemory);
         }
-        if let Some(change) = change {
-            self.keeper.commit(alloc, &change)?;
-            forget(&mut self.presence, change.gone.as_slice());
-            forget_sessions(&mut self.sessions, change.gone.as_slice());
-            self.tables.apply(change);
-        }
+        let Some(change) = change else {
+            put_in_force(&mut self.policy, policy);
+            let_rest(
+                &mut self.presence,
+                &mut self.sessions,
+                ended,
+                offline,
+                self.time,
+            );
+            return Ok(());
+        };
+        self.keeper.commit(alloc, &change)?;
+        apply_change(
+            &mut self.tables,
+            &mut self.presence,
+            &mut self.sessions,
+            change,
+        );
         put_in_force(&mut self.policy, policy);
-        end_presence(&mut self.presence, ended, self.time);
-        end_sessions(&mut self.sessions, ended);
-        go_offline(&mut self.presence, offline, self.time);
-        end_sessions(&mut self.sessions, offline);
+        let_rest(
+            &mut self.presence,
+            &mut self.sessions,
+            ended,
+            offline,
+            self.time,
+        );
         Ok(())
     }
 

@@ -5,6 +5,7 @@ mod ask;
 mod deciding;
 mod desk;
 mod entry;
+mod kept;
 mod laws;
 mod opening;
 mod polls;

@@ -174,10 +174,12 @@ impl<K: Keeper> Desk<K> {
         ensures keeper { self.new.keeper ≡ self.old.keeper }
         ensures told { IsWhereTold self.new.state.rows (K.told self.new.keeper) }
     {
-        if let Some(id) = id {
-            self.sessions.attached.remove(id);
-            end_presence(&mut self.presence, &[id], self.time);
-        }
+        let now = self.time;
+        let Some(id) = id else {
+            return;
+        };
+        self.sessions.attached.remove(id);
+        end_presence(&mut self.presence, &[id], now);
     }
 
     /// A poll ends. Its machine is offline from now on, and its session stays. It takes no memory.

@@ -42,6 +42,17 @@ pub(crate) fn end_sessions(sessions: &mut Sessions, ids: &[u32])
     drop_all(&mut sessions.attached, ids);
 }
 
+/// A session that begins stands in the place of its machine's last one.
+fn begin(rows: &mut Shelf<Session>, begun: Option<Session>)
+    requires row { 1 ≤ rows.old.1 }
+    ensures rows { rows.new.0 ≡ sessions_with rows.old.0 begun }
+{
+    match begun {
+        None => {}
+        Some(session) => rows.put(session),
+    }
+}
+
 /// A session is attached, which begins or goes on.
 pub(crate) fn attach_session(
     sessions: &mut Sessions,
@@ -56,9 +67,7 @@ pub(crate) fn attach_session(
         ≡ put_row (λ a. a.id) sessions.old.attached.0 held }
     ensures next { sessions.new.next ≡ next }
 {
-    if let Some(session) = begun {
-        sessions.rows.put(session);
-    }
+    begin(&mut sessions.rows, begun);
     sessions.attached.put(held);
     sessions.next = next;
 }
