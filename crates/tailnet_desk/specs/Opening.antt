@@ -1,5 +1,5 @@
 -- Which tables a desk opens, and the state in which it does.
-use Rattle.std.specs.Prelude.{◌≡◌, ℤ, Bool, List, [], length, map, nat_lt, Option, None, Some, if◌then◌else◌}
+use Rattle.std.specs.Prelude.{◌≡◌, ℤ, Bool, [], length, map, nat_lt, Option, None, Some, if◌then◌else◌}
 use Rattle.std.specs.Option.{option_or}
 use Rattle.net_rows.specs.declared.rows.Rows.{Rows}
 use Rattle.net_rows.specs.declared.machine.Machine.{Machine}
