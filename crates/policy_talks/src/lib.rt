@@ -8,4 +8,6 @@ mod office;
 #[cfg(test)]
 mod policies;
 #[cfg(test)]
+mod requests;
+#[cfg(test)]
 mod routes;

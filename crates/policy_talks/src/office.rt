@@ -1,4 +1,5 @@
 //! The policy of an office over forty machines of six users, two routers and an exit node.
+use crate::requests::add_head;
 use run_ends::Status;
 use std::alloc::Global;
 use std::test::Fail;
@@ -52,11 +53,8 @@ fn add_request(
     caller: &str,
     body: &str,
 ) -> Result<(), NoMemory> {
-    let length = body.len();
-    let request = format!(in alloc;
-        "{target} HTTP/1.1\r\nHost: tail\r\n{caller}\r\nContent-Length: {length}\r\n\r\n{body}"
-    )?;
-    input.extend_from_slice(request.as_bytes())?;
+    add_head(alloc, input, target, caller, body.len())?;
+    input.extend_from_slice(body.as_bytes())?;
     Ok(())
 }
 

@@ -1,7 +1,7 @@
 //! Policies saved, refused and opened, and the tags that they let machines have.
+use crate::requests::add_head;
 use run_ends::Status;
 use std::alloc::Global;
-use std::process::Abort;
 use std::test::Fail;
 use tail_base::NoMemory;
 use talk_runs::{CALM, SETTINGS, first_not_held, piped, piped_over, tables_with};
@@ -209,27 +209,33 @@ const KEPT: &str = r#"= kept-policy-closes
 const SHOW: &[u8] =
     b"GET /api/v1/policy HTTP/1.1\r\nHost: tail\r\nAuthorization: Bearer secret\r\n\r\n";
 
-/// Asserts that tables which keep this policy are damaged.
-fn assert_damaged(rt: &impl Abort, alloc: Global, policy: &str) -> Result<(), NoMemory> {
+/// Whether tables that keep this policy are opened, and it is shown.
+fn is_shown(alloc: Global, policy: &str) -> Result<bool, NoMemory> {
     let ran = piped_over(alloc, tables_with(alloc, policy)?, SHOW)?;
-    assert!(rt; ran.status == Status::Damaged, "{policy}");
-    assert!(rt;
-        ran.errors.bytes() == b"tailnetd: damaged policy 0\n".as_slice(),
-        "{policy}"
-    );
-    assert!(rt; ran.output.bytes() == b"".as_slice(), "{policy}");
-    Ok(())
+    Ok(ran.status == Status::Ok && ran.output.bytes().ends_with(policy.as_bytes()))
+}
+
+/// Whether tables that keep this policy are damaged.
+fn is_damaged(alloc: Global, policy: &str) -> Result<bool, NoMemory> {
+    let ran = piped_over(alloc, tables_with(alloc, policy)?, SHOW)?;
+    let is_said = ran.errors.bytes() == b"tailnetd: damaged policy 0\n".as_slice();
+    Ok(ran.status == Status::Damaged && is_said && ran.output.bytes().is_empty())
 }
 
 /// A save of this body.
 fn save_of(alloc: Global, body: &[u8]) -> Result<Vec<u8>, NoMemory> {
-    let head = format!(in alloc;
-        "PUT /api/v1/policy HTTP/1.1\r\nHost: tail\r\nAuthorization: Bearer secret\r\nContent-Length: {}\r\n\r\n",
-        body.len()
-    )?;
-    let mut bytes = Vec::from_slice(alloc, head.as_bytes())?;
+    let mut bytes = Vec::new(alloc);
+    let caller = "Authorization: Bearer secret";
+    add_head(alloc, &mut bytes, "PUT /api/v1/policy", caller, body.len())?;
     bytes.extend_from_slice(body)?;
     Ok(bytes)
+}
+
+/// Whether the answer to a save of this body ends so.
+fn is_answered(alloc: Global, body: &[u8], end: &[u8]) -> Result<bool, NoMemory> {
+    let input = save_of(alloc, body)?;
+    let ran = piped(alloc, SETTINGS, &input, &CALM)?;
+    Ok(ran.output.bytes().ends_with(end))
 }
 
 #[test]
@@ -251,34 +257,36 @@ fn kept_policies_are_in_force(rt: HostRuntime) -> Result<(), Fail> {
 }
 
 #[test]
-fn a_policy_is_text_within_its_limit(rt: HostRuntime) -> Result<(), Fail> {
-    let alloc = rt.alloc();
-    let ran = piped(alloc, SETTINGS, &save_of(alloc, b"{}\xff")?, &CALM)?;
-    assert!(rt; ran.output.bytes().ends_with(b"{\"error\":\"NotJson\"}"));
-    let mut long = Vec::new(alloc);
-    for _byte in 0..262_145 {
-        long.push(b' ')?;
-    }
-    let ran = piped(alloc, SETTINGS, &save_of(alloc, &long)?, &CALM)?;
-    assert!(rt;
-        ran.output
-            .bytes()
-            .ends_with(b"{\"code\":\"P19\",\"place\":\"text\"}")
-    );
+fn a_policy_is_text(rt: HostRuntime) -> Result<(), Fail> {
+    assert!(rt; is_answered(rt.alloc(), b"{}\xff", b"{\"error\":\"NotJson\"}")?);
+    Ok(())
+}
+
+#[test]
+fn a_policy_has_a_limit(rt: HostRuntime) -> Result<(), Fail> {
+    let long = Vec::from_elem(rt.alloc(), b' ', 262_145)?;
+    assert!(rt; is_answered(rt.alloc(), &long, b"{\"code\":\"P19\",\"place\":\"text\"}")?);
     Ok(())
 }
 
 #[test]
 fn kept_policies_are_opened(rt: HostRuntime) -> Result<(), Fail> {
-    let alloc = rt.alloc();
-    let kept = "{\"tagOwners\":{\"tag:a\":[]}}";
-    let ran = piped_over(alloc, tables_with(alloc, kept)?, SHOW)?;
-    assert!(rt; ran.status == Status::Ok);
-    assert!(rt; ran.output.bytes().ends_with(kept.as_bytes()));
-    assert_damaged(&rt, alloc, "[,]")?;
-    assert_damaged(&rt, alloc, "")?;
-    assert_damaged(&rt, alloc, "{\"acls\":[{}]}")?;
-    assert_damaged(&rt, alloc, "{\"autoApprovers\":{\"exitNode\":[\"*\"]}}")?;
+    assert!(rt; is_shown(rt.alloc(), "{\"tagOwners\":{\"tag:a\":[]}}")?);
+    Ok(())
+}
+
+const FAULTY: [&str; 4] = [
+    "[,]",
+    "",
+    "{\"acls\":[{}]}",
+    "{\"autoApprovers\":{\"exitNode\":[\"*\"]}}",
+];
+
+#[test]
+fn kept_policies_with_faults_are_damage(rt: HostRuntime) -> Result<(), Fail> {
+    for policy in FAULTY {
+        assert!(rt; is_damaged(rt.alloc(), policy)?, "{policy}");
+    }
     Ok(())
 }
 
@@ -291,10 +299,7 @@ fn policies_are_tested(rt: HostRuntime) -> Result<(), Fail> {
 /// A policy stays in force when a test of it would fail.
 #[test]
 fn kept_policies_are_not_tested(rt: HostRuntime) -> Result<(), Fail> {
-    let alloc = rt.alloc();
     let kept = "{\"acls\":[],\"tests\":[{\"src\":\"ann@\",\"accept\":[\"bob@:22\"]}]}";
-    let ran = piped_over(alloc, tables_with(alloc, kept)?, SHOW)?;
-    assert!(rt; ran.status == Status::Ok);
-    assert!(rt; ran.output.bytes().ends_with(kept.as_bytes()));
+    assert!(rt; is_shown(rt.alloc(), kept)?);
     Ok(())
 }

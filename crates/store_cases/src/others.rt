@@ -58,12 +58,12 @@ fn make_notes(rt: &HostRuntime) -> Result<(), Fail> {
     let Ok(mut conn) = Connection::open(rt, NOTES) else {
         return Err(Fail::from("the file isn't made"));
     };
-    if conn.execute("CREATE TABLE notes (note TEXT)", &[]).is_err() {
-        return Err(Fail::from("the table isn't made"));
-    }
-    match conn.close() {
-        Ok(()) => Ok(()),
-        Err(_) => Err(Fail::from("the file isn't closed")),
+    let is_made = conn.execute("CREATE TABLE notes (note TEXT)", &[]).is_ok();
+    let is_closed = conn.close().is_ok();
+    if is_made && is_closed {
+        Ok(())
+    } else {
+        Err(Fail::from("the table isn't made"))
     }
 }
 
