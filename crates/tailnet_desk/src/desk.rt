@@ -16,7 +16,7 @@ ghost use Rattle.tailnet_desk.specs.declared.entry.Event.TheVariants as event;
 use crate::ask::Ask;
 use crate::deciding::decide;
 use crate::kept::{apply_change, let_rest};
-use crate::opening::{Beginning, beginning_of};
+use crate::opening::{Beginning, load_beginning};
 use crate::reply::{Answer, Loss, Reply};
 use crate::settling::put_in_force;
 use desk_state::{Decision, MachinePresence, Sessions, Snapshot, keep_rules, live_ids};
@@ -26,7 +26,7 @@ use moments::Moment;
 use net_rows::{Change, Kind, Shelf, Tables};
 use policy_eval::InForce;
 use policy_rows::Policy;
-use row_keeper::{Keeper, LoadFault};
+use row_keeper::Keeper;
 use settings::Settings;
 use std::alloc::Global;
 use std::marker::Model;
@@ -153,16 +153,8 @@ impl<K: Keeper> Desk<K> {
             → IfSome (K.told keeper)
             (λ rows. unserved rows ≡ Some (record { kind = kind; id = id }))) }
     {
-        let tables = match keeper.load(alloc) {
-            Ok(tables) => tables,
-            Err(LoadFault::Failed) => return Err((OpenFault::KeeperFault, keeper)),
-            Err(LoadFault::Damaged { kind, id }) => {
-                return Err((OpenFault::Damaged { kind, id }, keeper));
-            }
-            Err(LoadFault::NoMemory) => return Err((OpenFault::NoMemory, keeper)),
-        };
-        match beginning_of(alloc, &tables, moment) {
-            Ok(Beginning { policy, presence }) => Ok(Desk {
+        match load_beginning(alloc, &mut keeper, moment) {
+            Ok((tables, Beginning { policy, presence })) => Ok(Desk {
                 settings,
                 tables,
                 policy: InForce::new(policy),

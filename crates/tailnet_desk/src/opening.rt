@@ -1,5 +1,6 @@
 //! What a desk looks at when it opens.
-ghost use Rattle.std.specs.Prelude.{◌≡◌, IfOk, IfErr, OnOk, map, None};
+ghost use Rattle.std.specs.Prelude.{◌≡◌, ◌≤◌, ℕ, IfOk, IfErr, IfSome, OnOk, map, None, Some};
+ghost use Rattle.io_edge.specs.Edge.{IsWhereTold, Rose, StillTells};
 ghost use Rattle.desk_state.specs.State.{offline_at};
 ghost use Rattle.policy_asks.specs.Kept.{policy_in};
 ghost use Rattle.tailnet_desk.specs.Opening.{IsOpenFault, damage_if, unserved, unserved_extras};
@@ -10,6 +11,7 @@ use moments::Moment;
 use net_rows::{Damage, Kind, Machine, Shelf, Tables};
 use policy_asks::policy_in;
 use policy_rows::Policy;
+use row_keeper::{Keeper, LoadFault};
 use std::alloc::Global;
 use tail_base::{Failure, Items, NoMemory};
 
@@ -103,4 +105,46 @@ pub(crate) fn beginning_of(
         Ok(presence) => Ok(Beginning { policy, presence }),
         Err(NoMemory) => Err(OpenFault::NoMemory),
     }
+}
+
+/// The tables that the keeper has.
+fn load_tables<K: Keeper>(alloc: Global, keeper: &mut K) -> Result<Tables, OpenFault>
+    ensures rows { IfOk result (λ tables. IsWhereTold tables.rows (K.told keeper.old)) }
+    ensures still { StillTells (K.told keeper.old) (K.told keeper.new) }
+    ensures later { K.faults keeper.old ≤ K.faults keeper.new }
+    ensures fault { IfErr result (λ e. e ≡ OpenFault.KeeperFault
+        → Rose (K.faults keeper.old) (K.faults keeper.new)) }
+    ensures damaged { IfErr result (λ e. (kind : _) (id : ℕ) → e ≡ OpenFault.Damaged kind id
+        → K.told keeper.old ≡ None) }
+{
+    match keeper.load(alloc) {
+        Ok(tables) => Ok(tables),
+        Err(LoadFault::Failed) => Err(OpenFault::KeeperFault),
+        Err(LoadFault::Damaged { kind, id }) => Err(OpenFault::Damaged { kind, id }),
+        Err(LoadFault::NoMemory) => Err(OpenFault::NoMemory),
+    }
+}
+
+/// The tables that the keeper has, and what a desk over them holds beside them, or why they aren't opened.
+pub(crate) fn load_beginning<K: Keeper>(
+    alloc: Global,
+    keeper: &mut K,
+    now: Moment,
+) -> Result<(Tables, Beginning), OpenFault>
+    ensures policy { IfOk result (λ made. made.1.policy ≡ policy_in made.0.rows) }
+    ensures presence { IfOk result (λ made. made.1.presence.0
+        ≡ map (λ m. offline_at now m.id) made.0.rows.machines) }
+    ensures rows { IfOk result (λ made. IsWhereTold made.0.rows (K.told keeper.old)) }
+    ensures served { IfOk result (λ made. unserved made.0.rows ≡ None) }
+    ensures still { StillTells (K.told keeper.old) (K.told keeper.new) }
+    ensures later { K.faults keeper.old ≤ K.faults keeper.new }
+    ensures fault { IfErr result (λ e. e ≡ OpenFault.KeeperFault
+        → Rose (K.faults keeper.old) (K.faults keeper.new)) }
+    ensures damaged { IfErr result (λ e. (kind : _) (id : ℕ) → e ≡ OpenFault.Damaged kind id
+        → IfSome (K.told keeper.old)
+        (λ rows. unserved rows ≡ Some (record { kind = kind; id = id }))) }
+{
+    let tables = load_tables(alloc, keeper)?;
+    let beginning = beginning_of(alloc, &tables, now)?;
+    Ok((tables, beginning))
 }
