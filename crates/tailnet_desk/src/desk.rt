@@ -245,6 +245,20 @@ impl<K: Keeper> Desk<K> {
         reply_of(kept, answer)
     }
 
+    /// What decisions look at.
+    pub(crate) fn snapshot(&self) -> Snapshot<'_>
+        ensures value { result ≡ self.now.state }
+    {
+        Snapshot {
+            settings: &self.settings,
+            tables: &self.tables,
+            policy: &self.policy,
+            presence: &self.presence,
+            sessions: &self.sessions,
+            time: self.time,
+        }
+    }
+
     /// Expands the policy over the machines that are live at the moment, unless it is so already.
     /// Contracts see no change. Out of memory is told by what needs it.
     pub(crate) fn expand(&mut self, alloc: Global, moment: Moment)
@@ -278,14 +292,7 @@ impl<K: Keeper> Desk<K> {
             (event.Ask ask.now moment words) result (point_of K.told K.faults K.calls self.new) }
     {
         self.time = self.time.or_later(moment);
-        let at = Snapshot {
-            settings: &self.settings,
-            tables: &self.tables,
-            policy: &self.policy,
-            presence: &self.presence,
-            sessions: &self.sessions,
-            time: self.time,
-        };
+        let at = self.snapshot();
         keep_rules(&at);
         match decide(alloc, &at, ask, words) {
             Ok(decision) => self.carry(alloc, decision),

@@ -14,7 +14,7 @@ use crate::desk::Desk;
 use crate::reply::{Drained, Loss, Reply};
 use crate::sessions::{attach_session, put_session};
 use crate::settling::end_presence;
-use desk_state::{Attachment, MachinePresence, Presence, Sessions, Snapshot};
+use desk_state::{Attachment, MachinePresence, Presence, Sessions};
 use map_asks::{AttachDecision, DrainDecision, attach, detach, drain};
 use moments::Moment;
 use net_rows::Shelf;
@@ -91,14 +91,7 @@ impl<K: Keeper> Desk<K> {
         ensures kind { IsAttachReply result }
     {
         self.time = self.time.or_later(moment);
-        let at = Snapshot {
-            settings: &self.settings,
-            tables: &self.tables,
-            policy: &self.policy,
-            presence: &self.presence,
-            sessions: &self.sessions,
-            time: self.time,
-        };
+        let at = self.snapshot();
         match attach(alloc, &at, machine, node, handle, seq, words) {
             Ok(decision) => self.enter(decision),
             Err(Failure::Fault(refusal)) => Reply::Refused(refusal),
@@ -137,14 +130,7 @@ impl<K: Keeper> Desk<K> {
         ensures keeper { self.new.keeper ≡ self.old.keeper }
     {
         self.time = self.time.or_later(moment);
-        let at = Snapshot {
-            settings: &self.settings,
-            tables: &self.tables,
-            policy: &self.policy,
-            presence: &self.presence,
-            sessions: &self.sessions,
-            time: self.time,
-        };
+        let at = self.snapshot();
         match drain(alloc, &at, machine, handle) {
             Ok(decision) => self.send(decision),
             Err(NoMemory) => Drained::NoMemory,
@@ -190,14 +176,7 @@ impl<K: Keeper> Desk<K> {
         ensures keeper { self.new.keeper ≡ self.old.keeper }
     {
         self.time = self.time.or_later(moment);
-        let at = Snapshot {
-            settings: &self.settings,
-            tables: &self.tables,
-            policy: &self.policy,
-            presence: &self.presence,
-            sessions: &self.sessions,
-            time: self.time,
-        };
+        let at = self.snapshot();
         let id = detach(&at, machine, handle);
         self.let_off(id);
     }
