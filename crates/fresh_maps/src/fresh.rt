@@ -11,7 +11,7 @@ ghost use Rattle.fresh_maps.specs.Profiles.{owners_of};
 use crate::profile::owners_of;
 use crate::view::View;
 use filter_compile::filter_for;
-use peer_view::{LiveMachine, World, own_row, sees_machine, shown};
+use peer_view::{LiveMachine, World, own_row, routers_of, sees_machine, shown};
 use policy_sites::Site;
 use std::alloc::Global;
 use tail_base::{Duplicate, Items, NoMemory};
@@ -69,9 +69,10 @@ fn peers_of(
 {
     let visible = visible_of(alloc, world, viewer)?;
     let visible = visible.as_slice();
+    let routers = routers_of(alloc, world, viewer, visible)?;
     let mut peers = Items::new(alloc);
     for peer in visible {
-        peers.push(shown(alloc, world, viewer, visible, peer)?)?;
+        peers.push(shown(alloc, world, viewer, &routers, peer)?)?;
     }
     Ok(peers)
 }
