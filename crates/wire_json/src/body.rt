@@ -9,8 +9,8 @@ use crate::field::Field;
 use serde_json::Value;
 use std::alloc::Global;
 
-/// The object that a body is: a JSON text in UTF-8 (RFC 8259) whose value is an object. Of members of one
-/// name the last counts.
+/// The object that a body is: a JSON text in UTF-8 (RFC 8259) whose value is an object. Of members of
+/// one name the last counts.
 #[tactic(auto, unfolding(crate::specs::Body::object_at))]
 pub fn object_of_body(alloc: Global, body: &[u8]) -> Result<Value, WireFault>
     ensures value { Gives (λ v. view v) result (object_at (body_value body.now)) }
@@ -25,7 +25,8 @@ pub fn object_of_body(alloc: Global, body: &[u8]) -> Result<Value, WireFault>
 
 /// The value of a field that is there and not null, in an object that may itself be absent.
 pub fn field_of<'a>(object: Option<&'a Value>, field: Field) -> Option<&'a Value>
-    ensures value { option_map (λ v. view v.now) result ≡ field_of field (option_map (λ v. view v.now) object.entry) }
+    ensures value { option_map (λ v. view v.now) result
+        ≡ field_of field (option_map (λ v. view v.now) object.entry) }
 {
     match object?.get(field.name()) {
         Some(value) if !value.is_null() => Some(value),
@@ -38,7 +39,8 @@ pub(crate) fn object_of<'a>(
     object: Option<&'a Value>,
     field: Field,
 ) -> Result<Option<&'a Value>, WireFault>
-    ensures value { Gives (option_map (λ v. view v.now)) result (object_of field (option_map (λ v. view v.now) object.entry)) }
+    ensures value { Gives (option_map (λ v. view v.now)) result
+        (object_of field (option_map (λ v. view v.now) object.entry)) }
 {
     match field_of(object, field) {
         Some(value) if value.is_object() => Ok(Some(value)),
