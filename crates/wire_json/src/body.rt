@@ -1,7 +1,7 @@
 //! Bodies and their fields.
 ghost use Rattle.std.specs.Prelude.{◌≡◌, option_map};
 ghost use Rattle.serde_json.specs.View.{view};
-ghost use Rattle.wire_json.specs.Body.{Gives, body_value, field_of, object_at};
+ghost use Rattle.wire_json.specs.Body.{Gives, body_value, field_of, list_at, object_at};
 ghost use Rattle.wire_json.specs.Readers.{object_of};
 
 use crate::fault::WireFault;
@@ -17,6 +17,19 @@ pub fn object_of_body(alloc: Global, body: &[u8]) -> Result<Value, WireFault>
 {
     match Value::from_slice(alloc, body) {
         Ok(value) if value.is_object() => Ok(value),
+        Ok(_) => Err(WireFault::NotJson),
+        Err(error) if error.is_memory() => Err(WireFault::NoMemory),
+        Err(_) => Err(WireFault::NotJson),
+    }
+}
+
+/// The list that a body is: a JSON text in UTF-8 (RFC 8259) whose value is a list.
+#[tactic(auto, unfolding(crate::specs::Body::list_at))]
+pub fn list_of_body(alloc: Global, body: &[u8]) -> Result<Value, WireFault>
+    ensures value { Gives (λ v. view v) result (list_at (body_value body.now)) }
+{
+    match Value::from_slice(alloc, body) {
+        Ok(value) if value.is_array() => Ok(value),
         Ok(_) => Err(WireFault::NotJson),
         Err(error) if error.is_memory() => Err(WireFault::NoMemory),
         Err(_) => Err(WireFault::NotJson),

@@ -80,7 +80,7 @@ fn elements_of<T: Spelled>(
 
 /// The values of a list, if there are at most so many.
 #[tactic(auto, using(crate::proofs::Counts::items_count))]
-fn short_array(value: &Value, limit: usize) -> Option<&[Value]>
+pub fn short_array(value: &Value, limit: usize) -> Option<&[Value]>
     ensures value { option_map (λ vs. items_view vs.now) result
         ≡ short_array limit (view value.now) }
     ensures short { IfSome result (λ vs. length vs.now ≤ limit) }
