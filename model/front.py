@@ -8,6 +8,7 @@ from bodies import (
     Fields,
     object_of,
     read_admit_form,
+    read_extras_form,
     read_key_form,
     read_map_request,
     read_register,
@@ -63,6 +64,7 @@ ROUTES = [
     ("/api/v1/node/{id}/routes", {"POST": "set_routes"}),
     ("/api/v1/register", {"GET": "waiting", "POST": "admit"}),
     ("/api/v1/policy", {"GET": "policy", "PUT": "save_policy"}),
+    ("/api/v1/dns", {"GET": "extras", "PUT": "set_extras"}),
     ("/api/v1/sweep", {"POST": "sweep"}),
 ]
 SEGMENTS = {"{login}": "(?P<login>[^/]+)", "{id}": "(?P<id>[1-9][0-9]{0,9})"}
@@ -196,7 +198,7 @@ class Front:
         whole = {
             "DNSConfig": {
                 "Domains": self.settings.get("dns.search", [self.settings["base_domain"]]),
-                "ExtraRecords": [],
+                "ExtraRecords": tailnet.extras,
                 "Proxied": self.settings.get("dns.magic", True),
                 "Resolvers": self.resolvers(self.settings.get("dns.resolvers", [])),
                 "Routes": {domain: self.resolvers(routes[domain]) for domain in sorted(routes)},
@@ -346,6 +348,14 @@ class Front:
             raise BodyFault("NotJson") from None
         self.at_once().save_policy(body)
         return {}
+
+    def extras(self, _, body):
+        return text_of(self.at_once().extras)
+
+    def set_extras(self, _, body):
+        extras = read_extras_form(body)
+        self.at_once().set_extras(extras)
+        return text_of(extras)
 
     def sweep(self, _, body):
         object_of(body)

@@ -83,6 +83,8 @@ class Tailnet:
         self.users, self.keys, self.pending, self.machines = {}, {}, {}, {}
         self.next = dict.fromkeys(LIMITS, 1)
         self.sessions, self.next_session = {}, 1
+        # the extra DNS records, as they are shown
+        self.extras = []
         # the policy in force and its text, from the first save on
         self.policy, self.policy_text = None, None
 
@@ -404,6 +406,9 @@ class Tailnet:
         if failure:
             raise PolicyFault(21, failure)
         self.policy, self.policy_text = policy, text
+
+    def set_extras(self, extras):
+        self.extras = extras
 
     def drop_node(self, id):
         self.remove(self.machine_with(id).id)

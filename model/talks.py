@@ -35,6 +35,11 @@ NO_ENDPOINTS = [
 TAGS = ["tag:web", "tag:Db-1", "tag:a"]
 NO_TAGS = ["tag:", "tag:1", "web", "tag:a_b", "tag:" + "a" * 64, "Tag:a"]
 OTHER_TYPES = [None, 5, True, [], {}, "x", -1, 1.5]
+RECORD_NAMES = ["nas.tail.example", "printer", "a.b.c", "x" * 63 + ".y-1"]
+NO_RECORD_NAMES = ["", ".", "nas.", ".nas", "a..b", "Nas", "a_b", "-a", "é", "x" * 64, ".".join(4 * ["z" * 63])]
+VALUES = ["192.168.5.9", "0.0.0.0", "2001:DB8:0:0:1::80", "fd7a:115c:a1e0::1", "::"]
+NO_VALUES = ["", "192.168.5", "192.168.5.09", "192.168.5.9/32", "2001:db8::1%x", "::1.2.3.4", "nas"]
+NO_TYPES = ["A", "AAAA", "MX", "a", " "]
 IDS = ["0", "01", "2147483647", "2147483648", "x", "-1", "1x", "99999999999", "+1", "7"]
 BODIES = [
     b"", b"[]", b"{", b"null", b'"x"', b'{"a":1}x', b"\xff", b'{"NodeKey":"\xff"}', b'{"name":"a","name":"dup"}', b'{"user":-0}',
@@ -69,7 +74,7 @@ APPROVERS = ["ann@", "seed@", "seed@", "group:dev", "tag:web", "tag:Db-1"]
 PORTS = ["*", "*", "22", "80-90,85-100", "443,22", "1-2,3-4,6", "0-65535"]
 STRAY = [
     ("GET", "/"), ("GET", "/machine/map"), ("PUT", "/machine/map"), ("POST", "/machine/map/"), ("GET", "/api/v1/node/1"),
-    ("POST", "/api/v1/policy"), ("PUT", "/api/v1/node/1/routes"), ("GET", "/api/v1/dns"), ("DELETE", "/api/v1/user/"),
+    ("POST", "/api/v1/policy"), ("PUT", "/api/v1/node/1/routes"), ("POST", "/api/v1/dns"), ("DELETE", "/api/v1/dns"), ("GET", "/api/v1/dns/"), ("DELETE", "/api/v1/user/"),
     ("PATCH", "/api/v1/user"), ("GET", "/api/v1/user?x=1"), ("post", "/api/v1/sweep"), ("GET", "//api/v1/user"),
     ("GET", "/api/v1/user/"), ("DELETE", "/api/v1/node/0"), ("GET", "/api/v1/node/01"), ("GET", "/api/v1/node/1/"),
 ]
@@ -80,12 +85,12 @@ class Talk:
 
     def __init__(self, random, tailnet, settings):
         self.random, self.tailnet, self.settings = random, tailnet, settings
-        others = [self.user, self.pre_auth_key, self.waiting]
+        others = [self.user, self.pre_auth_key, self.waiting, self.extras]
         often = 10 * [self.register] + 5 * [self.map] + 5 * [self.whole_map] + 3 * [self.node] + 3 * [self.routes] + 2 * [self.advertise]
         # every third conversation is about routers and what maps show of them
         routed = 4 * [self.router] + 3 * [self.advertise] + 5 * [self.routes] + 8 * [self.whole_map] + [self.node]
         # how much of the conversation polls take
-        polled = self.one_of([0, 1, 5]) * (6 * [self.poll] + 3 * [self.change_node] + 3 * [self.join])
+        polled = self.one_of([0, 1, 5]) * (6 * [self.poll] + 3 * [self.change_node] + 3 * [self.join] + [self.extras])
         self.draws = (routed if self.once_in(3) else often) + 2 * [self.policy] + others + polled
 
     def once_in(self, times):
@@ -361,6 +366,28 @@ class Talk:
             ("PUT", "/api/v1/policy", None, text.encode()),
             ("PUT", "/api/v1/policy", None, text.encode()),
         ])
+
+    def record(self):
+        """An extra record, mostly a sound one."""
+        if self.once_in(80):
+            return self.one_of(OTHER_TYPES)
+        value = self.text(20 * VALUES, NO_VALUES)
+        fitting = "AAAA" if isinstance(value, str) and ":" in value else "A"
+        return self.object(
+            Name=(98, lambda: self.text(40 * RECORD_NAMES, NO_RECORD_NAMES)),
+            Type=(50, lambda: self.text(40 * [fitting], 5 * [""], NO_TYPES)),
+            Value=(98, lambda: value),
+            TTL=(5, lambda: 60),
+        )
+
+    def extras(self):
+        """The extra records are shown, or others put in their place; and sometimes there are too many."""
+        if self.once_in(3):
+            return "GET", "/api/v1/dns", None, None
+        records = [self.record() for _ in range(self.one_of([0, 1, 1, 2, 2, 3]))]
+        if self.once_in(15):
+            records = self.one_of(BODIES, [self.one_of([256, 257]) * [{"Name": "nas", "Value": "192.168.5.9"}]])
+        return "PUT", "/api/v1/dns", None, records
 
     def stray(self):
         method, path = self.one_of(STRAY)

@@ -105,7 +105,7 @@ complete_of (ended.Settings rule key) name seed old new p c = absurd (let broken
 complete_of ended.TooLarge name seed old new p c = absurd (let large = rw c.file_is at p.1 in omega (arith, large, c.small))
 complete_of ended.FileFault name seed old new p c = absurd (c.no_file_fault p.1)
 complete_of ended.KeeperFault name seed old new p c = absurd (c.no_keeper_fault p.2)
-complete_of (ended.Damaged kind id) name seed old new p c = absurd (let damaged = rw c.rows_are at p.2 in let sound = c.served in cc)
+complete_of (ended.Damaged kind id) name seed old new p c = absurd (let damaged = rw c.rows_are at p.2 in let sound = c.opened in cc)
 complete_of ended.NoMemory name seed old new p c = inr refl
 
 pub complete : IsComplete

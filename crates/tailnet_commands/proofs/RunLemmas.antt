@@ -22,7 +22,7 @@ use Rattle.desk_front.specs.Wanted.{front_settings}
 use Rattle.connections.specs.Connection.{IsConnection}
 use Rattle.connections.specs.Exchanges.{turns_of}
 use Rattle.connections.specs.Tellings.{from_number}
-use Rattle.tailnet_commands.specs.Run.{Conversation, IsAskedFor, IsUnserved, Ran, Untouched, IsFaultOf}
+use Rattle.tailnet_commands.specs.Run.{Conversation, IsAskedFor, IsUnopened, Ran, Untouched, IsFaultOf}
 use Rattle.tailnet_commands.specs.Outside.{Outside}
 use Rattle.tailnet_commands.specs.Seeding.{IsSeeded}
 use Rattle.connections.proofs.Seen.{serves_from, with_answers}
@@ -108,7 +108,7 @@ conversed closed settings seed moment old new f g d keeping middle final hold wh
 
 -- a desk that didn't open
 pub faulted : (f : OpenFault) (e : Ended) (settings : SettingsFields) (seed : Option (List ℕ)) (old new : Outside) → IsFaultOf f e → Untouched old new → IsAskedFor settings old new → (f ≡ fault.KeeperFault → Rose old.keeper_faults new.keeper_faults)
-    → ((kind : _) (id : ℕ) → f ≡ fault.Damaged kind id → IsUnserved kind id old.rows) → Ran e settings seed old new
+    → ((kind : _) (id : ℕ) → f ≡ fault.Damaged kind id → IsUnopened kind id old.rows) → Ran e settings seed old new
 faulted fault.KeeperFault e settings seed old new is quiet asked rose damaged = rw is (quiet, asked, rose refl)
 faulted (fault.Damaged kind id) e settings seed old new is quiet asked rose damaged = rw is (quiet, asked, damaged kind id refl)
 faulted fault.NoMemory e settings seed old new is quiet asked rose damaged = rw is (quiet, inr asked)

@@ -9,7 +9,7 @@ use Rattle.net_rows.specs.declared.change.Kind.{Kind}
 use Rattle.net_rows.specs.declared.rows.Rows.{Rows}
 use Rattle.settings.specs.declared.fields.SettingsFields.{SettingsFields}
 use Rattle.tailnet_desk.specs.Chains.{Chain, Turned, IsHistory}
-use Rattle.tailnet_desk.specs.Opening.{opening, unserved}
+use Rattle.tailnet_desk.specs.Opening.{opening, unread_policy}
 use Rattle.tailnet_desk.specs.Seated.{Keeping, Point}
 use Rattle.tailnet_desk.specs.Turns.{IsTurn}
 use Rattle.tailnet_desk.specs.declared.desk.OpenFault.{OpenFault}
@@ -49,9 +49,9 @@ IsUnasked old new = new.asked ≡ old.asked
 abbrev pub IsAskedFor : SettingsFields → Outside → Outside → Type 0
 IsAskedFor settings old new = new.asked ≡ and_asked old.asked settings.database
 
--- rows, where they are told, aren't served, and this one is the cause
-abbrev pub IsUnserved : Kind → ℕ → Option Rows → Type 0
-IsUnserved kind id told = IfSome told (λ rows. unserved rows ≡ Some (record { kind = kind; id = id }))
+-- rows, where they are told, aren't opened, and this damage is the cause
+abbrev pub IsUnopened : Kind → ℕ → Option Rows → Type 0
+IsUnopened kind id told = IfSome told (λ rows. unread_policy rows ≡ Some (record { kind = kind; id = id }))
 
 -- A connection over a desk that was opened at the clock's first answer. Its tables keep their rules, at the beginning
 -- and at the end.
@@ -86,7 +86,7 @@ Ran ended.TooLarge settings seed old new = ⊥
 Ran ended.FileFault settings seed old new = ⊥
 Ran ended.KeeperFault settings seed old new = Untouched old new × IsAskedFor settings old new × Rose old.keeper_faults new.keeper_faults
 Ran (ended.Damaged kind id) settings seed old new =
-    Untouched old new × IsAskedFor settings old new × IsUnserved kind id old.rows
+    Untouched old new × IsAskedFor settings old new × IsUnopened kind id old.rows
 Ran ended.NoMemory settings seed old new = Untouched old new × (IsUnasked old new ⊎ IsAskedFor settings old new)
 
 -- how a run ends whose desk didn't open

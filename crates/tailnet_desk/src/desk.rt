@@ -8,7 +8,7 @@ ghost use Rattle.std.specs.Option.{option_or};
 ghost use Rattle.desk_state.specs.Decisions.{rows_after};
 ghost use Rattle.tailnet_desk.specs.Asks.{IsShort};
 ghost use Rattle.tailnet_desk.specs.Carried.{Carried, Kept, reply_of};
-ghost use Rattle.tailnet_desk.specs.Opening.{opening, unserved};
+ghost use Rattle.tailnet_desk.specs.Opening.{opening, unread_policy};
 ghost use Rattle.tailnet_desk.specs.Seated.{IsInForce, keeping_of, point_of};
 ghost use Rattle.tailnet_desk.specs.Turns.{IsTurn};
 ghost use Rattle.tailnet_desk.specs.declared.entry.Event.TheVariants as event;
@@ -73,8 +73,7 @@ impl<K: Keeper> Model for Desk<K> {
 pub enum OpenFault {
     /// The keeper failed.
     KeeperFault,
-    /// The tables break a rule, have a form that isn't served yet, which are extra records, or keep a
-    /// policy whose text has a fault.
+    /// The tables break a rule, or keep a policy whose text has a fault.
     Damaged { kind: Kind, id: u32 },
     /// Memory was refused.
     NoMemory,
@@ -142,7 +141,7 @@ impl<K: Keeper> Desk<K> {
     ) -> Result<Desk<K>, (OpenFault, K)>
         ensures state { IfOk result (λ d. d.state ≡ opening settings d.state.rows moment) }
         ensures rows { IfOk result (λ d. IsWhereTold d.state.rows (K.told keeper)) }
-        ensures served { IfOk result (λ d. unserved d.state.rows ≡ None) }
+        ensures read { IfOk result (λ d. unread_policy d.state.rows ≡ None) }
         ensures still { IfOk result (λ d. StillTells (K.told keeper) (K.told d.keeper)) }
         ensures later { IfOk result (λ d. K.faults keeper ≤ K.faults d.keeper) }
         ensures kept { IfErr result (λ e. StillTells (K.told keeper) (K.told e.1)) }
@@ -151,7 +150,7 @@ impl<K: Keeper> Desk<K> {
             → Rose (K.faults keeper) (K.faults e.1)) }
         ensures damaged { IfErr result (λ e. (kind : _) (id : ℕ) → e.0 ≡ OpenFault.Damaged kind id
             → IfSome (K.told keeper)
-            (λ rows. unserved rows ≡ Some (record { kind = kind; id = id }))) }
+            (λ rows. unread_policy rows ≡ Some (record { kind = kind; id = id }))) }
     {
         match load_beginning(alloc, &mut keeper, moment) {
             Ok((tables, Beginning { policy, presence })) => Ok(Desk {

@@ -3,12 +3,12 @@ ghost use Rattle.std.specs.Prelude.{◌≡◌, ◌≤◌, ℕ, IfOk, IfErr, IfSo
 ghost use Rattle.io_edge.specs.Edge.{IsWhereTold, Rose, StillTells};
 ghost use Rattle.desk_state.specs.State.{offline_at};
 ghost use Rattle.policy_asks.specs.Kept.{policy_in};
-ghost use Rattle.tailnet_desk.specs.Opening.{IsOpenFault, damage_if, unserved, unserved_extras};
+ghost use Rattle.tailnet_desk.specs.Opening.{IsOpenFault, unread_policy};
 
 use crate::desk::OpenFault;
 use desk_state::{MachinePresence, Presence};
 use moments::Moment;
-use net_rows::{Damage, Kind, Machine, Shelf, Tables};
+use net_rows::{Kind, Machine, Shelf, Tables};
 use policy_asks::policy_in;
 use policy_rows::Policy;
 use row_keeper::{Keeper, LoadFault};
@@ -45,32 +45,12 @@ fn offline_since(
     Ok(Items::from_vec(made))
 }
 
-fn damage_if(broken: bool, damage: Damage) -> Option<Damage>
-    ensures value { result ≡ damage_if broken damage }
-{
-    if broken { Some(damage) } else { None }
-}
-
-/// The form of rows that isn't served yet: extra records.
-fn unserved_extras(tables: &Tables) -> Option<Damage>
-    ensures value { result ≡ unserved_extras tables.now.rows }
-{
-    let extras = Damage {
-        kind: Kind::Extras,
-        id: 0,
-    };
-    damage_if(tables.extras().len() > 0, extras)
-}
-
 /// The policy of tables, or why they aren't opened.
-fn served_policy_in(alloc: Global, tables: &Tables) -> Result<Option<Policy>, OpenFault>
+fn read_policy_in(alloc: Global, tables: &Tables) -> Result<Option<Policy>, OpenFault>
     ensures value { IfOk result (λ policy. policy ≡ policy_in tables.now.rows) }
-    ensures served { OnOk result (unserved tables.now.rows ≡ None) }
+    ensures read { OnOk result (unread_policy tables.now.rows ≡ None) }
     ensures fault { IfErr result (IsOpenFault tables.now.rows) }
 {
-    if let Some(Damage { kind, id }) = unserved_extras(tables) {
-        return Err(OpenFault::Damaged { kind, id });
-    }
     match policy_in(alloc, tables) {
         Ok(policy) => Ok(policy),
         Err(Failure::NoMemory) => Err(OpenFault::NoMemory),
@@ -97,10 +77,10 @@ pub(crate) fn beginning_of(
     ensures policy { IfOk result (λ made. made.policy ≡ policy_in tables.now.rows) }
     ensures presence { IfOk result (λ made. made.presence.0
         ≡ map (λ m. offline_at now m.id) tables.now.rows.machines) }
-    ensures served { OnOk result (unserved tables.now.rows ≡ None) }
+    ensures read { OnOk result (unread_policy tables.now.rows ≡ None) }
     ensures fault { IfErr result (IsOpenFault tables.now.rows) }
 {
-    let policy = served_policy_in(alloc, tables)?;
+    let policy = read_policy_in(alloc, tables)?;
     match all_offline_of(alloc, tables, now) {
         Ok(presence) => Ok(Beginning { policy, presence }),
         Err(NoMemory) => Err(OpenFault::NoMemory),

@@ -4,6 +4,8 @@
 #[cfg(test)]
 mod edges;
 #[cfg(test)]
+mod extras;
+#[cfg(test)]
 mod faults;
 #[cfg(test)]
 mod limits;

@@ -233,7 +233,7 @@ const REFUSALS: &str = r#"= logins
 > POST /machine/register mkey:%1 {"NodeKey":"nodekey:%a"}
 < 200 {"AuthURL":"http://tail.example/register/reg-1-00000000000000010000000000000002","Error":"","Login":{"ID":0,"LoginName":""},"MachineAuthorized":false,"NodeKeyExpired":false,"User":{"DisplayName":"","ID":0}}
 = path-then-method-then-token-then-body
-> GET /api/v1/dns Bearer/secret
+> GET /api/v1/dns/ Bearer/secret
 < 404 {"error":"NoPath"}
 > POST /api/v1/node/1/route Bearer/secret {"routes":[]}
 < 404 {"error":"NoPath"}

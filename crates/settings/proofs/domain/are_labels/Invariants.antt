@@ -1,7 +1,7 @@
 use Rattle.std.proofs.Common.{◌≡◌, ◌≤◌, [], drop}
 use Rattle.std.specs.List.{between}
 use Rattle.settings.specs.Settings.{are_labels}
-use Rattle.tail_words.proofs.rules.are_labels.Given as goal
+use Rattle.settings.proofs.domain.are_labels.Given as goal
 
 -- what is left decides, after the label that has begun
 abbrev pub invariant-loop-i : goal.invariant-loop-i

@@ -1,9 +1,9 @@
 use Rattle.std.proofs.Common.{◌≡◌, ℕ, List, true, sym, ◌∙◌, arith}
 use Rattle.std.specs.List.{between}
 use Rattle.tail_base.specs.Labels.{is_label}
-use Rattle.tail_words.proofs.LabelLemmas.{after_byte, after_dot}
-use Rattle.tail_words.proofs.rules.are_labels.Goals as goal
-use Rattle.tail_words.proofs.rules.are_labels.Goals.{then-text-i-eq46+else-not-is_label, else-text-i-eq46}
+use Rattle.settings.proofs.LabelLemmas.{after_byte, after_dot}
+use Rattle.settings.proofs.domain.are_labels.Goals as goal
+use Rattle.settings.proofs.domain.are_labels.Goals.{then-text-i-eq46+else-not-is_label, else-text-i-eq46}
 
 pub loop-i-preserved : goal.loop-i-preserved
 loop-i-preserved c =
