@@ -1,7 +1,7 @@
 mod Attaches
 mod Entered
 mod Every
-mod Following
+pub mod Following
 mod GoneIds
 mod Growth
 mod Handles
@@ -13,7 +13,7 @@ mod OperatorPuts
 mod PolicyPuts
 mod Puts
 mod Replied
-mod SessionRules
+pub mod SessionRules
 mod SoundRules
 mod SpentKeys
 mod Steps
