@@ -18,6 +18,7 @@ use Rattle.tailnet_desk.specs.declared.desk.OpenFault.{OpenFault}
 use Rattle.tailnet_desk.specs.declared.desk.OpenFault.TheVariants as fault
 use Rattle.tailnet_desk.proofs.Histories.{Chain-append, history_of}
 use Rattle.tailnet_desk.proofs.SoundHistories.{legal_sound}
+use Rattle.tailnet_laws.proofs.Following.{opening_followed}
 use Rattle.desk_front.specs.Wanted.{front_settings}
 use Rattle.connections.specs.Connection.{IsConnection}
 use Rattle.connections.specs.Exchanges.{turns_of}
@@ -101,6 +102,7 @@ conversed closed settings seed moment old new f g d keeping middle final hold wh
       seeding_leads = subst (λ (s : State). Chain IsTurn (record { state = s; keeping = keeping }) seeded.seeding middle) is seeded.chain;
       serves = served;
       history = history;
+      followed = opening_followed settings d.rows moment keeping.faults history.entries hold whole history.legal;
       final_sound = sound_at_end start turns final hold sound history;
       final_rows = last;
       rose = rose;

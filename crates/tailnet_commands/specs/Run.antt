@@ -1,5 +1,5 @@
 -- A run of `pipe`.
-use Rattle.std.specs.Prelude.{◌≡◌, ◌+◌, ◌⊎◌, ℕ, ℤ, Option, Some, List, [], ◌++◌, length, IfSome}
+use Rattle.std.specs.Prelude.{◌≡◌, ◌+◌, ◌⊎◌, ℕ, ℤ, Option, None, Some, List, [], ◌++◌, length, IfSome}
 use Rattle.std.specs.Option.{option_map}
 use Rattle.moments.specs.Moments.{clamped}
 use Rattle.io_edge.specs.Asked.{and_asked}
@@ -14,6 +14,7 @@ use Rattle.tailnet_desk.specs.Seated.{Keeping, Point}
 use Rattle.tailnet_desk.specs.Turns.{IsTurn}
 use Rattle.tailnet_desk.specs.declared.desk.OpenFault.{OpenFault}
 use Rattle.tailnet_desk.specs.declared.desk.OpenFault.TheVariants as fault
+use Rattle.tailnet_laws.specs.Followed.{AreFollowed}
 use Rattle.desk_front.specs.Wanted.{front_settings}
 use Rattle.connections.specs.Exchanges.{turns_of}
 use Rattle.connections.specs.Tellings.{MomentsTold, from_number}
@@ -74,6 +75,9 @@ pub record Conversation (closed : Closed) (settings : SettingsFields) (seed : Op
   pub serves : IsConnection IsTurn (front_settings settings) 0 closed settings.requests [] (after_answers (1 + length seeding) old.told) new.told seeded final
   -- a legal history from the opening state: the seed, and the turns of the served requests
   pub history : IsHistory (record { state = opening settings rows moment; keeping = keeping }) (seeding ++ turns_of serves.exchanges) final
+  -- what the client of each session has folded after a drain is its machine's map, computed afresh, and the filter in it
+  -- admits exactly what the policy in force grants
+  pub followed : AreFollowed (opening settings rows moment) (λ handle. None) history.entries
   pub final_sound : AreSound final.state.rows
   pub final_rows : IsWhereTold final.state.rows new.rows
   pub rose : RoseBy final.keeping.faults old.keeper_faults new.keeper_faults
