@@ -1,5 +1,5 @@
 -- Workers of one hub: what they begin with, and what joining them leaves.
-use Rattle.std.specs.Prelude.{◌≡◌, ◌<◌, ◌||◌, ℕ, Bool, true, false, List, [], ◌∷◌, All, IfSome, Option, slice_get}
+use Rattle.std.specs.Prelude.{◌≡◌, ◌+◌, ◌||◌, ℕ, Bool, true, false, List, [], ◌∷◌, IfSome, Option}
 use Rattle.io_edge.specs.Door.{IsOpenedWith, for_place}
 use Rattle.session_hub.specs.Seats.{HubView, IsJoin, IsSplit, SeatView}
 use Rattle.tailnet_serve.specs.Visits.{Drawing}
@@ -53,3 +53,8 @@ is_any_failed (w ∷ ws) = is_door_fault w.report.stop || is_any_failed ws
 abbrev pub has_any_starved : {K D C N : Type 0} → List (Worker K D C N) → Bool
 has_any_starved [] = false
 has_any_starved (w ∷ ws) = w.report.starved || has_any_starved ws
+
+-- how often draws of theirs failed
+abbrev pub all_word_faults : {K D C N : Type 0} → (N → ℕ) → List (Worker K D C N) → ℕ
+all_word_faults word_faults [] = 0
+all_word_faults word_faults (w ∷ ws) = word_faults w.entropy + all_word_faults word_faults ws

@@ -78,13 +78,18 @@ abbrev pub any_starved : List Shift → Bool
 any_starved [] = false
 any_starved (w ∷ ws) = is_any_starved w.visits || any_starved ws
 
+-- how often draws of the workers failed
+abbrev pub word_faults_of : List Shift → ℕ
+word_faults_of [] = 0
+word_faults_of (w ∷ ws) = w.drawing_after.word_faults + word_faults_of ws
+
 -- these doors were just opened, the first of them at this place
 abbrev pub AreOpenedAt : Option (List (List (List ℕ))) → ℕ → List DoorTold → Type 0
 AreOpenedAt told place [] = Unit {0}
 AreOpenedAt told place (d ∷ ds) = IsOpenedAt told place d × AreOpenedAt told (place + 1) ds
 
 -- The workers of a hub have stopped, and its desk stands at the end of the history that they share.
-pub record IsManned (site : FrontSettings) (limits : WorkLimits) (told : Option (List (List (List ℕ)))) (start : Drawing) (failed starved : Bool) (hub : HubView) (left : List DoorTold) (final : Point) : Type 0 where
+pub record IsManned (site : FrontSettings) (limits : WorkLimits) (told : Option (List (List (List ℕ)))) (start : Drawing) (failed starved : Bool) (hub : HubView) (workers : ℕ) (left : List DoorTold) (final : Point) (word_faults word_faults_after : ℕ) : Type 0 where
   pub history : List Line
   pub stands : IfSome hub.start (λ begin. IsReplayOf begin history final)
   pub shifts : List Shift
@@ -92,6 +97,8 @@ pub record IsManned (site : FrontSettings) (limits : WorkLimits) (told : Option 
   pub failed_is : failed ≡ any_failed shifts
   pub starved_is : starved ≡ any_starved shifts
   pub left_is : left ≡ map (λ (w : Shift). w.door_after) shifts
+  pub number : length shifts ≡ workers
+  pub words_rose : RoseBy (word_faults_of shifts) word_faults word_faults_after
 
 -- Doors that don't tell what comes don't tell how many connections they were opened with.
 abbrev pub TellsPlaces : {D : Type 0} → Option (List (List (List ℕ))) → (D → Option ℕ) → Type 0
@@ -143,19 +150,20 @@ pub record Service (failed starved : Bool) (settings : SettingsFields) (old new 
   pub doors_left : IsToldOfEach (map (λ (w : Shift). w.door_after.coming) shifts) new.doors.coming
   pub doors_finished : IsToldOfEach (map (λ (w : Shift). w.door_after.finished) shifts) new.doors.finished
   pub doors_rose : failed ≡ true → Rose old.doors.faults new.doors.faults
-  pub words_later : old.told.giving.word_faults ≤ new.told.giving.word_faults
+  -- each failed draw has raised the count
+  pub words_rose : RoseBy (word_faults_of shifts) old.told.giving.word_faults new.told.giving.word_faults
   pub final_sound : AreSound final.state.rows
   pub final_rows : IsWhereTold final.state.rows new.rows
   pub rose : RoseBy final.keeping.faults old.keeper_faults new.keeper_faults
 
 -- What came of serving a desk at open doors: the workers have stopped, or memory was refused before they began; the
 -- opener and the doors have back what they gave.
-pub record IsDeskServed (site : FrontSettings) (limits : WorkLimits) (told : Option (List (List (List ℕ)))) (start : Drawing) (failed starved : Bool) (at : Point) (opener opener_after : OpenerTold) (doors doors_after : DoorsTold) : Type 0 where
+pub record IsDeskServed (site : FrontSettings) (limits : WorkLimits) (told : Option (List (List (List ℕ)))) (start : Drawing) (failed starved : Bool) (workers : ℕ) (at : Point) (opener opener_after : OpenerTold) (doors doors_after : DoorsTold) (word_faults word_faults_after : ℕ) : Type 0 where
   pub hub : HubView
   pub starts : hub.start ≡ Some at
   pub left : List DoorTold
   pub final : Point
-  pub manned : IsManned site limits told start failed starved hub left final
+  pub manned : IsManned site limits told start failed starved hub workers left final word_faults word_faults_after
   pub rows : IsWhereTold final.state.rows opener_after.rows
   pub asked : opener_after.asked ≡ opener.asked
   pub rose : RoseBy final.keeping.faults opener.faults opener_after.faults
@@ -170,14 +178,14 @@ pub record IsDeskClosed (at : Point) (opener opener_after : OpenerTold) : Type 0
   pub asked : opener_after.asked ≡ opener.asked
   pub later : opener.faults ≤ opener_after.faults
 
-abbrev pub IsEndAtDoors : ServeEnd → FrontSettings → WorkLimits → Option (List (List (List ℕ))) → Drawing → Point → OpenerTold → OpenerTold → DoorsTold → DoorsTold → Type 0
-IsEndAtDoors (end.Unopened e) site limits told start at opener opener_after doors doors_after = ⊥
-IsEndAtDoors end.EntropyFault site limits told start at opener opener_after doors doors_after = ⊥
-IsEndAtDoors end.DoorFault site limits told start at opener opener_after doors doors_after = ⊥
-IsEndAtDoors end.NoMemory site limits told start at opener opener_after doors doors_after =
+abbrev pub IsEndAtDoors : ServeEnd → FrontSettings → WorkLimits → Option (List (List (List ℕ))) → Drawing → ℕ → Point → OpenerTold → OpenerTold → DoorsTold → DoorsTold → ℕ → ℕ → Type 0
+IsEndAtDoors (end.Unopened e) site limits told start workers at opener opener_after doors doors_after before after = ⊥
+IsEndAtDoors end.EntropyFault site limits told start workers at opener opener_after doors doors_after before after = ⊥
+IsEndAtDoors end.DoorFault site limits told start workers at opener opener_after doors doors_after before after = ⊥
+IsEndAtDoors end.NoMemory site limits told start workers at opener opener_after doors doors_after before after =
     IsDeskClosed at opener opener_after × (doors_after.asked ≡ doors.asked)
-IsEndAtDoors (end.Served failed starved) site limits told start at opener opener_after doors doors_after =
-    IsDeskServed site limits told start failed starved at opener opener_after doors doors_after
+IsEndAtDoors (end.Served failed starved) site limits told start workers at opener opener_after doors doors_after before after =
+    IsDeskServed site limits told start failed starved workers at opener opener_after doors doors_after before after
 
 abbrev pub end_of_doors : EdgeFault → ServeEnd
 end_of_doors Failed = end.DoorFault
@@ -188,13 +196,13 @@ end_of_outfits Failed = end.EntropyFault
 end_of_outfits NoMemory = end.NoMemory
 
 -- What came of opening doors and serving a desk at them.
-abbrev pub IsEndWithOutfits : ServeEnd → Opening → FrontSettings → WorkLimits → Drawing → Point → OpenerTold → OpenerTold → DoorsTold → DoorsTold → Type 0
-IsEndWithOutfits (end.Unopened e) wanted site limits start at opener opener_after doors doors_after = ⊥
-IsEndWithOutfits end.EntropyFault wanted site limits start at opener opener_after doors doors_after = ⊥
-IsEndWithOutfits end.DoorFault wanted site limits start at opener opener_after doors doors_after =
+abbrev pub IsEndWithOutfits : ServeEnd → Opening → FrontSettings → WorkLimits → Drawing → Point → OpenerTold → OpenerTold → DoorsTold → DoorsTold → ℕ → ℕ → Type 0
+IsEndWithOutfits (end.Unopened e) wanted site limits start at opener opener_after doors doors_after before after = ⊥
+IsEndWithOutfits end.EntropyFault wanted site limits start at opener opener_after doors doors_after before after = ⊥
+IsEndWithOutfits end.DoorFault wanted site limits start at opener opener_after doors doors_after before after =
     IsDeskClosed at opener opener_after × AreAskedFor wanted doors doors_after × Rose doors.faults doors_after.faults
-IsEndWithOutfits end.NoMemory wanted site limits start at opener opener_after doors doors_after =
+IsEndWithOutfits end.NoMemory wanted site limits start at opener opener_after doors doors_after before after =
     IsDeskClosed at opener opener_after × ((doors_after.asked ≡ doors.asked) ⊎ AreAskedFor wanted doors doors_after)
-IsEndWithOutfits (end.Served failed starved) wanted site limits start at opener opener_after doors doors_after =
+IsEndWithOutfits (end.Served failed starved) wanted site limits start at opener opener_after doors doors_after before after =
     (opened : DoorsTold) × AreAskedFor wanted doors opened × (doors.faults ≤ opened.faults)
-    × IsDeskServed site limits doors.coming start failed starved at opener opener_after opened doors_after
+    × IsDeskServed site limits doors.coming start failed starved wanted.count at opener opener_after opened doors_after before after

@@ -53,7 +53,6 @@ pub record IsWork (site : FrontSettings) (limits : WorkLimits) (visits : List Vi
   pub number : new.door.number ≡ old.door.number
   pub places : HasPlaces old.door → HasPlaces new.door
   pub later : old.door.faults ≤ new.door.faults
-  pub words_later : old.drawing.word_faults ≤ new.drawing.word_faults
 
 -- what came of waiting for a connection
 abbrev pub IsTaken : Taking → FrontSettings → WorkLimits → Standing → Standing → Type 0

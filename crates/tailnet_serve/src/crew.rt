@@ -1,6 +1,7 @@
 //! The workers of a hub.
+ghost use Rattle.io_edge.specs.Edge.{RoseBy};
 ghost use Rattle.std.specs.Prelude.{◌≡◌, ◌≤◌, ◌<◌, ℕ, [], All, length, map, slice_index_or, vec_capacity};
-ghost use Rattle.tailnet_serve.specs.Crews.{AreJoined, AreSeated, IsReady, has_any_starved, is_any_failed};
+ghost use Rattle.tailnet_serve.specs.Crews.{AreJoined, AreSeated, IsReady, all_word_faults, has_any_starved, is_any_failed};
 ghost use Rattle.tailnet_serve.specs.Works.{IsWorked, door_told, standing};
 
 use crate::outfits::Outfit;
@@ -124,6 +125,8 @@ pub(crate) fn join_workers<K: Keeper, D: Door, C: Clock + Drop, N: Entropy>(
     ensures doors { result.doors.items ≡ map (λ w. w.door) workers.items }
     ensures failed { result.failed ≡ is_any_failed workers.items }
     ensures starved { result.starved ≡ has_any_starved workers.items }
+    ensures rose { RoseBy (all_word_faults N.faults workers.items)
+        (N.faults entropy.old) (N.faults entropy.new) }
     ensures later { N.faults entropy.old ≤ N.faults entropy.new }
 {
     let mut doors = room;

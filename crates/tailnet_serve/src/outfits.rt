@@ -70,10 +70,11 @@ pub(crate) fn outfits_of<C: Clock + Drop, N: Entropy>(
     ensures cause { IsErrOf result EdgeFault.Failed
         → Rose (N.faults entropy.old) (N.faults entropy.new) }
 {
-    let Ok(mut outfits) = Vec::with_capacity(alloc, count as usize) else {
+    let wanted = count as usize;
+    let Ok(mut outfits) = Vec::with_capacity(alloc, wanted) else {
         return Err(EdgeFault::NoMemory);
     };
-    for _ in 0..count {
+    'outfits: while outfits.len() < wanted {
         match outfit_of(alloc, clock, entropy) {
             Ok(outfit) => outfits.push_reserved(outfit),
             Err(fault) => {

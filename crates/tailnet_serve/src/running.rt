@@ -83,9 +83,10 @@ fn serve_at_doors<
         → AreOpenedAt told 0 (map door_at opened.items)
         → All (λ o. IsSplitDrawing start (drawing C.answer N.word N.faults o.clock o.entropy))
         outfits.items
-        → IsEndAtDoors result plan.now.front plan.now.limits told start
+        → IsEndAtDoors result plan.now.front plan.now.limits told start (length opened.items)
         (point_of P.Keeper.told P.Keeper.faults P.Keeper.calls desk)
-        (at opener.old) (at opener.new) (doors_at doors.old) (doors_at doors.new) }
+        (at opener.old) (at opener.new) (doors_at doors.old) (doors_at doors.new)
+        (N.faults entropy.old) (N.faults entropy.new) }
     ensures later { N.faults entropy.old ≤ N.faults entropy.new }
 {
     match Hub::new(alloc, desk) {
@@ -161,7 +162,8 @@ fn serve_with_outfits<
         → IsEndWithOutfits result (record { address = plan.now.listen; count = plan.now.workers })
         plan.now.front plan.now.limits start
         (point_of P.Keeper.told P.Keeper.faults P.Keeper.calls desk)
-        (at opener.old) (at opener.new) (doors_at doors.old) (doors_at doors.new) }
+        (at opener.old) (at opener.new) (doors_at doors.old) (doors_at doors.new)
+        (N.faults entropy.old) (N.faults entropy.new) }
     ensures later { N.faults entropy.old ≤ N.faults entropy.new }
 {
     let Ok(rooms) = Rooms::new(alloc, plan.workers) else {

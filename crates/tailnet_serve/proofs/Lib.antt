@@ -1,0 +1,7 @@
+pub mod SeatRuns
+pub mod Visiting
+pub mod Stopping
+pub mod Crewing
+pub mod Sharing
+pub mod Manning
+pub mod Serving
