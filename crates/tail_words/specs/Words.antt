@@ -3,7 +3,7 @@ use Rattle.std.specs.Prelude.{ℕ, Bool, List, [], ◌∷◌, length, if◌then�
 use Rattle.std.specs.List.{list_all}
 use Rattle.std.specs.Str.{bytes_eq}
 use Rattle.tail_words.specs.declared.words.Command.{Command}
-use Rattle.tail_words.specs.declared.words.Command.TheVariants.{Pipe as PipeCommand, PolicyCheck}
+use Rattle.tail_words.specs.declared.words.Command.TheVariants.{Pipe as PipeCommand, PolicyCheck, Serve}
 use Rattle.tail_words.specs.declared.words.Pipe.{Pipe}
 
 -- what `pipe` is given: the settings file, and the key that is seeded
@@ -33,16 +33,23 @@ words_of _ = None
 pub data CommandWords : Type 0 where
   runs_pipe : PipeWords → CommandWords
   checks_policy : List ℕ → CommandWords
+  serves : List ℕ → CommandWords
 
 -- the words that a `Command` holds
 abbrev pub command_words : Command → CommandWords
 command_words (PipeCommand p) = runs_pipe (pipe_words p)
 command_words (PolicyCheck file) = checks_policy file.now
+command_words (Serve file) = serves file.now
 
 -- the file of `policy-check FILE`
 abbrev pub policy_file : List (List ℕ) → Option (List ℕ)
 policy_file (command ∷ file ∷ []) = if bytes_eq command (codes "policy-check") then Some file else None
 policy_file _ = None
+
+-- the file of `serve FILE`
+abbrev pub serve_file : List (List ℕ) → Option (List ℕ)
+serve_file (command ∷ file ∷ []) = if bytes_eq command (codes "serve") then Some file else None
+serve_file _ = None
 
 -- the command that is not `policy-check`
 abbrev pub or_pipe : Option (List ℕ) → Option PipeWords → Option CommandWords
@@ -50,5 +57,14 @@ or_pipe (Some file) pipe = Some (checks_policy file)
 or_pipe None pipe = option_map runs_pipe pipe
 
 -- `policy-check FILE`, or the words of `pipe`
+unfoldable pub doorless_command_of : List (List ℕ) → Option CommandWords
+doorless_command_of words = or_pipe (policy_file words) (words_of words)
+
+-- the command that is not `serve`
+abbrev pub or_doorless : Option (List ℕ) → Option CommandWords → Option CommandWords
+or_doorless (Some file) other = Some (serves file)
+or_doorless None other = other
+
+-- `serve FILE`, `policy-check FILE`, or the words of `pipe`
 unfoldable pub command_of : List (List ℕ) → Option CommandWords
-command_of words = or_pipe (policy_file words) (words_of words)
+command_of words = or_doorless (serve_file words) (doorless_command_of words)

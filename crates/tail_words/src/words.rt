@@ -1,6 +1,6 @@
 //! The words of the command line.
 ghost use Rattle.std.specs.Prelude.{◌≡◌, map, option_map, string_bytes};
-ghost use Rattle.tail_words.specs.Words.{command_of, command_words, is_seed, pipe_words, policy_file, words_of};
+ghost use Rattle.tail_words.specs.Words.{command_of, command_words, doorless_command_of, is_seed, pipe_words, policy_file, serve_file, words_of};
 
 use crate::rules::has_visible_bytes;
 
@@ -20,6 +20,8 @@ pub enum Command<'a> {
     Pipe(Pipe<'a>),
     /// To check the policy in this file.
     PolicyCheck { file: &'a str },
+    /// To serve the connections that come at the address in this settings file.
+    Serve { file: &'a str },
 }
 
 /// Whether the text is 1 to 128 visible ASCII bytes.
@@ -70,10 +72,21 @@ fn policy_file(words: &[String]) -> Option<&str>
     }
 }
 
-/// The command that the words after the program's name are: `policy-check FILE`, or those of `pipe`.
-#[tactic(auto, unfolding(crate::specs::Words::command_of))]
-pub fn read_command(words: &[String]) -> Option<Command<'_>>
-    ensures value { option_map command_words result ≡ command_of (map string_bytes words.now) }
+/// The file of `serve FILE`.
+fn serve_file(words: &[String]) -> Option<&str>
+    ensures value { option_map (λ t. t.now) result ≡ serve_file (map string_bytes words.now) }
+{
+    match words {
+        [command, file] if command.as_str() == "serve" => Some(file.as_str()),
+        _ => None,
+    }
+}
+
+/// The command that the words are, if it isn't `serve`.
+#[tactic(auto, unfolding(crate::specs::Words::doorless_command_of))]
+fn read_doorless(words: &[String]) -> Option<Command<'_>>
+    ensures value { option_map command_words result
+        ≡ doorless_command_of (map string_bytes words.now) }
 {
     match policy_file(words) {
         Some(file) => Some(Command::PolicyCheck { file }),
@@ -81,5 +94,17 @@ pub fn read_command(words: &[String]) -> Option<Command<'_>>
             Some(pipe) => Some(Command::Pipe(pipe)),
             None => None,
         },
+    }
+}
+
+/// The command that the words after the program's name are: `serve FILE`, `policy-check FILE`, or those
+/// of `pipe`.
+#[tactic(auto, unfolding(crate::specs::Words::command_of))]
+pub fn read_command(words: &[String]) -> Option<Command<'_>>
+    ensures value { option_map command_words result ≡ command_of (map string_bytes words.now) }
+{
+    match serve_file(words) {
+        Some(file) => Some(Command::Serve { file }),
+        None => read_doorless(words),
     }
 }

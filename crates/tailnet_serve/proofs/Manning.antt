@@ -31,7 +31,7 @@ module _ {K D C N : Type 0} (coming : D → Option (List (List ℕ))) (finished 
   report_of w = w.report
 
   -- seated workers are set up at their doors
-  pub set_up : (site : FrontSettings) (limits : WorkLimits) (told : Option (List (List (List ℕ)))) (start : Drawing) (first : SeatView) (none : _) (place : ℕ) (ds : List D) (os : List (Outfit C N)) (ws : List (Worker K D C N))
+  pub set_up : (site : FrontSettings) (limits : WorkLimits) (told : Option (List (List (List ℕ)))) (start : Drawing) (first : SeatView) (none : first.seen ≡ []) (place : ℕ) (ds : List D) (os : List (Outfit C N)) (ws : List (Worker K D C N))
       → AreSeated first ds os ws → AreOpenedAt told place (map door_at ds) → All (λ o. IsSplitDrawing start (drawing_of o)) os → AreSetUp at report_of site limits told start first none place ws
   set_up site limits told start first none place [] [] [] seated opened split = tt
   set_up site limits told start first none place (d ∷ ds) (o ∷ os) (w ∷ ws) seated opened split = (

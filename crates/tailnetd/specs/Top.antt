@@ -1,12 +1,13 @@
 -- What the whole program comes to.
 use Rattle.std.specs.Prelude.{◌≡◌, ℕ, false, Option, None, Some, List}
-use Rattle.tail_words.specs.Words.{CommandWords, runs_pipe, checks_policy}
+use Rattle.tail_words.specs.Words.{CommandWords, runs_pipe, checks_policy, serves}
 use Rattle.run_ends.specs.Lines.{Noted, usage_line}
 use Rattle.run_ends.specs.declared.status.Status.{Status}
 use Rattle.run_ends.specs.declared.status.Status.TheVariants as status
 use Rattle.tailnet_commands.specs.Check.{Checked, check_line}
 use Rattle.tailnet_commands.specs.Outside.{Outside}
 use Rattle.tailnet_commands.specs.Pipe.{Outcome}
+use Rattle.tailnet_serve.specs.Serve.{ServeOutcome}
 
 -- of all but the files and errors, the output alone was touched
 pub record IsWrittenAlone (old new : Outside) : Type 0 where
@@ -44,3 +45,11 @@ Top (Some (checks_policy file)) ended old new =
     IsWrittenAlone old new
     × Checked ended (old.files file) old.file_faults new.file_faults old.told.giving.held new.told.giving.held old.told.giving.write_faults new.told.giving.write_faults
     × IsLine (check_line ended) old new
+Top (Some (serves file)) ended old new = ServeOutcome ended file old new
+
+-- only `serve` asks doors
+abbrev pub LeavesDoors : Option CommandWords → Type 0 → Type 0
+LeavesDoors None same = same
+LeavesDoors (Some (runs_pipe given)) same = same
+LeavesDoors (Some (checks_policy file)) same = same
+LeavesDoors (Some (serves file)) same = Unit {0}

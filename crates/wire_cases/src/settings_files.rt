@@ -170,7 +170,10 @@ pipe a.toml --seed => -
 pipe a.toml --seed k1 => pipe a.toml with k1
 pipe a.toml --seed k1  => -
 policy-check => -
-policy-check a.hujson => policy-check a.hujson";
+policy-check a.hujson => policy-check a.hujson
+serve => -
+serve a.toml => serve a.toml
+serve a.toml --seed k1 => -";
 
 fn words_of(alloc: Global, line: &str) -> Result<Vec<String>, NoMemory> {
     let mut words = Vec::new(alloc);
@@ -185,6 +188,7 @@ fn shown(alloc: Global, command: Option<Command<'_>>) -> Result<String, NoMemory
     match command {
         None => Ok(String::from_str(alloc, "-")?),
         Some(Command::PolicyCheck { file }) => Ok(format!(in alloc; "policy-check {file}")?),
+        Some(Command::Serve { file }) => Ok(format!(in alloc; "serve {file}")?),
         Some(Command::Pipe(words)) => match words.seed {
             None => Ok(format!(in alloc; "pipe {} without a seed", words.file)?),
             Some(seed) => Ok(format!(in alloc; "pipe {} with {seed}", words.file)?),

@@ -14,8 +14,12 @@ returns-in-Ok-Some g c =
     let took = c.in-Ok-Some.ensures in
     let given = c.finish.ensures in
     record {
-      taken = (_, refl, work_once c.args.front.now c.args.limits.now c.serve_seat-closed.result _ _ _ _ _ c.serve_seat-closed.ensures.serves refl refl took.some took.fresh.0 took.fresh.1
-          given.coming (given.finished ∙ ap (λ f. and_finished f _) took.finished) (given.number ∙ took.number) (omega (arith, given.later, took.cause.later)));
+      taken = (
+        _,
+        refl,
+        work_once c.args.front.now c.args.limits.now c.serve_seat-closed.result _ _ _ _ _ c.serve_seat-closed.ensures.serves refl refl took.some took.fresh.0 took.fresh.1
+            given.coming (given.finished ∙ ap (λ f. and_finished f _) took.finished) (given.number ∙ took.number) (omega (arith, given.later, took.cause.later)),
+      );
     }
 
 pub returns-in-Ok-None : goal.returns-in-Ok-None
