@@ -6,5 +6,5 @@ mod doors;
 mod pause;
 
 pub use door::MemoryDoor;
-pub use doors::{DoorPlan, MemoryDoors};
+pub use doors::{AskedOpening, DoorPlan, MemoryDoors};
 pub use pause::MemoryPause;

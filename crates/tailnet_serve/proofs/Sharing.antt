@@ -34,9 +34,13 @@ both_of R (x ∷ xs) (y ∷ ys) e each = (each 0 x (omega arith), both_of R xs y
 all_tail : {X : Type 0} (P : X → Type 0) (x : X) (xs : List X) → All P (x ∷ xs) → All P xs
 all_tail P x xs all k d lt = all (suc k) d (omega (arith, lt))
 
+-- each of these doors has the connections that are told for its place
+abbrev AreEachOpened : {D : Type 0} → (D → DoorTold) → Option (List (List (List ℕ))) → ℕ → List D → Type 0
+AreEachOpened at t place ds = IfSome t (λ all. (i : ℕ) → IfSome (slice_get ds i) (λ d. IsOpenedWith (for_place all (place + i)) (at d).coming (at d).finished (at d).number))
+
 -- doors that were just opened, each at its place
 pub opened_each : {D : Type 0} (at : D → DoorTold) (told : Option (List (List (List ℕ)))) (place : ℕ) (ds : List D)
-    → IfSome told (λ all. (i : ℕ) → IfSome (slice_get ds i) (λ d. IsOpenedWith (for_place all (place + i)) (at d).coming (at d).finished (at d).number))
+    → AreEachOpened at told place ds
     → All (λ d. (at d).faults ≡ 0) ds → AreOpenedAt told place (map at ds)
 opened_each at told place [] each fresh = tt
 opened_each {D} at told place (d ∷ ds) each fresh = (
@@ -44,12 +48,11 @@ opened_each {D} at told place (d ∷ ds) each fresh = (
   opened_each at told (place + 1) ds (others told each) (all_tail (λ d. (at d).faults ≡ 0) d ds fresh),
 )
   where
-    abbrev Each : Option (List (List (List ℕ))) → ℕ → List D → Type 0
-    Each t p es = IfSome t (λ all. (i : ℕ) → IfSome (slice_get es i) (λ d. IsOpenedWith (for_place all (p + i)) (at d).coming (at d).finished (at d).number))
-    first : (t : Option (List (List (List ℕ)))) → Each t place (d ∷ ds) → IfSome t (λ all. IsOpenedWith (for_place all place) (at d).coming (at d).finished (at d).number)
+    first : (t : Option (List (List (List ℕ)))) → AreEachOpened at t place (d ∷ ds) → IfSome t (λ all. IsOpenedWith (for_place all place) (at d).coming (at d).finished (at d).number)
     first None h = tt
     first (Some all) h = subst (λ n. IsOpenedWith (for_place all n) (at d).coming (at d).finished (at d).number) (omega arith) (h 0)
-    others : (t : Option (List (List (List ℕ)))) → Each t place (d ∷ ds) → Each t (place + 1) ds
+
+    others : (t : Option (List (List (List ℕ)))) → AreEachOpened at t place (d ∷ ds) → AreEachOpened at t (place + 1) ds
     others None h = tt
     others (Some all) h = λ i. subst (λ n. IfSome (slice_get ds i) (λ d. IsOpenedWith (for_place all n) (at d).coming (at d).finished (at d).number)) (omega arith) (h (suc i))
 
@@ -115,8 +118,7 @@ module _ {X : Type 0} (at : X → Standing) (report : X → Report) (site : Fron
   shifts_each place (v ∷ vs) [] seat joined set h joining = absurd h
   shifts_each place (v ∷ vs) (w ∷ ws) seat joined set h (between, join, rest) =
       let k = h.0 in
-      let has : 0 < times (at w).seat.name (at w).seat.names = subst (λ z. 0 < times (at w).seat.name z) (sym (names_single v w set.0 k)) (let a = same_here (at w).seat.name in omega (arith, a)) in
-      (
+      let has : 0 < times (at w).seat.name (at w).seat.names = subst (λ z. 0 < times (at w).seat.name z) (sym (names_single v w set.0 k)) (let a = same_here (at w).seat.name in omega (arith, a)) in (
         record {
           own = own_turns v w joined.seen set.0 k (lines_taken (at w).seat.name seat (at w).seat (seats_of ws) joined between join rest has);
           split = set.1;

@@ -1,7 +1,8 @@
+//! Connections over loopback, with short limits of time.
 use io_edge::{Door, Doors, Sink, Source};
 use std::io::{Read, Write};
 use std::net::TcpStream;
-use tcp_edge::{TcpDoors, TcpLimits};
+use tcp_edge::{TcpDoor, TcpDoors, TcpLimits, TcpSink, TcpSource};
 
 const SHORT: TcpLimits = TcpLimits {
     idle: 200,
@@ -13,25 +14,86 @@ const SHORT: TcpLimits = TcpLimits {
     tries: 5,
 };
 
+/// A door, a client that has connected, and both halves of the connection.
+#[derive(Drop)]
+struct Connected {
+    door: TcpDoor<HostRuntime>,
+    client: TcpStream,
+    input: TcpSource<HostRuntime>,
+    output: TcpSink<HostRuntime>,
+}
+
+/// A connection at one of two doors.
+fn loopback(rt: HostRuntime) -> Option<Connected> {
+    let mut doors = TcpDoors::with_limits(rt, SHORT);
+    let mut opened = doors.open(rt.alloc(), "127.0.0.1:0", 2).ok()?;
+    let mut door = opened.pop()?;
+    let at = door.address()?;
+    let client = TcpStream::connect(&rt, at).ok()?;
+    let (input, output) = door.accept().ok()??;
+    Some(Connected {
+        door,
+        client,
+        input,
+        output,
+    })
+}
+
 #[test]
 fn a_connection_is_read_answered_and_given_back(rt: HostRuntime) {
-    let mut doors = TcpDoors::with_limits(&rt, SHORT);
-    let mut opened = doors.open(rt.alloc(), "127.0.0.1:0", 2).expect(&rt, "open");
-    let mut door = opened.pop().expect(&rt, "a door");
-    let at = door.address().expect(&rt, "an address");
-    let mut client = TcpStream::connect(&rt, at).expect(&rt, "connect");
-    client.write_all(b"ask").expect(&rt, "write");
-    let (mut input, mut output) = door
-        .accept()
-        .ok()
-        .expect(&rt, "accept")
-        .expect(&rt, "a connection");
+    let mut c = loopback(rt).expect(&rt, "a connection");
+    c.client.write_all(b"ask").expect(&rt, "write");
     let mut bytes = [0; 8];
-    assert_eq!(&rt; input.read(&mut bytes).ok(), Some(3));
-    assert_eq!(&rt; output.write(b"answer").ok(), Some(6));
-    assert!(&rt; input.read(&mut bytes).is_err());
-    door.finish(input, output);
+    assert!(rt; c.input.read(&mut bytes).ok() == Some(3));
+    assert!(rt; c.output.write(b"answer").ok() == Some(6));
+    assert!(rt; c.input.read(&mut bytes).is_err());
+    c.door.finish(c.input, c.output);
     let mut told = [0; 16];
-    assert_eq!(&rt; client.read(&mut told).ok(), Some(6));
-    assert_eq!(&rt; client.read(&mut told).ok(), Some(0));
+    assert!(rt; c.client.read(&mut told).ok() == Some(6));
+    assert!(rt; c.client.read(&mut told).ok() == Some(0));
+}
+
+#[test]
+fn a_peer_that_says_nothing(rt: HostRuntime) {
+    let mut c = loopback(rt).expect(&rt, "a connection");
+    let mut bytes = [0; 8];
+    assert!(rt; c.input.read(&mut bytes).is_err());
+    c.door.finish(c.input, c.output);
+}
+
+#[test]
+fn a_peer_that_stops_within_a_request(rt: HostRuntime) {
+    let mut c = loopback(rt).expect(&rt, "a connection");
+    c.client.write_all(b"GET").expect(&rt, "write");
+    let mut bytes = [0; 8];
+    assert!(rt; c.input.read(&mut bytes).ok() == Some(3));
+    assert!(rt; c.input.read(&mut bytes).is_err());
+    c.door.finish(c.input, c.output);
+}
+
+#[test]
+fn a_peer_that_reads_nothing(rt: HostRuntime) {
+    let mut c = loopback(rt).expect(&rt, "a connection");
+    let piece = [7; 65536];
+    let mut failed = false;
+    // (what the system itself takes ends some time)
+    for _ in 0..1024 {
+        if !failed {
+            failed = c.output.write(&piece).is_err();
+        }
+    }
+    assert!(rt; failed);
+    c.door.finish(c.input, c.output);
+}
+
+#[test]
+fn an_answer_arrives_before_input_that_nobody_reads(rt: HostRuntime) {
+    let mut c = loopback(rt).expect(&rt, "a connection");
+    let body = [7; 65536];
+    c.client.write_all(&body).expect(&rt, "write");
+    c.client.write_all(&body).expect(&rt, "write");
+    assert!(rt; c.output.write(b"413").ok() == Some(3));
+    c.door.finish(c.input, c.output);
+    let mut told = [0; 16];
+    assert!(rt; c.client.read(&mut told).ok() == Some(3));
 }
