@@ -41,59 +41,84 @@ fn loopback(rt: HostRuntime) -> Option<Connected> {
 
 #[test]
 fn a_connection_is_read_answered_and_given_back(rt: HostRuntime) {
-    let mut c = loopback(rt).expect(&rt, "a connection");
-    c.client.write_all(b"ask").expect(&rt, "write");
+    let Connected {
+        mut door,
+        mut client,
+        mut input,
+        mut output,
+    } = loopback(rt).expect(&rt, "a connection");
+    client.write_all(b"ask").expect(&rt, "write");
     let mut bytes = [0; 8];
-    assert!(rt; c.input.read(&mut bytes).ok() == Some(3));
-    assert!(rt; c.output.write(b"answer").ok() == Some(6));
-    assert!(rt; c.input.read(&mut bytes).is_err());
-    c.door.finish(c.input, c.output);
+    assert!(rt; input.read(&mut bytes).ok() == Some(3));
+    assert!(rt; output.write(b"answer").ok() == Some(6));
+    assert!(rt; input.read(&mut bytes).is_err());
+    door.finish(input, output);
     let mut told = [0; 16];
-    assert!(rt; c.client.read(&mut told).ok() == Some(6));
-    assert!(rt; c.client.read(&mut told).ok() == Some(0));
+    assert!(rt; client.read(&mut told).ok() == Some(6));
+    assert!(rt; client.read(&mut told).ok() == Some(0));
 }
 
 #[test]
 fn a_peer_that_says_nothing(rt: HostRuntime) {
-    let mut c = loopback(rt).expect(&rt, "a connection");
+    let Connected {
+        mut door,
+        client: _client,
+        mut input,
+        output,
+    } = loopback(rt).expect(&rt, "a connection");
     let mut bytes = [0; 8];
-    assert!(rt; c.input.read(&mut bytes).is_err());
-    c.door.finish(c.input, c.output);
+    assert!(rt; input.read(&mut bytes).is_err());
+    door.finish(input, output);
 }
 
 #[test]
 fn a_peer_that_stops_within_a_request(rt: HostRuntime) {
-    let mut c = loopback(rt).expect(&rt, "a connection");
-    c.client.write_all(b"GET").expect(&rt, "write");
+    let Connected {
+        mut door,
+        mut client,
+        mut input,
+        output,
+    } = loopback(rt).expect(&rt, "a connection");
+    client.write_all(b"GET").expect(&rt, "write");
     let mut bytes = [0; 8];
-    assert!(rt; c.input.read(&mut bytes).ok() == Some(3));
-    assert!(rt; c.input.read(&mut bytes).is_err());
-    c.door.finish(c.input, c.output);
+    assert!(rt; input.read(&mut bytes).ok() == Some(3));
+    assert!(rt; input.read(&mut bytes).is_err());
+    door.finish(input, output);
 }
 
 #[test]
 fn a_peer_that_reads_nothing(rt: HostRuntime) {
-    let mut c = loopback(rt).expect(&rt, "a connection");
+    let Connected {
+        mut door,
+        client: _client,
+        input,
+        mut output,
+    } = loopback(rt).expect(&rt, "a connection");
     let piece = [7; 65536];
     let mut failed = false;
     // (what the system itself takes ends some time)
     for _ in 0..1024 {
         if !failed {
-            failed = c.output.write(&piece).is_err();
+            failed = output.write(&piece).is_err();
         }
     }
     assert!(rt; failed);
-    c.door.finish(c.input, c.output);
+    door.finish(input, output);
 }
 
 #[test]
 fn an_answer_arrives_before_input_that_nobody_reads(rt: HostRuntime) {
-    let mut c = loopback(rt).expect(&rt, "a connection");
+    let Connected {
+        mut door,
+        mut client,
+        input,
+        mut output,
+    } = loopback(rt).expect(&rt, "a connection");
     let body = [7; 65536];
-    c.client.write_all(&body).expect(&rt, "write");
-    c.client.write_all(&body).expect(&rt, "write");
-    assert!(rt; c.output.write(b"413").ok() == Some(3));
-    c.door.finish(c.input, c.output);
+    client.write_all(&body).expect(&rt, "write");
+    client.write_all(&body).expect(&rt, "write");
+    assert!(rt; output.write(b"413").ok() == Some(3));
+    door.finish(input, output);
     let mut told = [0; 16];
-    assert!(rt; c.client.read(&mut told).ok() == Some(3));
+    assert!(rt; client.read(&mut told).ok() == Some(3));
 }
