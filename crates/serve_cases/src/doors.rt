@@ -125,8 +125,9 @@ fn a_random_source_that_is_not_split(rt: HostRuntime) -> Result<(), Fail> {
 fn a_connection_that_is_cut_ends_alone(rt: HostRuntime) -> Result<(), Fail> {
     let alloc = rt.alloc();
     let (whole, answer) = talk_bytes(alloc, ADDED)?;
+    let head: &[u8] = b"GET / HTTP/1.1\r\n";
     let mut plans = Items::new(alloc);
-    plans.push(door_with(alloc, &[b"GET / HTTP/1.1\r\n", whole.as_slice()], 0)?)?;
+    plans.push(door_with(alloc, &[head, whole.as_slice()], 0)?)?;
     let ran = served(&rt, alloc, b"workers = 1\n", plans, &NOTHING)?;
     assert!(rt; ran.status == Status::Ok);
     let finished = ran.doors.finished_at(0);

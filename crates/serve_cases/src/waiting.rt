@@ -1,5 +1,5 @@
 //! A poll that waits while another worker answers a save.
-ghost use Rattle.std.specs.Prelude.{◌≡◌, None, IfSome};
+ghost use Rattle.std.specs.Prelude.{◌≡◌, ◌≤◌, ◌+◌, ◌-◌, ◌^◌, None, IfSome, min, sum_by};
 
 use crate::runs::{noon, random, settings_with};
 use io_edge::{Door, Doors, EdgeFault, Failed, MemorySink, MemorySource, Pause, Sink, Source};
@@ -8,9 +8,9 @@ use row_keeper::MemoryOpener;
 use run_ends::Status;
 use std::alloc::Global;
 use std::mem;
-use std::sync::{Arc, Condvar, Mutex};
+use std::sync::{Arc, Condvar, Mutex, Wait};
 use std::test::Fail;
-use std::time::Duration;
+use std::time::{Clock, Duration};
 use tail_base::{Bytes, Items, NoMemory};
 use tailnet_serve::serve_command;
 use talk_runs::talk_bytes;
@@ -22,14 +22,14 @@ const WAITS: u32 = 200;
 
 /// Something that comes once, and for which threads wait.
 #[derive(Drop)]
-struct Gate {
-    rt: HostRuntime,
+struct Gate<R> {
+    rt: R,
     is_open: Mutex<bool>,
     more: Condvar,
 }
 
-impl Gate {
-    fn new(rt: HostRuntime) -> Gate {
+impl<R: Wait + Clock> Gate<R> {
+    fn new(rt: R) -> Gate<R> {
         Gate {
             rt,
             is_open: Mutex::new(false),
@@ -64,13 +64,13 @@ impl Gate {
 
 /// A source that gives nothing before its gate has opened, if it has one.
 #[derive(Drop)]
-struct GatedSource {
+struct GatedSource<R> {
     bytes: MemorySource,
-    gate: Option<Arc<Gate, Global>>,
+    gate: Option<Arc<Gate<R>, Global>>,
     failed: u64,
 }
 
-impl Source for GatedSource {
+impl<R: Wait + Clock> Source for GatedSource<R> {
     ghost left = { λ _. None };
 
     ghost read_faults = { λ s. s.failed };
@@ -90,14 +90,14 @@ impl Source for GatedSource {
 
 /// A sink that opens a gate at its write with this number.
 #[derive(Drop)]
-struct OpeningSink {
+struct OpeningSink<R> {
     bytes: MemorySink,
-    gate: Arc<Gate, Global>,
+    gate: Arc<Gate<R>, Global>,
     at: u32,
     failed: u64,
 }
 
-impl Sink for OpeningSink {
+impl<R: Wait + Clock> Sink for OpeningSink<R> {
     ghost holds = { λ _. None };
 
     ghost write_faults = { λ s. s.failed };
@@ -117,16 +117,16 @@ impl Sink for OpeningSink {
 
 /// A door at which one connection comes.
 #[derive(Drop)]
-struct OneDoor {
-    coming: Option<(GatedSource, OpeningSink)>,
-    finished: Option<OpeningSink>,
+struct OneDoor<R> {
+    coming: Option<(GatedSource<R>, OpeningSink<R>)>,
+    finished: Option<OpeningSink<R>>,
     ghost fresh: { IfSome coming (λ c. (c.0.failed ≡ 0) × (c.1.failed ≡ 0)) },
 }
 
-impl Door for OneDoor {
-    type In = GatedSource;
+impl<R: Wait + Clock + Drop> Door for OneDoor<R> {
+    type In = GatedSource<R>;
 
-    type Out = OpeningSink;
+    type Out = OpeningSink<R>;
 
     ghost coming = { λ _. None };
 
@@ -136,25 +136,25 @@ impl Door for OneDoor {
 
     ghost faults = { λ _. 0 };
 
-    fn accept(&mut self) -> Result<Option<(GatedSource, OpeningSink)>, Failed> {
+    fn accept(&mut self) -> Result<Option<(GatedSource<R>, OpeningSink<R>)>, Failed> {
         Ok(self.coming.take())
     }
 
-    fn finish(&mut self, _input: GatedSource, output: OpeningSink) {
+    fn finish(&mut self, _input: GatedSource<R>, output: OpeningSink<R>) {
         self.finished = Some(output);
     }
 }
 
 /// Doors that are there already, and are kept when they are given back.
 #[derive(Drop)]
-struct ReadyDoors {
+struct ReadyDoors<R> {
     alloc: Global,
-    ready: Vec<OneDoor>,
-    closed: Vec<OneDoor>,
+    ready: Vec<OneDoor<R>>,
+    closed: Vec<OneDoor<R>>,
 }
 
-impl Doors for ReadyDoors {
-    type Door = OneDoor;
+impl<R: Wait + Clock + Send + Sync + Drop> Doors for ReadyDoors<R> {
+    type Door = OneDoor<R>;
 
     ghost coming = { λ _. None };
 
@@ -169,7 +169,7 @@ impl Doors for ReadyDoors {
         _alloc: Global,
         _address: &str,
         count: u32,
-    ) -> Result<Vec<OneDoor>, EdgeFault> {
+    ) -> Result<Vec<OneDoor<R>>, EdgeFault> {
         if self.ready.len() != count as usize {
             return Err(EdgeFault::NoMemory);
         }
@@ -177,21 +177,27 @@ impl Doors for ReadyDoors {
         Ok(mem::replace(&mut self.ready, none))
     }
 
-    fn close(&mut self, doors: Vec<OneDoor>) {
+    fn close(&mut self, doors: Vec<OneDoor<R>>)
+        ensures faults { ⟦<ReadyDoors<R> as Doors>⟧.faults self.new
+            ≡ min (⟦<ReadyDoors<R> as Doors>⟧.faults self.old
+            + sum_by (λ d. ⟦<OneDoor<R> as Door>⟧.faults d) doors.items) (2 ^ 64 - 1) }
+        ensures later { ⟦<ReadyDoors<R> as Doors>⟧.faults self.old
+            ≤ ⟦<ReadyDoors<R> as Doors>⟧.faults self.new }
+    {
         self.closed = doors;
     }
 }
 
 /// A pause that waits for notes in the same way, and not at all once its gate has opened.
 #[derive(Drop)]
-struct GatedPause {
-    rt: HostRuntime,
+struct GatedPause<R> {
+    rt: R,
     noted: Mutex<u64>,
     more: Condvar,
-    gate: Arc<Gate, Global>,
+    gate: Arc<Gate<R>, Global>,
 }
 
-impl Pause for GatedPause {
+impl<R: Wait + Clock> Pause for GatedPause<R> {
     fn mark(&self) -> u64 {
         *self.noted.lock(&self.rt)
     }
@@ -229,13 +235,13 @@ const SAVING: &str = r#"> PUT /api/v1/policy Bearer/secret {"acls":[]}
 /// What the poll is then written.
 const FRAME: &[u8] = b"{\"PacketFilter\":[],\"Seq\":2}";
 
-fn door_of(
+fn door_of<R: Wait + Clock + Drop>(
     alloc: Global,
     bytes: &[u8],
-    gate: Option<Arc<Gate, Global>>,
-    opens: Arc<Gate, Global>,
+    gate: Option<Arc<Gate<R>, Global>>,
+    opens: Arc<Gate<R>, Global>,
     at: u32,
-) -> Result<OneDoor, NoMemory> {
+) -> Result<OneDoor<R>, NoMemory> {
     let bytes = MemorySource::new(Bytes::from_slice(alloc, bytes)?, Items::new(alloc));
     let input = GatedSource {
         bytes,
@@ -255,11 +261,11 @@ fn door_of(
 }
 
 /// Two doors: the save comes once the poll has its first frame, and `saved` opens when it is answered.
-fn two_doors(
+fn two_doors<R: Wait + Clock + Drop>(
     alloc: Global,
-    polled: &Arc<Gate, Global>,
-    saved: &Arc<Gate, Global>,
-) -> Result<ReadyDoors, Fail> {
+    polled: &Arc<Gate<R>, Global>,
+    saved: &Arc<Gate<R>, Global>,
+) -> Result<ReadyDoors<R>, Fail> {
     let (polling, _answers) = talk_bytes(alloc, POLLING)?;
     let (saving, _answer) = talk_bytes(alloc, SAVING)?;
     let mut ready = Vec::new(alloc);

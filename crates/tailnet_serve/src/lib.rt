@@ -8,12 +8,12 @@ mod planning;
 mod rooms;
 mod running;
 mod seat_serving;
-mod serve_command;
 mod serve_end;
+mod serving;
 mod worker;
 mod working;
 
 pub use seat_serving::serve_seat;
-pub use serve_command::serve_command;
 pub use serve_end::ServeEnd;
+pub use serving::serve_command;
 pub use worker::{Report, Stop, WorkLimits, Worker};

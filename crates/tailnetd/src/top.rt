@@ -5,7 +5,7 @@ ghost use Rattle.tailnet_commands.specs.Outside.{doors_told, link_told, outside}
 ghost use Rattle.tailnet_serve.specs.Service.{TellsPlaces};
 ghost use Rattle.tailnetd.specs.Top.{LeavesDoors, Top};
 
-use io_edge::{Clock, Doors, Entropy, Files, Link, Pause, Sink, Source};
+use io_edge::{Clock, Door, Doors, Entropy, Files, Link, Pause, Sink, Source};
 use row_keeper::Opener;
 use run_ends::{Status, note_usage};
 use std::alloc::Global;
@@ -48,6 +48,9 @@ pub fn tailnetd<
     pause: &A,
     link: &mut L,
 ) -> Status
+where
+    <D::Door as Door>::In: Send,
+    <D::Door as Door>::Out: Send,
     requires places { TellsPlaces (D.coming doors.old) D.Door.number }
     ensures outcome { let at = outside I.left I.read_faults O.holds O.write_faults
         E.holds E.write_faults F.holds F.faults P.told P.asked P.faults C.answer N.word N.faults in
