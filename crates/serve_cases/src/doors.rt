@@ -17,6 +17,16 @@ const ADDED: &str = r#"> POST /api/v1/user Bearer/secret {"name":"ann"}
 const LISTED: &str = r#"> GET /api/v1/user Bearer/secret
 < 200 {"users":[{"id":1,"login":"ann@"}]}"#;
 
+/// What is left on errors.
+const NO_LINE: &[u8] = b"";
+
+const DOOR_FAULT: &[u8] = b"tailnetd: door fault\n";
+
+const ENTROPY_FAULT: &[u8] = b"tailnetd: entropy fault\n";
+
+/// The default of `listen`.
+const LISTEN: &[u8] = b"127.0.0.1:8080";
+
 /// One door, at which both come.
 fn both(alloc: Global, accept: u32) -> Result<Items<DoorPlan>, NoMemory> {
     let (first, _answer) = talk_bytes(alloc, ADDED)?;
@@ -54,11 +64,11 @@ fn run_both<R: Threads + Wait + Sync>(
 fn doors_without_connections(rt: HostRuntime) -> Result<(), Fail> {
     let ran = served(&rt, rt.alloc(), b"", Items::new(rt.alloc()), &NOTHING)?;
     assert!(rt; ran.status == Status::Ok);
-    assert!(rt; ran.errors.bytes() == b"");
+    assert!(rt; ran.errors.bytes() == NO_LINE);
     assert!(rt; ran.tables.users().is_empty() && ran.tables.next().user == 1);
     let asked = ran.doors.asked();
     assert!(rt; asked.len() == 1);
-    assert!(rt; asked[0].address.as_slice() == b"127.0.0.1:8080" && asked[0].count == 4);
+    assert!(rt; asked[0].address.as_slice() == LISTEN && asked[0].count == 4);
     Ok(())
 }
 
@@ -88,7 +98,7 @@ fn doors_that_do_not_open(rt: HostRuntime) -> Result<(), Fail> {
     };
     let ran = run_both(&rt, rt.alloc(), b"workers = 1\n", &fails)?;
     assert!(rt; ran.status == Status::DoorFault);
-    assert!(rt; ran.errors.bytes() == b"tailnetd: door fault\n");
+    assert!(rt; ran.errors.bytes() == DOOR_FAULT);
     assert!(rt; ran.tables.users().is_empty());
     Ok(())
 }
@@ -102,7 +112,7 @@ fn a_door_that_fails_at_an_accept(rt: HostRuntime) -> Result<(), Fail> {
     };
     let ran = run_both(&rt, rt.alloc(), b"workers = 1\n", &fails)?;
     assert!(rt; ran.status == Status::DoorFault);
-    assert!(rt; ran.errors.bytes() == b"tailnetd: door fault\n");
+    assert!(rt; ran.errors.bytes() == DOOR_FAULT);
     assert!(rt; answered(rt.alloc(), &ran, 1)?);
     Ok(())
 }
@@ -116,7 +126,7 @@ fn a_random_source_that_is_not_split(rt: HostRuntime) -> Result<(), Fail> {
     };
     let ran = run_both(&rt, rt.alloc(), b"workers = 1\n", &fails)?;
     assert!(rt; ran.status == Status::EntropyFault);
-    assert!(rt; ran.errors.bytes() == b"tailnetd: entropy fault\n");
+    assert!(rt; ran.errors.bytes() == ENTROPY_FAULT);
     assert!(rt; ran.doors.asked().is_empty());
     Ok(())
 }
@@ -132,6 +142,6 @@ fn a_connection_that_is_cut_ends_alone(rt: HostRuntime) -> Result<(), Fail> {
     assert!(rt; ran.status == Status::Ok);
     let finished = ran.doors.finished_at(0);
     assert!(rt; finished.len() == 2);
-    assert!(rt; finished[0].1.bytes() == b"" && finished[1].1.bytes() == answer.as_slice());
+    assert!(rt; finished[0].1.bytes() == NO_LINE && finished[1].1.bytes() == answer.as_slice());
     Ok(())
 }
