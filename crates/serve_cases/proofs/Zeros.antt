@@ -1,5 +1,5 @@
 -- Doors that never fail have no faults.
-use Rattle.std.proofs.Common.{◌≡◌, ◌+◌, ℕ, List, [], ◌∷◌, sum_by, refl, ap, ◌∙◌}
+use Rattle.std.proofs.Common.{◌≡◌, List, [], ◌∷◌, sum_by, refl, ◌∙◌}
 use Rattle.std.proofs.lemmas.List.Sums.{sum_by-cons}
 
 pub no_faults : {A : Type 0} (xs : List A) → sum_by (λ (x : A). 0) xs ≡ 0

@@ -17,7 +17,8 @@ unopened fault.KeeperFault e settings old new is kept asked rose damaged = rw is
 unopened (fault.Damaged kind id) e settings old new is kept asked rose damaged = rw is (kept, asked, damaged kind id refl)
 unopened fault.NoMemory e settings old new is kept asked rose damaged = rw is (kept, inr asked)
 
-abbrev opener_in : Outside → OpenerTold
+-- what a run's opener tells
+abbrev pub opener_in : Outside → OpenerTold
 opener_in o = record { rows = o.rows; asked = o.asked; faults = o.keeper_faults }
 
 -- and nothing else was touched: what a run comes to

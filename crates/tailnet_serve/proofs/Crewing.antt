@@ -1,9 +1,8 @@
 -- Seats of one hub, joined one after another.
-use Rattle.std.proofs.Common.{◌≡◌, ◌≢◌, ◌+◌, ◌<◌, ◌≤◌, ◌==◌, ℕ, zero, suc, List, [], ◌∷◌, ◌++◌, map, refl, sym, ap, ◌∙◌, subst, arith, append_assoc}
+use Rattle.std.proofs.Common.{◌≡◌, ◌+◌, ◌<◌, ◌≤◌, ℕ, zero, suc, List, [], ◌∷◌, ◌++◌, map, refl, sym, ap, ◌∙◌, subst, arith, append_assoc}
 use mathlib.Core.Logic.{dite}
 use native.Mathlib.Decide.{ℕ_discrete}
 use Rattle.std.proofs.lemmas.List.{append-nil}
-use Rattle.session_hub.specs.declared.known.Line.{Line}
 use Rattle.session_hub.specs.Lines.{lines_by, times}
 use Rattle.session_hub.specs.Seats.{HubView, IsJoin, SeatView}
 use Rattle.session_hub.proofs.Counting.{same_else, same_here}

@@ -1,10 +1,8 @@
 -- A run of `serve` over settings.
-use Rattle.std.proofs.Common.{◌≡◌, ◌+◌, ◌-◌, ◌<◌, ◌≤◌, ◌^◌, ℕ, ℤ, Bool, true, false, Option, None, Some, List, [], ◌∷◌, length, map, min, inl, inr, refl, sym, ap, ◌∙◌, subst, arith}
+use Rattle.std.proofs.Common.{◌≡◌, ◌≤◌, ℕ, ℤ, Bool, Option, None, Some, List, [], ◌∷◌, map, refl, sym, ap, ◌∙◌, subst, arith}
 use Rattle.std.specs.Prelude.{IfSome}
-use Rattle.std.specs.Option.{option_map}
-use Rattle.moments.specs.Moments.{clamped}
-use Rattle.io_edge.specs.Door.{IsToldOfEach, Opening}
-use Rattle.io_edge.specs.Edge.{IsWhereTold, Rose, RoseBy, StillTells}
+use Rattle.io_edge.specs.Door.{IsToldOfEach}
+use Rattle.io_edge.specs.Edge.{IsWhereTold, StillTells}
 use Rattle.net_rows.proofs.Sounds.{sound_of}
 use Rattle.settings.specs.declared.fields.SettingsFields.{SettingsFields}
 use Rattle.tailnet_desk.specs.Opening.{opening}
@@ -17,18 +15,12 @@ use Rattle.desk_front.specs.Wanted.{front_settings}
 use Rattle.session_hub.specs.Lines.{IsReplayOf, entries_of}
 use Rattle.tailnet_commands.specs.Opened.{IsDeskOpened, OpenerTold}
 use Rattle.tailnet_commands.specs.Outside.{DoorsTold, Outside}
-use Rattle.run_ends.specs.declared.ended.Ended.{Ended}
-use Rattle.run_ends.specs.declared.ended.Ended.TheVariants as ended
-use Rattle.tailnet_serve.specs.Crews.{IsSplitDrawing, TellsSame}
-use Rattle.tailnet_serve.specs.Serve.{IsFault, IsUnserved, ServeRan}
-use Rattle.tailnet_serve.specs.Service.{AreAskedFor, IsDeskClosed, IsDeskServed, IsEndWithOutfits, Service, Shift, left_drawing, limits_of}
+use Rattle.tailnet_commands.proofs.OpenedLemmas.{opener_in}
+use Rattle.tailnet_serve.specs.Crews.{IsSplitDrawing}
+use Rattle.tailnet_serve.specs.Serve.{IsUnserved}
+use Rattle.tailnet_serve.specs.Service.{AreAskedFor, IsDeskClosed, IsDeskServed, Service, Shift, left_drawing, limits_of}
 use Rattle.tailnet_serve.specs.Visits.{Drawing}
 use Rattle.tailnet_serve.specs.Works.{DoorTold}
-use Rattle.tailnet_serve.specs.declared.serve_end.ServeEnd.{ServeEnd}
-use Rattle.tailnet_serve.specs.declared.serve_end.ServeEnd.TheVariants as end
-
-abbrev pub opener_in : Outside → OpenerTold
-opener_in o = record { rows = o.rows; asked = o.asked; faults = o.keeper_faults }
 
 -- rows that were told stay so while an object still tells
 still_rows : {A : Type 0} (a k b : Option A) → IfSome a (λ rows. IsWhereTold rows k) → StillTells k b → IfSome a (λ rows. IsWhereTold rows b)

@@ -9,7 +9,7 @@ use Rattle.session_hub.specs.Lines.{lines_by, times}
 use Rattle.session_hub.specs.Seats.{HubView, IsSplit, SeatView}
 use Rattle.tailnet_serve.specs.Crews.{AreJoined, IsOpenedAt, IsSplitDrawing, is_door_fault}
 use Rattle.tailnet_serve.specs.Runs.{turns_by}
-use Rattle.tailnet_serve.specs.Service.{AreOpenedAt, AreShifts, IsShared, Shift, any_failed, any_starved, names_of, word_faults_of}
+use Rattle.tailnet_serve.specs.Service.{AreOpenedAt, AreShifts, IsShared, Shift, any_failed, any_starved, shift_names, word_faults_of}
 use Rattle.tailnet_serve.specs.Visits.{Drawing, visit_turns}
 use Rattle.tailnet_serve.specs.Works.{DoorTold, IsWorked, Standing}
 use Rattle.tailnet_serve.specs.declared.worker.Report.{Report}
@@ -99,7 +99,7 @@ module _ {X : Type 0} (at : X → Standing) (report : X → Report) (site : Fron
   single_each place (v ∷ vs) [] set h = absurd h
   single_each place (v ∷ vs) (w ∷ ws) set h = (names_single v w set.0 h.0, single_each (place + 1) vs ws set.3 h.1)
 
-  pub names_each : (vs ws : List X) (h : AreBoth DidWork vs ws) → names_of (shifts_of vs ws h) ≡ seat_names (seats_of ws)
+  pub names_each : (vs ws : List X) (h : AreBoth DidWork vs ws) → shift_names (shifts_of vs ws h) ≡ seat_names (seats_of ws)
   names_each [] [] h = refl
   names_each [] (w ∷ ws) h = absurd h
   names_each (v ∷ vs) [] h = absurd h

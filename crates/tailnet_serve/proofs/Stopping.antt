@@ -1,5 +1,5 @@
 -- A worker goes on with one connection more, or stops.
-use Rattle.std.proofs.Common.{◌≡◌, ◌+◌, ◌-◌, ◌||◌, ◌<◌, ◌≤◌, ◌==◌, ℕ, zero, suc, Bool, true, false, Option, List, [], ◌∷◌, ◌++◌, length, refl, sym, ap, ◌∙◌, subst, arith}
+use Rattle.std.proofs.Common.{◌≡◌, ◌+◌, ◌-◌, ◌||◌, ◌<◌, ◌≤◌, ◌==◌, ℕ, zero, suc, Bool, true, false, List, [], ◌∷◌, ◌++◌, length, refl, sym, ap, ◌∙◌, subst, arith}
 use Rattle.std.proofs.lemmas.List.{append-nil}
 use Rattle.std.proofs.lemmas.Bool.Decides.{nat_tests}
 use Rattle.io_edge.specs.Edge.{IsWhereTold, Rose}
@@ -8,8 +8,7 @@ use Rattle.run_ends.specs.declared.closed.Closed.{Closed}
 use Rattle.session_hub.specs.Seats.{HubView, SeatView}
 use Rattle.tailnet_serve.specs.Runs.{IsSeatRun}
 use Rattle.tailnet_serve.specs.Visits.{Visit, is_any_starved, is_starved}
-use Rattle.tailnet_serve.specs.Works.{IsStop, IsWork, IsWorked, Standing}
-use Rattle.tailnet_serve.specs.declared.worker.Report.{Report}
+use Rattle.tailnet_serve.specs.Works.{IsWork, IsWorked, Standing}
 use Rattle.tailnet_serve.specs.declared.worker.Stop.TheVariants as stop
 use Rattle.tailnet_serve.specs.declared.worker.WorkLimits.{WorkLimits}
 use Rattle.tailnet_serve.proofs.Visiting.{IsLeft, work_append}

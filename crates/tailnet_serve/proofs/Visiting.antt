@@ -1,9 +1,7 @@
 -- A worker's connections, one after another.
-use Rattle.std.proofs.Common.{◌≡◌, ◌+◌, ◌||◌, ◌<◌, ◌≤◌, ℕ, zero, suc, Bool, true, false, Option, None, Some, List, [], ◌∷◌, ◌++◌, length, inl, inr, refl, sym, ap, ◌∙◌, subst, arith, append_assoc}
-use Rattle.std.specs.Prelude.{IfSome}
+use Rattle.std.proofs.Common.{◌≡◌, ◌+◌, ◌<◌, ◌≤◌, ℕ, suc, Option, None, Some, List, [], ◌∷◌, ◌++◌, length, refl, sym, ap, ◌∙◌, subst, arith, append_assoc}
 use Rattle.std.proofs.lemmas.List.{append-nil}
 use Rattle.io_edge.specs.Door.{Finished, HasRoom, IsNext, and_finished}
-use Rattle.tailnet_desk.specs.Chains.{Turned}
 use Rattle.desk_front.specs.declared.front_settings.FrontSettings.{FrontSettings}
 use Rattle.session_hub.specs.Seats.{IsSeatTurn, SeatView}
 use Rattle.connections.specs.Connection.{IsConnection, Told}
@@ -12,7 +10,7 @@ use Rattle.connections.proofs.Seen.{serves_map}
 use Rattle.run_ends.specs.declared.closed.Closed.{Closed}
 use Rattle.tailnet_serve.specs.Runs.{IsSeatRun}
 use Rattle.tailnet_serve.specs.Visits.{AreComers, AreVisits, Drawing, IsAnyTurn, IsVisit, Visit, and_all_finished, drawing_in, finished_of, visit_turns}
-use Rattle.tailnet_serve.specs.Works.{DoorTold, HasPlaces, IsWork, Standing}
+use Rattle.tailnet_serve.specs.Works.{HasPlaces, IsWork, Standing}
 use Rattle.tailnet_serve.specs.declared.worker.WorkLimits.{WorkLimits}
 use Rattle.tailnet_serve.proofs.SeatRuns.{run_append, run_chain, run_none}
 

@@ -1,5 +1,5 @@
 -- What the command `serve` comes to.
-use Rattle.std.specs.Prelude.{◌≡◌, ◌⊎◌, ℕ, ℤ, Bool, true, false, Option, None, List, [], IfSome, codes, if◌then◌else◌}
+use Rattle.std.specs.Prelude.{◌≡◌, ◌⊎◌, ℕ, ℤ, Bool, false, Option, None, List, [], IfSome, codes, if◌then◌else◌}
 use Rattle.io_edge.specs.Edge.{Rose, IsWhereTold}
 use Rattle.net_rows.specs.declared.rows.Rows.{Rows}
 use Rattle.settings.specs.declared.fields.SettingsFields.{SettingsFields}
@@ -99,14 +99,14 @@ is_line_made end.NoMemory = false
 is_line_made (end.Served failed starved) = false
 
 -- no connection was served
-abbrev pub IsFault : Ended → Type 0
-IsFault (ended.Closed closing) = ⊥
-IsFault (ended.Settings rule key) = Unit {0}
-IsFault ended.TooLarge = Unit {0}
-IsFault ended.FileFault = Unit {0}
-IsFault ended.KeeperFault = Unit {0}
-IsFault (ended.Damaged kind id) = Unit {0}
-IsFault ended.NoMemory = Unit {0}
+abbrev pub IsOpeningFault : Ended → Type 0
+IsOpeningFault (ended.Closed closing) = ⊥
+IsOpeningFault (ended.Settings rule key) = Unit {0}
+IsOpeningFault ended.TooLarge = Unit {0}
+IsOpeningFault ended.FileFault = Unit {0}
+IsOpeningFault ended.KeeperFault = Unit {0}
+IsOpeningFault (ended.Damaged kind id) = Unit {0}
+IsOpeningFault ended.NoMemory = Unit {0}
 
 -- A desk was opened, and closed before anything was served.
 pub record IsUnserved (settings : SettingsFields) (old new : Outside) : Type 0 where
@@ -116,7 +116,7 @@ pub record IsUnserved (settings : SettingsFields) (old new : Outside) : Type 0 w
 
 -- What a run over settings comes to.
 abbrev pub ServeRan : ServeEnd → SettingsFields → Outside → Outside → Type 0
-ServeRan (end.Unopened e) settings old new = IsFault e × Ran e settings None old new × (new.doors ≡ old.doors)
+ServeRan (end.Unopened e) settings old new = IsOpeningFault e × Ran e settings None old new × (new.doors ≡ old.doors)
 ServeRan end.EntropyFault settings old new =
     IsUnserved settings old new × (new.doors ≡ old.doors) × Rose old.told.giving.word_faults new.told.giving.word_faults
 ServeRan end.DoorFault settings old new =
@@ -126,14 +126,14 @@ ServeRan end.NoMemory settings old new =
 ServeRan (end.Served failed starved) settings old new = Service failed starved settings old new
 
 -- A run over the settings of the file of this name.
-pub record ServeRanUnder (end : ServeEnd) (name : List ℕ) (old new : Outside) : Type 0 where
+pub record ServeRanUnder (how : ServeEnd) (name : List ℕ) (old new : Outside) : Type 0 where
   pub settings : SettingsFields
   pub settings_are : AreSettingsOf (old.files name) settings
-  pub ran : ServeRan end settings old new
+  pub ran : ServeRan how settings old new
 
 -- What `serve` comes to, by how it ended. Whatever kept a desk from being opened is as for `pipe`.
 abbrev pub ServeDone : ServeEnd → List ℕ → Outside → Outside → Type 0
-ServeDone (end.Unopened e) name old new = IsFault e × Piped e name None old new × (new.doors ≡ old.doors)
+ServeDone (end.Unopened e) name old new = IsOpeningFault e × Piped e name None old new × (new.doors ≡ old.doors)
 ServeDone end.EntropyFault name old new = ServeRanUnder end.EntropyFault name old new
 ServeDone end.DoorFault name old new = ServeRanUnder end.DoorFault name old new
 ServeDone end.NoMemory name old new = ServeRanUnder end.NoMemory name old new

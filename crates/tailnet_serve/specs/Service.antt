@@ -60,14 +60,14 @@ AreShifts site limits told start history place [] = Unit {0}
 AreShifts site limits told start history place (w ∷ ws) =
     IsShift site limits told start history place w × AreShifts site limits told start history (place + 1) ws
 
-abbrev pub names_of : List Shift → List ℕ
-names_of ws = map (λ (w : Shift). w.name) ws
+abbrev pub shift_names : List Shift → List ℕ
+shift_names ws = map (λ (w : Shift). w.name) ws
 
 -- There is one history, in which stand the turns of all workers and nothing else, each under its own name.
 pub record IsShared (site : FrontSettings) (limits : WorkLimits) (told : Option (List (List (List ℕ)))) (start : Drawing) (history : List Line) (shifts : List Shift) : Type 0 where
   pub each : AreShifts site limits told start history 0 shifts
-  pub apart : (n : ℕ) → times n (names_of shifts) ≤ 1
-  pub others : (n : ℕ) → times n (names_of shifts) ≡ 0 → lines_by n history ≡ []
+  pub apart : (n : ℕ) → times n (shift_names shifts) ≤ 1
+  pub others : (n : ℕ) → times n (shift_names shifts) ≡ 0 → lines_by n history ≡ []
 
 -- whether a door failed, and whether a connection ended for want of memory
 abbrev pub any_failed : List Shift → Bool

@@ -1,5 +1,5 @@
 -- One worker more is seated.
-use Rattle.std.proofs.Common.{◌≡◌, ◌∙◌, ◌∷◌, ◌++◌, [], List, ap, arith, refl, sym, subst, append_assoc}
+use Rattle.std.proofs.Common.{◌∙◌, ◌∷◌, ◌++◌, [], ap, arith, refl, sym, subst, append_assoc}
 use Rattle.std.proofs.lemmas.List.{append-nil}
 use Rattle.tailnet_serve.specs.Crews.{AreSeated}
 use Rattle.tailnet_serve.proofs.crew.seat_workers.Goals as goal

@@ -1,5 +1,5 @@
 -- Connections are served one after another, until the worker stops.
-use Rattle.std.proofs.Common.{◌∙◌, ap, arith, refl, sym, [], ◌∷◌, ◌++◌, ◌||◌}
+use Rattle.std.proofs.Common.{◌∙◌, arith, refl, sym, [], ◌∷◌, ◌++◌, ◌||◌}
 use Rattle.tailnet_serve.specs.Visits.{is_starved}
 use Rattle.tailnet_serve.proofs.Stopping.{left_first, left_then, same_hub, starved_snoc, worked_failed, worked_full, worked_over}
 use Rattle.tailnet_serve.proofs.Visiting.{work_append, work_none}

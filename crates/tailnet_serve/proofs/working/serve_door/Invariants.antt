@@ -1,6 +1,6 @@
-use Rattle.std.proofs.Common.{◌≡◌, ◌+◌, ◌||◌, ℕ, List, length}
+use Rattle.std.proofs.Common.{◌≡◌, List, length}
 use Rattle.tailnet_serve.specs.Visits.{Visit, is_any_starved}
-use Rattle.tailnet_serve.specs.Works.{HasPlaces, IsWork, Standing, door_told, standing}
+use Rattle.tailnet_serve.specs.Works.{HasPlaces, IsWork, standing}
 use Rattle.tailnet_serve.proofs.Visiting.{IsLeft}
 use Rattle.tailnet_serve.proofs.working.serve_door.Given as goal
 
