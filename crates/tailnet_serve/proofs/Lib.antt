@@ -4,4 +4,5 @@ pub mod Stopping
 pub mod Crewing
 pub mod Sharing
 pub mod Manning
+pub mod Closing
 pub mod Serving

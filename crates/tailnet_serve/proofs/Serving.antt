@@ -1,8 +1,10 @@
 -- A run of `serve` over settings.
-use Rattle.std.proofs.Common.{◌≡◌, ◌≤◌, ℕ, ℤ, Bool, Option, None, Some, List, [], ◌∷◌, map, refl, sym, ap, ◌∙◌, subst, arith}
+use Rattle.std.proofs.Common.{◌≡◌, ◌≤◌, ℕ, ℤ, Bool, Option, None, Some, List, [], ◌∷◌, map, refl, sym, ap, ◌∙◌, subst, arith, inl}
 use Rattle.std.specs.Prelude.{IfSome}
 use Rattle.io_edge.specs.Door.{IsToldOfEach}
-use Rattle.io_edge.specs.Edge.{IsWhereTold, StillTells}
+use Rattle.io_edge.specs.Edge.{IsWhereTold, Rose, StillTells}
+use Rattle.io_edge.specs.declared.faults.EdgeFault.{EdgeFault}
+use Rattle.io_edge.specs.declared.faults.EdgeFault.TheVariants.{Failed, NoMemory}
 use Rattle.net_rows.proofs.Sounds.{sound_of}
 use Rattle.settings.specs.declared.fields.SettingsFields.{SettingsFields}
 use Rattle.tailnet_desk.specs.Opening.{opening}
@@ -13,12 +15,20 @@ use Rattle.net_rows.specs.Sound.{AreSound}
 use Rattle.tailnet_laws.proofs.Following.{opening_followed}
 use Rattle.desk_front.specs.Wanted.{front_settings}
 use Rattle.session_hub.specs.Lines.{IsReplayOf, entries_of}
-use Rattle.tailnet_commands.specs.Opened.{IsDeskOpened, OpenerTold}
+use Rattle.tailnet_commands.specs.Opened.{IsDeskFault, IsDeskOpened, OpenerTold}
+use Rattle.tailnet_commands.specs.Pipe.{AreSettingsOf, IsUnread}
+use Rattle.tailnet_commands.specs.Run.{IsUnbegun, Untouched}
+use Rattle.tailnet_commands.proofs.PipeLemmas.{ran_piped, unread_piped}
+use Rattle.run_ends.specs.declared.ended.Ended.{Ended}
+use Rattle.run_ends.specs.declared.ended.Ended.TheVariants as ended
+use Rattle.tailnet_serve.proofs.Closing.{map_map}
+use Rattle.tailnet_serve.specs.declared.serve_end.ServeEnd.{ServeEnd}
+use Rattle.tailnet_serve.specs.declared.serve_end.ServeEnd.TheVariants as end
 use Rattle.tailnet_commands.specs.Outside.{DoorsTold, Outside}
 use Rattle.tailnet_commands.proofs.OpenedLemmas.{opener_in}
 use Rattle.tailnet_serve.specs.Crews.{IsSplitDrawing}
-use Rattle.tailnet_serve.specs.Serve.{IsUnserved}
-use Rattle.tailnet_serve.specs.Service.{AreAskedFor, IsDeskClosed, IsDeskServed, Service, Shift, left_drawing, limits_of}
+use Rattle.tailnet_serve.specs.Serve.{IsOpeningFault, IsUnserved, ServeDone, ServeRan}
+use Rattle.tailnet_serve.specs.Service.{AreAskedFor, IsDeskClosed, IsDeskServed, IsEndWithOutfits, Service, Shift, end_of_outfits, left_drawing, limits_of}
 use Rattle.tailnet_serve.specs.Visits.{Drawing}
 use Rattle.tailnet_serve.specs.Works.{DoorTold}
 
@@ -28,10 +38,6 @@ still_rows None k b h s = tt
 still_rows (Some x) k None h s = tt
 still_rows (Some x) None (Some y) h s = absurd (let bad : None ≡ Some y = s in cc)
 still_rows {A} (Some x) (Some z) (Some y) h s = let e : Some z ≡ Some y = s in let same : z ≡ y = cc in h ∙ same
-
-map_map : {A B D : Type 0} (f : A → B) (g : B → D) (xs : List A) → map g (map f xs) ≡ map (λ x. g (f x)) xs
-map_map f g [] = refl
-map_map f g (x ∷ xs) = ap (λ z. g (f x) ∷ z) (map_map f g xs)
 
 -- a drawing that was split after the clock's first answer
 pub split_after : (old : Outside) (one given : Drawing) (answers : (k : ℕ) → one.answers k ≡ (left_drawing old).answers k) (words : (k : ℕ) → one.words k ≡ old.told.giving.words k) → IsSplitDrawing one given → IsSplitDrawing (left_drawing old) given
@@ -87,3 +93,56 @@ module _ (settings : SettingsFields) (old new : Outside) (mid : OpenerTold) (aft
         final_rows = s.rows;
         rose = omega (arith, s.rose, opened.later);
       }
+
+-- ---- the command
+
+-- a run over the file's settings
+pub ran_done : (e : ServeEnd) (name : List ℕ) (settings : SettingsFields) (old new : Outside) → AreSettingsOf (old.files name) settings → ServeRan e settings old new → ServeDone e name old new
+ran_done (end.Unopened e) name settings old new are (fault, ran, doors) = (fault, ran_piped name None old new e settings are ran, doors)
+ran_done end.EntropyFault name settings old new are ran = record { settings = settings; settings_are = are; ran = ran }
+ran_done end.DoorFault name settings old new are ran = record { settings = settings; settings_are = are; ran = ran }
+ran_done end.NoMemory name settings old new are ran = record { settings = settings; settings_are = are; ran = ran }
+ran_done (end.Served failed starved) name settings old new are ran = record { settings = settings; settings_are = are; ran = ran }
+
+unread_fault : (e : Ended) (file : Option (Option (List ℕ))) (before now : ℕ) → IsUnread e file before now → IsOpeningFault e
+unread_fault (ended.Settings rule key) file before now u = tt
+unread_fault ended.TooLarge file before now u = tt
+unread_fault ended.FileFault file before now u = tt
+unread_fault ended.NoMemory file before now u = tt
+unread_fault (ended.Closed closing) file before now u = absurd u
+unread_fault ended.KeeperFault file before now u = absurd u
+unread_fault (ended.Damaged kind id) file before now u = absurd u
+
+-- no settings, and nothing else was done
+pub unread_done : (e : Ended) (name : List ℕ) (old new : Outside) → IsUnread e (old.files name) old.file_faults new.file_faults → Untouched old new → IsUnbegun old new → new.doors ≡ old.doors → ServeDone (end.Unopened e) name old new
+unread_done e name old new u quiet unbegun doors =
+    (unread_fault e (old.files name) old.file_faults new.file_faults u, unread_piped name None old new e u quiet unbegun, doors)
+
+-- a desk that didn't open is a fault
+pub desk_fault : (e : Ended) (settings : SettingsFields) (old new : OpenerTold) → IsDeskFault e settings old new → IsOpeningFault e
+desk_fault ended.KeeperFault settings old new f = tt
+desk_fault (ended.Damaged kind id) settings old new f = tt
+desk_fault ended.NoMemory settings old new f = tt
+desk_fault (ended.Closed closing) settings old new f = absurd f
+desk_fault (ended.Settings rule key) settings old new f = absurd f
+desk_fault ended.TooLarge settings old new f = absurd f
+desk_fault ended.FileFault settings old new f = absurd f
+
+-- what came of serving with outfits, as a run
+pub served_ran : (e : ServeEnd) (settings : SettingsFields) (old new : Outside) (mid : OpenerTold) (after : ℕ → Option ℤ) (p : Point) (word_faults : ℕ) → IsDeskOpened settings (opener_in old) mid old.told.giving.answers after p
+    → old.told.giving.word_faults ≤ word_faults → ((k : ℕ) → new.told.giving.words k ≡ old.told.giving.words k)
+    → IsEndWithOutfits e (record { address = settings.listen; count = settings.workers }) (front_settings settings) (limits_of settings) (left_drawing old) p mid (opener_in new) old.doors new.doors word_faults new.told.giving.word_faults
+    → ServeRan e settings old new
+served_ran (end.Unopened e) settings old new mid after p word_faults opened later words h = absurd h
+served_ran end.EntropyFault settings old new mid after p word_faults opened later words h = absurd h
+served_ran end.DoorFault settings old new mid after p word_faults opened later words (closed, asked, rose) = (unserved settings old new mid after p opened closed words, asked, rose)
+served_ran end.NoMemory settings old new mid after p word_faults opened later words (closed, either) = (unserved settings old new mid after p opened closed words, either)
+served_ran (end.Served failed starved) settings old new mid after p word_faults opened later words (doors, asked, doors_later, served) =
+    service settings old new mid after p opened failed starved doors word_faults later asked doors_later served
+
+-- no outfits: the desk was closed again
+pub outfits_ran : (f : EdgeFault) (settings : SettingsFields) (old new : Outside) (mid : OpenerTold) (after : ℕ → Option ℤ) (p : Point) → IsDeskOpened settings (opener_in old) mid old.told.giving.answers after p → IsDeskClosed p mid (opener_in new)
+    → ((k : ℕ) → new.told.giving.words k ≡ old.told.giving.words k) → new.doors ≡ old.doors → (f ≡ Failed → Rose old.told.giving.word_faults new.told.giving.word_faults) → ServeRan (end_of_outfits f) settings old new
+outfits_ran Failed settings old new mid after p opened closed words doors rose = (unserved settings old new mid after p opened closed words, doors, rose refl)
+outfits_ran NoMemory settings old new mid after p opened closed words doors rose =
+    (unserved settings old new mid after p opened closed words, inl (ap (λ (d : DoorsTold). d.asked) doors))

@@ -9,6 +9,7 @@ use Rattle.run_ends.specs.declared.ended.Ended.{Ended}
 use Rattle.run_ends.specs.declared.ended.Ended.TheVariants as ended
 use Rattle.run_ends.specs.declared.status.Status.{Status}
 use Rattle.run_ends.specs.declared.status.Status.TheVariants as status
+use Rattle.connections.specs.Connection.{Told}
 use Rattle.tailnet_commands.specs.Outside.{DoorsTold, Outside}
 use Rattle.tailnet_commands.specs.Pipe.{AreSettingsOf, Piped}
 use Rattle.tailnet_commands.specs.Run.{IsAskedFor, Ran}
@@ -42,16 +43,16 @@ besides errors error_faults files file_faults rows asked keeper_faults answer wo
   link = rest.link;
 }
 
--- the same of a run whose settings are read, around any rest
+-- the same of a run whose settings are read, around any streams and any rest
 abbrev pub behind_settings : {P C N D : Type 0} → (P → Option Rows) → (P → Option (List (List ℕ))) → (P → ℕ) → (C → ℕ → Option ℤ) → (N → ℕ → Option (List ℕ)) → (N → ℕ) → (D → DoorsTold)
-    → Outside → P → C → N → D → Outside
-behind_settings rows asked keeper_faults answer word word_faults doors rest p c n d = record {
+    → Told → Outside → P → C → N → D → Outside
+behind_settings rows asked keeper_faults answer word word_faults doors streams rest p c n d = record {
   told = record {
-    left = rest.told.left;
-    read_faults = rest.told.read_faults;
+    left = streams.left;
+    read_faults = streams.read_faults;
     giving = record {
-      held = rest.told.giving.held;
-      write_faults = rest.told.giving.write_faults;
+      held = streams.giving.held;
+      write_faults = streams.giving.write_faults;
       answers = answer c;
       words = word n;
       word_faults = word_faults n;

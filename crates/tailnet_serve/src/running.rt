@@ -1,5 +1,6 @@
 //! A run over settings.
 ghost use Rattle.std.specs.Prelude.{◌≡◌, ◌≤◌, ◌<◌, ℕ, List, Option, [], All, length, map, vec_capacity};
+ghost use Rattle.connections.specs.Connection.{Told};
 ghost use Rattle.desk_front.specs.Wanted.{front_settings};
 ghost use Rattle.tailnet_commands.specs.Opened.{opener_told};
 ghost use Rattle.tailnet_commands.specs.Outside.{Outside, doors_told};
@@ -199,7 +200,7 @@ fn end_of_outfits(fault: EdgeFault) -> ServeEnd
 }
 
 /// Opens a desk over what the opener keeps, and serves it at doors by workers until all have stopped.
-/// What is told of the rest of the outside is any.
+/// What is told of the rest of the outside, before and after, is any.
 pub(crate) fn run_serve<
     R: Threads + Wait + Sync,
     P: Opener,
@@ -226,11 +227,11 @@ where
     requires workers { plan.now.workers ≡ settings.workers }
     requires limits { plan.now.limits ≡ limits_of settings }
     requires places { TellsPlaces (D.coming doors.old) D.Door.number }
-    ensures ran { (rest : Outside) →
+    ensures ran { (streams : Told) (before after : Outside) →
         let at = behind_settings P.told P.asked P.faults C.answer N.word N.faults
-        (doors_told D.coming D.finished D.asked D.faults) rest in
-        ServeRan result settings (at opener.old clock.old entropy.old doors.old)
-        (at opener.new clock.new entropy.new doors.new) }
+        (doors_told D.coming D.finished D.asked D.faults) streams in
+        ServeRan result settings (at before opener.old clock.old entropy.old doors.old)
+        (at after opener.new clock.new entropy.new doors.new) }
 {
     let desk = match open_desk(alloc, settings, opener, clock) {
         Ok(desk) => desk,
