@@ -130,6 +130,7 @@ pub(crate) fn join_workers<K: Keeper, D: Door, C: Clock + Drop, N: Entropy>(
     ensures starved { result.starved ≡ has_any_starved workers.items }
     ensures rose { RoseBy (all_word_faults N.faults workers.items)
         (N.faults entropy.old) (N.faults entropy.new) }
+    ensures same { (k : ℕ) → N.word entropy.new k ≡ N.word entropy.old k }
     ensures later { N.faults entropy.old ≤ N.faults entropy.new }
 {
     let mut doors = room;

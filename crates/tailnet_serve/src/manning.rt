@@ -61,6 +61,7 @@ where
         → IsManned front.now limits.now told start result.1.failed result.1.starved hub
         (length doors.items) (map at result.1.doors.items) (point_of K.told K.faults K.calls result.0)
         (N.faults entropy.old) (N.faults entropy.new) }
+    ensures same { (k : ℕ) → N.word entropy.new k ≡ N.word entropy.old k }
     ensures later { N.faults entropy.old ≤ N.faults entropy.new }
 {
     let mut first = first;

@@ -91,6 +91,7 @@ where
         (point_of P.Keeper.told P.Keeper.faults P.Keeper.calls desk)
         (at opener.old) (at opener.new) (doors_at doors.old) (doors_at doors.new)
         (N.faults entropy.old) (N.faults entropy.new) }
+    ensures same { (k : ℕ) → N.word entropy.new k ≡ N.word entropy.old k }
     ensures later { N.faults entropy.old ≤ N.faults entropy.new }
 {
     match Hub::new(alloc, desk) {
@@ -171,6 +172,7 @@ where
         (point_of P.Keeper.told P.Keeper.faults P.Keeper.calls desk)
         (at opener.old) (at opener.new) (doors_at doors.old) (doors_at doors.new)
         (N.faults entropy.old) (N.faults entropy.new) }
+    ensures same { (k : ℕ) → N.word entropy.new k ≡ N.word entropy.old k }
     ensures later { N.faults entropy.old ≤ N.faults entropy.new }
 {
     let Ok(rooms) = Rooms::new(alloc, plan.workers) else {

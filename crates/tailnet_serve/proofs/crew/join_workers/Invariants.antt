@@ -1,4 +1,4 @@
-use Rattle.std.proofs.Common.{◌≡◌, ◌≤◌, ◌+◌, ◌||◌, ◌++◌, length, map}
+use Rattle.std.proofs.Common.{◌≡◌, ◌≤◌, ◌+◌, ℕ, ◌||◌, ◌++◌, length, map}
 use Rattle.std.specs.Prelude.{All, vec_capacity, vec_len}
 use Rattle.std_alloc.specs.Vec.Iter.{into_iter_items, into_iter_len}
 use Rattle.io_edge.specs.Edge.{RoseBy}
@@ -18,7 +18,8 @@ invariant-loop-worker g l =
       doors : l.doors.items ++ map (λ w. w.door) left ≡ map (λ w. w.door) all;
       failed : (l.failed || is_any_failed left) ≡ is_any_failed all;
       starved : (l.starved || has_any_starved left) ≡ has_any_starved all;
-      rose : (n : _) → RoseBy (all_word_faults g.N.Entropy.faults left) (g.N.Entropy.faults l.entropy) n → RoseBy (all_word_faults g.N.Entropy.faults all) (g.N.Entropy.faults l.fn.entropy) n;
+      rose : (n : ℕ) → RoseBy (all_word_faults g.N.Entropy.faults left) (g.N.Entropy.faults l.entropy) n → RoseBy (all_word_faults g.N.Entropy.faults all) (g.N.Entropy.faults l.fn.entropy) n;
+      same : (k : ℕ) → g.N.Entropy.word l.entropy k ≡ g.N.Entropy.word l.fn.entropy k;
       later : g.N.Entropy.faults l.fn.entropy ≤ g.N.Entropy.faults l.entropy;
     }
 
