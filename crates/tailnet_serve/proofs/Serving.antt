@@ -1,7 +1,7 @@
 -- A run of `serve` over settings.
-use Rattle.std.proofs.Common.{◌≡◌, ◌≤◌, ℕ, ℤ, Bool, Option, None, Some, List, [], ◌∷◌, map, refl, sym, ap, ◌∙◌, subst, arith, inl}
+use Rattle.std.proofs.Common.{◌≡◌, ◌≤◌, ℕ, ℤ, Bool, Option, None, Some, List, [], ◌∷◌, map, refl, sym, ap, ◌∙◌, subst, arith, inl, inr}
 use Rattle.std.specs.Prelude.{IfSome}
-use Rattle.io_edge.specs.Door.{IsToldOfEach}
+use Rattle.io_edge.specs.Door.{IsToldOfEach, Opening}
 use Rattle.io_edge.specs.Edge.{IsWhereTold, Rose, StillTells}
 use Rattle.io_edge.specs.declared.faults.EdgeFault.{EdgeFault}
 use Rattle.io_edge.specs.declared.faults.EdgeFault.TheVariants.{Failed, NoMemory}
@@ -14,6 +14,7 @@ use Rattle.desk_state.specs.State.{State}
 use Rattle.net_rows.specs.Sound.{AreSound}
 use Rattle.tailnet_laws.proofs.Following.{opening_followed}
 use Rattle.desk_front.specs.Wanted.{front_settings}
+use Rattle.desk_front.specs.declared.front_settings.FrontSettings.{FrontSettings}
 use Rattle.session_hub.specs.Lines.{IsReplayOf, entries_of}
 use Rattle.tailnet_commands.specs.Opened.{IsDeskFault, IsDeskOpened, OpenerTold}
 use Rattle.tailnet_commands.specs.Pipe.{AreSettingsOf, IsUnread}
@@ -28,9 +29,10 @@ use Rattle.tailnet_commands.specs.Outside.{DoorsTold, Outside}
 use Rattle.tailnet_commands.proofs.OpenedLemmas.{opener_in}
 use Rattle.tailnet_serve.specs.Crews.{IsSplitDrawing}
 use Rattle.tailnet_serve.specs.Serve.{IsOpeningFault, IsUnserved, ServeDone, ServeRan}
-use Rattle.tailnet_serve.specs.Service.{AreAskedFor, IsDeskClosed, IsDeskServed, IsEndWithOutfits, Service, Shift, end_of_outfits, left_drawing, limits_of}
+use Rattle.tailnet_serve.specs.Service.{AreAskedFor, IsDeskClosed, IsDeskServed, IsEndAtDoors, IsEndWithOutfits, Service, Shift, end_of_outfits, left_drawing, limits_of}
 use Rattle.tailnet_serve.specs.Visits.{Drawing}
 use Rattle.tailnet_serve.specs.Works.{DoorTold}
+use Rattle.tailnet_serve.specs.declared.worker.WorkLimits.{WorkLimits}
 
 -- rows that were told stay so while an object still tells
 still_rows : {A : Type 0} (a k b : Option A) → IfSome a (λ rows. IsWhereTold rows k) → StillTells k b → IfSome a (λ rows. IsWhereTold rows b)
@@ -146,3 +148,14 @@ pub outfits_ran : (f : EdgeFault) (settings : SettingsFields) (old new : Outside
 outfits_ran Failed settings old new mid after p opened closed words doors rose = (unserved settings old new mid after p opened closed words, doors, rose refl)
 outfits_ran NoMemory settings old new mid after p opened closed words doors rose =
     (unserved settings old new mid after p opened closed words, inl (ap (λ (d : DoorsTold). d.asked) doors))
+
+-- what came of serving at doors that were opened for this
+pub served_at : (e : ServeEnd) (wanted : Opening) (site : FrontSettings) (limits : WorkLimits) (start : Drawing) (p : Point) (opener opener_after : OpenerTold) (doors opened doors_after : DoorsTold) (workers before after : ℕ) → workers ≡ wanted.count
+    → AreAskedFor wanted doors opened → doors.faults ≤ opened.faults → IsEndAtDoors e site limits doors.coming start workers p opener opener_after opened doors_after before after
+    → IsEndWithOutfits e wanted site limits start p opener opener_after doors doors_after before after
+served_at (end.Unopened e) wanted site limits start p opener opener_after doors opened doors_after workers before after number asked later h = absurd h
+served_at end.EntropyFault wanted site limits start p opener opener_after doors opened doors_after workers before after number asked later h = absurd h
+served_at end.DoorFault wanted site limits start p opener opener_after doors opened doors_after workers before after number asked later h = absurd h
+served_at end.NoMemory wanted site limits start p opener opener_after doors opened doors_after workers before after number asked later (closed, same) = (closed, inr (same ∙ asked))
+served_at (end.Served failed starved) wanted site limits start p opener opener_after doors opened doors_after workers before after number asked later served =
+    (opened, asked, later, subst (λ n. IsDeskServed site limits doors.coming start failed starved n p opener opener_after opened doors_after before after) number served)

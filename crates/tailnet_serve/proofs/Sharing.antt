@@ -1,7 +1,7 @@
 -- What workers did is one history that they share.
-use Rattle.std.proofs.Common.{◌≡◌, ◌+◌, ◌||◌, ◌<◌, ◌≤◌, ℕ, suc, Bool, false, List, [], ◌∷◌, ◌++◌, Option, None, Some, length, map, refl, sym, ap, ◌∙◌, subst, arith, slice_index_or, slice_get}
+use Rattle.std.proofs.Common.{◌≡◌, ◌+◌, ◌||◌, ◌<◌, ◌≤◌, ℕ, zero, suc, Bool, false, List, [], ◌∷◌, ◌++◌, Option, None, Some, length, map, refl, sym, ap, ◌∙◌, subst, arith, slice_index_or, slice_get}
 use Rattle.std.specs.Prelude.{All, IfSome}
-use Rattle.io_edge.specs.Door.{IsOpenedWith, for_place}
+use Rattle.io_edge.specs.Door.{Finished, IsOpenedWith, for_place}
 use Rattle.tailnet_desk.specs.Chains.{turned_of}
 use Rattle.desk_front.specs.declared.front_settings.FrontSettings.{FrontSettings}
 use Rattle.session_hub.specs.declared.known.Line.{Line}
@@ -11,7 +11,7 @@ use Rattle.tailnet_serve.specs.Crews.{AreJoined, IsOpenedAt, IsSplitDrawing, is_
 use Rattle.tailnet_serve.specs.Runs.{turns_by}
 use Rattle.tailnet_serve.specs.Service.{AreOpenedAt, AreShifts, IsShared, Shift, any_failed, any_starved, shift_names, word_faults_of}
 use Rattle.tailnet_serve.specs.Visits.{Drawing, visit_turns}
-use Rattle.tailnet_serve.specs.Works.{DoorTold, IsWorked, Standing}
+use Rattle.tailnet_serve.specs.Works.{DoorTold, HasPlaces, IsWorked, Standing}
 use Rattle.tailnet_serve.specs.declared.worker.Report.{Report}
 use Rattle.tailnet_serve.specs.declared.worker.WorkLimits.{WorkLimits}
 use Rattle.tailnet_serve.proofs.Crewing.{AreSingle, lines_taken, names_differ, no_others, seat_names}
@@ -167,3 +167,25 @@ module _ {X : Type 0} (at : X → Standing) (report : X → Report) (site : Fron
   doors_each [] (w ∷ ws) h = absurd h
   doors_each (v ∷ vs) [] h = absurd h
   doors_each (v ∷ vs) (w ∷ ws) h = ap (λ z. (at w).door ∷ z) (doors_each vs ws h.1)
+
+-- ---- places of doors that were just opened
+
+places_none : (coming : Option (List (List ℕ))) (finished : Option (List Finished)) (number : Option ℕ) (faults : ℕ) → number ≡ None → HasPlaces (record { coming = coming; finished = finished; number = number; faults = faults })
+places_none None finished number faults e = tt
+places_none (Some some) None number faults e = tt
+places_none (Some some) (Some done) None faults e = tt
+places_none (Some some) (Some done) (Some all) faults e = absurd (let bad : Some all ≡ None = e in cc)
+
+places_opened : (connections : List (List ℕ)) (d : DoorTold) → IsOpenedWith connections d.coming d.finished d.number → HasPlaces d
+places_opened connections d o =
+    let there : HasPlaces (record { coming = Some connections; finished = Some []; number = Some (length connections); faults = d.faults }) = omega arith in
+    subst (λ (z : Option (List (List ℕ)) × Option (List Finished) × Option ℕ). HasPlaces (record { coming = z.0; finished = z.1; number = z.2; faults = d.faults })) (λ i. (sym o.come i, sym o.none i, sym o.all i)) there
+
+-- doors of which the connections are told have places for all; others don't tell with how many they were opened
+pub places_each : {D : Type 0} (at : D → DoorTold) (told : Option (List (List (List ℕ)))) (place : ℕ) (ds : List D) → AreEachOpened at told place ds → (told ≡ None → (d : D) → (at d).number ≡ None) → All (λ d. HasPlaces (at d)) ds
+places_each at None place ds each none = λ k d lt.
+    let e = slice_index_or ds k d in places_none (at e).coming (at e).finished (at e).number (at e).faults (none refl e)
+places_each at (Some all) place [] each none = λ k d lt. absurd (omega (arith, lt))
+places_each at (Some all) place (d ∷ ds) each none zero e lt = places_opened (for_place all (place + 0)) (at d) (each 0)
+places_each at (Some all) place (d ∷ ds) each none (suc k) e lt =
+    places_each at (Some all) (place + 1) ds (λ i. subst (λ n. IfSome (slice_get ds i) (λ b. IsOpenedWith (for_place all n) (at b).coming (at b).finished (at b).number)) (omega arith) (each (suc i))) (λ bad. absurd (let no : Some all ≡ None = bad in cc)) k e (omega (arith, lt))
