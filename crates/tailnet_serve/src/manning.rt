@@ -59,7 +59,8 @@ where
         → All (λ o. IsSplitDrawing start (drawing C.answer N.word N.faults o.clock o.entropy))
         outfits.items
         → IsManned front.now limits.now told start result.1.failed result.1.starved hub
-        (length doors.items) (map at result.1.doors.items) (point_of K.told K.faults K.calls result.0)
+        (length doors.items) (map at result.1.doors.items)
+        (point_of K.told K.faults K.calls result.0)
         (N.faults entropy.old) (N.faults entropy.new) }
     ensures same { (k : ℕ) → N.word entropy.new k ≡ N.word entropy.old k }
     ensures later { N.faults entropy.old ≤ N.faults entropy.new }
