@@ -1,7 +1,7 @@
 //! Polls: what their streams hold, when a session goes on, and what one leaves behind.
 use run_ends::Closed;
 use std::test::Fail;
-use talk_runs::{first_not_held, served_twice, talk_bytes};
+use talk_runs::{first_not_held, first_not_served, served_twice, talk_bytes};
 
 const POLLS: &str = r#"= first-poll
 > POST /machine/register mkey:%1 {"Auth":{"AuthKey":"k1"},"Hostinfo":{"Hostname":"Alice's MacBook Pro!"},"NodeKey":"nodekey:%a"}
@@ -242,6 +242,12 @@ const POLLS: &str = r#"= first-poll
 #[test]
 fn polls(rt: HostRuntime) -> Result<(), Fail> {
     assert_eq!(rt; first_not_held(rt.alloc(), POLLS)?, None);
+    Ok(())
+}
+
+#[test]
+fn polls_over_a_listener(rt: HostRuntime) -> Result<(), Fail> {
+    assert_eq!(rt; first_not_served(&rt, rt.alloc(), POLLS)?, None);
     Ok(())
 }
 
