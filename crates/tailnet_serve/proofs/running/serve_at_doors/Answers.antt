@@ -8,7 +8,7 @@ use Rattle.tailnet_serve.proofs.running.serve_at_doors.Goals as goal
 
 pub returns-in-Ok-clause-served : goal.returns-in-Ok-clause-served
 returns-in-Ok-clause-served g c = λ told start opened split.
-    let at = door_told g.D.Doors.Door.coming g.D.Doors.Door.finished g.D.Doors.Door.number g.D.Doors.Door.faults in
+    let at = door_told g.D.Door.Door.coming g.D.Door.Door.finished g.D.Door.Door.number g.D.Door.Door.faults in
     let left = c.man_hub.result.1.doors.items in
     let m = c.man_hub.ensures.manned told start opened split in
     record {
