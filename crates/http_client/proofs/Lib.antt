@@ -1,0 +1,4 @@
+pub mod AnswerHeads
+pub mod AnswerLaws
+pub mod AnswerLooks
+pub mod Pieces
