@@ -1,5 +1,5 @@
 -- What the parser's answers say of the bytes so far.
-use Rattle.std.proofs.Common.{◌≡◌, ℕ, ◌*◌, ◌<◌, ◌≤◌, Bool, true, false, cond, leb, List, [], ◌∷◌, ◌++◌, length, drop, Option, None, Some, ◌==◌, codes, refl, sym, ap, subst, arith, length-append, append-nil}
+use Rattle.std.proofs.Common.{◌≡◌, ℕ, ◌≤◌, Bool, true, false, cond, leb, List, [], ◌∷◌, ◌++◌, length, drop, Option, None, Some, ◌==◌, codes, refl, sym, ap, subst, arith, length-append, append-nil}
 use Rattle.std.proofs.lemmas.Bool.{leb-true}
 use Rattle.std.proofs.lemmas.List.{drop-append-le}
 use Rattle.std.proofs.lemmas.List.Elements.{recursion_from_All}
@@ -11,7 +11,7 @@ use Rattle.httparse.proofs.GrammarLemmas.{ReadsResponse-append}
 use Rattle.http_front.specs.Lines.{length_value, values_of}
 use Rattle.http_front.specs.Requests.{head_limit}
 use Rattle.http_front.proofs.Heads.{few}
-use Rattle.http_client.specs.Answers.{AnswerHead, HasAnswerHead, answer_head_of, answer_length, answer_limit, only_length, within_limit}
+use Rattle.http_client.specs.Answers.{AnswerHead, HasAnswerHead, answer_head_of, answer_length, only_length, within_limit}
 use Rattle.http_client.specs.Taking.{spanned_answer}
 
 -- a head in the front of the bytes is a head of the bytes

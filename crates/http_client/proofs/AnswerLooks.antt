@@ -2,7 +2,7 @@
 use Rattle.std.proofs.Common.{◌≡◌, ◌≢◌, ℕ, ◌+◌, ◌-◌, ◌<◌, ◌≤◌, List, ◌++◌, length, take, drop, Option, None, Some, refl, sym, ap, ◌∙◌, subst, arith, inl, inr, length-drop}
 use Rattle.std.proofs.lemmas.List.{take-append-drop, take_all, length-take, drop-drop}
 use Rattle.httparse.specs.Grammar.{ResponseHead, HasNoResponse, NeverHasResponse, MayBecomeResponse}
-use Rattle.httparse.specs.Spans.{IsResponseWithin, IsResponseAt, IsResponseOf, ResponseExceeds}
+use Rattle.httparse.specs.Spans.{IsResponseWithin, IsResponseOf, ResponseExceeds}
 use Rattle.httparse.specs.declared.spans.HeaderSpan.{HeaderSpan}
 use Rattle.httparse.specs.declared.spans.ResponseSpans.{ResponseSpans}
 use Rattle.httparse.specs.declared.Error.{Error}
@@ -65,15 +65,17 @@ part_at bytes front headers r size f x e lacking =
     let small = length_small (answer_head_of x.head) size is in
     let fits = x.fits in
     let head_small = x.small in
-    let below : length (drop r.len bytes) < size = omega (arith, length-drop r.len bytes) in
-    (inr (record {
-      head = x.head;
-      rest = drop r.len bytes;
-      has = x.has;
-      size = size;
-      length_is = is;
-      short = below;
-    }), omega arith)
+    let below : length (drop r.len bytes) < size = omega (arith, length-drop r.len bytes) in (
+      inr (record {
+        head = x.head;
+        rest = drop r.len bytes;
+        has = x.has;
+        size = size;
+        length_is = is;
+        short = below;
+      }),
+      omega arith,
+    )
 
 pub refused_at : (bytes front : List ℕ) (headers : List HeaderSpan) (r : ResponseSpans) → Front bytes front → Found bytes headers r
     → None ≡ answer_length (spanned_answer front headers r) → IsBadAnswer bytes

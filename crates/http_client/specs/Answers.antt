@@ -81,3 +81,7 @@ pub record HasNoAnswerHead (bytes : List ℕ) : Type 0 where
 -- the bytes are no answer, and become none
 abbrev pub IsBadAnswer : List ℕ → Type 0
 IsBadAnswer bytes = IsRefusedAnswer bytes ⊎ HasNoAnswerHead bytes
+
+-- a status and a body as they were sent
+abbrev pub sent_answer : ℕ → List ℕ → ServerAnswer
+sent_answer status body = record { status = status; body = body }

@@ -5,8 +5,8 @@ use Rattle.httparse.specs.Spans.{header_bytes}
 use Rattle.httparse.specs.declared.spans.HeaderSpan.{HeaderSpan}
 use Rattle.httparse.specs.declared.spans.ResponseSpans.{ResponseSpans}
 use Rattle.io_edge.specs.Edge.{IsWhereTold, and_then_left}
-use Rattle.http_front.specs.Requests.{head_limit}
 use Rattle.http_client.specs.Answers.{AnswerHead, HasAnswerHead, IsBadAnswer, IsPartOfAnswer, IsWholeAnswer, answer_head_of, answer_length}
+use Rattle.http_client.specs.declared.answer.ServerAnswer.{ServerAnswer}
 use Rattle.http_client.specs.declared.answer.TakenAnswer.{TakenAnswer}
 use Rattle.http_client.specs.declared.answer.TakenAnswer.TheVariants as taken
 use Rattle.http_client.specs.declared.looking.AnswerLook.{AnswerLook}
@@ -27,6 +27,14 @@ pub record TakesAnswer (left left_after : Option (List ℕ)) (held held_after : 
   pub read : List ℕ
   pub moved : left ≡ and_then_left read left_after
   pub answers : AnswersBytes (held ++ read) held_after left_after answer
+
+-- the answer is that one, unless the source failed or memory ran out
+abbrev pub IsThatAnswer : ServerAnswer → TakenAnswer → Type 0
+IsThatAnswer sent (taken.Answer answer) = answer ≡ sent
+IsThatAnswer sent taken.Cut = ⊥
+IsThatAnswer sent taken.Bad = ⊥
+IsThatAnswer sent taken.ReadFault = Unit {0}
+IsThatAnswer sent taken.NoMemory = Unit {0}
 
 -- ---- within a call
 

@@ -1,8 +1,12 @@
 //! What the definition of a byte string's answer comes to. None of these functions does anything:
 //! each states a law.
-ghost use Rattle.std.specs.Prelude.{◌≡◌, ℕ, List, ◌++◌};
+ghost use Rattle.std.specs.Prelude.{◌≡◌, ◌<◌, ◌≤◌, ℕ, Bool, List, [], ◌++◌, length, Option, Some};
+ghost use Rattle.http_front.specs.AnswerBytes.{answer};
 ghost use Rattle.http_client.specs.declared.answer.ServerAnswer.{ServerAnswer};
+ghost use Rattle.http_client.specs.declared.answer.TakenAnswer.{TakenAnswer};
 ghost use Rattle.http_client.specs.Answers.{IsBadAnswer, IsPartOfAnswer, IsWholeAnswer};
+ghost use Rattle.http_client.specs.Answers.{answer_limit, sent_answer};
+ghost use Rattle.http_client.specs.Taking.{IsThatAnswer, TakesAnswer};
 
 /// A byte string begins with at most one answer, and then it is neither a part of one nor bad; nor
 /// is it both of these.
@@ -23,4 +27,17 @@ pub fn answers_stay()
     ensures whole { (bytes rest more : List ℕ) (answer : ServerAnswer)
         → IsWholeAnswer bytes answer rest → IsWholeAnswer (bytes ++ more) answer (rest ++ more) }
     ensures bad { (bytes more : List ℕ) → IsBadAnswer bytes → IsBadAnswer (bytes ++ more) }
+{}
+
+/// What the server writes is read back. Its bytes begin with that status and that body, and who
+/// reads them from a source is answered so, unless the source fails or memory runs out.
+pub fn answers_come_back()
+    ensures whole { (status : ℕ) (body rest : List ℕ) (close : Bool)
+        → 100 ≤ status → status < 1000 → length body ≤ answer_limit
+        → IsWholeAnswer (answer status body close ++ rest) (sent_answer status body) rest }
+    ensures taken { (status : ℕ) (body rest held : List ℕ) (close : Bool)
+        (left : Option (List ℕ)) (taken : TakenAnswer)
+        → 100 ≤ status → status < 1000 → length body ≤ answer_limit
+        → TakesAnswer (Some (answer status body close ++ rest)) left [] held taken
+        → IsThatAnswer (sent_answer status body) taken }
 {}

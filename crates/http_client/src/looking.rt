@@ -4,8 +4,8 @@ ghost use Rattle.http_client.specs.Taking.{IsAnswerLook};
 
 use crate::head::answer_length;
 use http_front::HEAD_LIMIT;
-use httparse::spans::{HeaderSpan, ResponseSpans, parse_response};
 use httparse::Status;
+use httparse::spans::{HeaderSpan, ResponseSpans, parse_response};
 
 /// What the bytes held so far are.
 #[derive(Clone, Copy, Debug)]

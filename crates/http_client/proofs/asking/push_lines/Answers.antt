@@ -1,4 +1,4 @@
-use Rattle.std.proofs.Common.{◌≡◌, sym, ◌∙◌, codes}
+use Rattle.std.proofs.Common.{sym, ◌∙◌, codes}
 use Rattle.std.specs.Fmt.{decimal}
 use Rattle.http_client.proofs.Pieces.{three_pieces}
 use Rattle.http_client.proofs.asking.push_lines.Goals as goal

@@ -1,6 +1,6 @@
-use Rattle.std.proofs.Common.{◌≡◌, ap, Err}
-use Rattle.http_front.proofs.Looks.{Front, front_of}
-use Rattle.http_client.proofs.AnswerLooks.{Found, err_at, found_at, long_at, part_at, refused_at, whole_at}
+use Rattle.std.proofs.Common.{ap, Err}
+use Rattle.http_front.proofs.Looks.{front_of}
+use Rattle.http_client.proofs.AnswerLooks.{err_at, found_at, long_at, part_at, refused_at, whole_at}
 use Rattle.http_client.proofs.looking.look_at_answer.Goals as goal
 
 pub returns-in-Some : goal.returns-in-Some

@@ -1,4 +1,4 @@
-use Rattle.std.proofs.Common.{◌≡◌, [], ◌++◌, ap, sym, ◌∙◌, append_assoc, append-nil, arith}
+use Rattle.std.proofs.Common.{[], ◌++◌, ap, sym, ◌∙◌, append_assoc, append-nil, arith}
 use Rattle.io_edge.specs.Edge.{and_then_left}
 use Rattle.io_edge.proofs.Told.{left_more, left_nothing}
 use Rattle.http_client.proofs.reading.read_answer.Goals as goal
