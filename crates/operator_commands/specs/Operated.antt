@@ -23,17 +23,17 @@ sink_point holds faults s = record { holds = holds s; faults = faults s }
 -- ---- the request
 
 -- what follows a file that was read or not: without it nothing is asked
-abbrev pub IsAskedWith : OperatorCall → Result (List ℕ) Unanswered → LinkPoint → LinkPoint → Result ServerAnswer Unanswered → Type 0
-IsAskedWith call (Err why) old new answer = (answer ≡ Err why) × (new ≡ old)
-IsAskedWith call (Ok file) old new answer =
+abbrev pub IsAskedAfter : OperatorCall → Result (List ℕ) Unanswered → LinkPoint → LinkPoint → Result ServerAnswer Unanswered → Type 0
+IsAskedAfter call (Err why) old new answer = (answer ≡ Err why) × (new ≡ old)
+IsAskedAfter call (Ok file) old new answer =
     ((answer ≡ Err fault.NoMemory) × (new ≡ old)) ⊎ Exchanged call.server (call_bytes call file) old new answer
 
 -- A command first reads its file, if it has one, and then asks its server.
-pub record IsAsked (call : OperatorCall) (files : List ℕ → Option (Option (List ℕ))) (faults faults_after : ℕ) (old new : LinkPoint)
+pub record ServerAsked (call : OperatorCall) (files : List ℕ → Option (Option (List ℕ))) (faults faults_after : ℕ) (old new : LinkPoint)
     (answer : Result ServerAnswer Unanswered) : Type 0 where
   pub file : Result (List ℕ) Unanswered
   pub filed : IsFileRead (file_of call.command) files faults faults_after file
-  pub asked : IsAskedWith call file old new answer
+  pub asked : IsAskedAfter call file old new answer
 
 -- ---- the answer
 
@@ -113,7 +113,7 @@ operator_point files file_faults output output_faults errors error_faults left r
 -- One request was sent and its answer told, or why not; then the line of the status went to errors, which stood at `told` before it.
 pub record Operated (call : OperatorCall) (ended : Status) (old new : OperatorPoint) : Type 0 where
   pub answer : Result ServerAnswer Unanswered
-  pub asked : IsAsked call old.files old.file_faults new.file_faults old.link new.link answer
+  pub asked : ServerAsked call old.files old.file_faults new.file_faults old.link new.link answer
   pub told : SinkPoint
   pub is : IsEndOf answer ended old.output new.output old.errors told
   pub noted : Noted (command_line ended) false told.holds new.errors.holds told.faults new.errors.faults

@@ -1,7 +1,7 @@
 //! An operator's command.
 ghost use Rattle.std.specs.Prelude.{◌≡◌};
 ghost use Rattle.operator_commands.specs.Exchange.{link_point};
-ghost use Rattle.operator_commands.specs.Operated.{IsAsked, Operated, command_line, operator_point};
+ghost use Rattle.operator_commands.specs.Operated.{ServerAsked, Operated, command_line, operator_point};
 
 use crate::asking::call_bytes;
 use crate::exchanging::exchange;
@@ -23,7 +23,7 @@ fn ask_server<F: Files, L: Link>(
     link: &mut L,
 ) -> Result<ServerAnswer, Unanswered>
     ensures asked { let at = link_point L.left L.read_faults L.holds L.write_faults L.asked in
-        IsAsked call.now (F.holds files.old) (F.faults files.old) (F.faults files.new)
+        ServerAsked call.now (F.holds files.old) (F.faults files.old) (F.faults files.new)
         (at link.old) (at link.new) result }
 {
     let file = file_bytes(alloc, files, file_of(&call.command))?;
