@@ -1,30 +1,10 @@
-//! Cells as the values of a database, and back.
-use crate::fault::Fault;
+//! The values of a database as cells.
 use sqlite::Row;
 use sqlite::types::ValueRef;
 use std::alloc::Global;
 use std::str::from_utf8;
 use store_rows::Cell;
 use tail_base::{Bytes, Items, NoMemory, Text};
-
-/// The value that a cell is stored as.
-fn value_of(cell: &Cell) -> ValueRef<'_> {
-    match cell {
-        Cell::Null | Cell::Other => ValueRef::Null,
-        Cell::Number(n) => ValueRef::Int(*n),
-        Cell::Text(text) => ValueRef::Text(text.as_slice()),
-        Cell::Blob(bytes) => ValueRef::Blob(bytes.as_slice()),
-    }
-}
-
-/// The values that cells are stored as.
-pub(crate) fn values_of<'a>(alloc: Global, cells: &'a [Cell]) -> Result<Vec<ValueRef<'a>>, Fault> {
-    let mut values = Vec::new(alloc);
-    for cell in cells {
-        values.push(value_of(cell))?;
-    }
-    Ok(values)
-}
 
 /// The cell of a text's bytes.
 fn text_cell(alloc: Global, bytes: &[u8]) -> Result<Cell, NoMemory> {

@@ -1,18 +1,19 @@
 //! A keeper over a connection to a database.
 ghost use Rattle.std.specs.Prelude.{◌≡◌, ◌≤◌, None, Err, false, IsTrue, OnOk, OnErr, IsErrOf};
 ghost use Rattle.io_edge.specs.Edge.{Rose};
-ghost use Rattle.keeper_sqlite.specs.Pending.{IsSettled, Leaves};
+ghost use Rattle.net_rows.specs.Rows.{after};
+ghost use Rattle.store_commits.specs.Kept.{Makes};
+ghost use Rattle.store_commits.specs.Pending.{IsSettled, Leaves};
 ghost use Rattle.sqlite.specs.Held.{state};
 ghost use Rattle.sqlite.specs.State.{HasCleanDisk};
 
-use crate::commit::commit;
-use crate::fault::Fault;
 use crate::load::load;
 use io_edge::EdgeFault;
 use net_rows::{Change, Tables};
 use row_keeper::{Keeper, LoadFault};
 use sqlite::{Alter, Connection};
 use std::alloc::Global;
+use store_commits::{Fault, commit};
 
 /// Keeps the tables in the database of a connection. Before it has loaded them it takes no change.
 #[derive(Drop)]
@@ -69,6 +70,9 @@ impl<S: Alter> SqliteKeeper<S> {
             → (result ≡ Err EdgeFault.Failed) × (self.new.conn ≡ self.old.conn) }
         ensures ok { HasCleanDisk (state S.Store self.new.conn)
             → OnOk result (IsSettled (state S.Store self.new.conn)) }
+        ensures made { HasCleanDisk (state S.Store self.new.conn) → OnOk result (Makes
+            (state S.Store self.old.conn).now (state S.Store self.new.conn).now
+            (λ rows. after rows change.now)) }
         ensures err { HasCleanDisk (state S.Store self.new.conn)
             → OnErr result (Leaves (state S.Store self.old.conn) (state S.Store self.new.conn)) }
         ensures calls { self.new.calls ≡ self.old.calls }

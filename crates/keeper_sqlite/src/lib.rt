@@ -2,15 +2,12 @@
 #![tactic(auto)]
 
 mod cells;
-mod commit;
-mod create;
-mod fault;
 mod forms;
 mod host_keeper;
 mod host_opener;
 mod keeper;
-mod kept;
 mod load;
+mod loaded;
 mod opener;
 mod schema;
 mod sql;

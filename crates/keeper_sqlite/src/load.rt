@@ -4,9 +4,7 @@ ghost use Rattle.sqlite.specs.Held.{state};
 ghost use Rattle.store_texts.specs.Schema.{schema_1};
 
 use crate::cells::cells_of;
-use crate::create::{FIRST, create};
-use crate::fault::Fault;
-use crate::kept::Kept;
+use crate::loaded::Loaded;
 use crate::schema::{is_empty, is_schema_1};
 use crate::sql::rows_of;
 use net_rows::{Counters, Damage, Kind, Rows, Tables};
@@ -14,6 +12,7 @@ use row_keeper::LoadFault;
 use sqlite::types::ValueRef;
 use sqlite::{Alter, Connection, Row};
 use std::alloc::Global;
+use store_commits::{FIRST, Fault, create};
 use store_rows::{read_extra, read_meta, read_policy_text};
 use store_texts::{select_extras, select_meta, select_policy};
 use tail_base::{Items, Text};
@@ -33,13 +32,13 @@ fn id_of(row: &Row) -> u32 {
 }
 
 /// The row of an id that stands so in the database, if it is one.
-fn read_row<T: Kept>(alloc: Global, row: &Row) -> Result<Option<T>, Fault> {
+fn read_row<T: Loaded>(alloc: Global, row: &Row) -> Result<Option<T>, Fault> {
     let cells = cells_of(alloc, row)?;
     Ok(T::read(alloc, cells.as_slice())?)
 }
 
 /// The rows of a kind; the first that is no stored row is damaged.
-fn rows_in<T: Kept>(alloc: Global, rows: &[Row]) -> Result<Items<T>, LoadFault> {
+fn rows_in<T: Loaded>(alloc: Global, rows: &[Row]) -> Result<Items<T>, LoadFault> {
     let mut all = Items::new(alloc);
     for row in rows {
         let Some(read) = read_row(alloc, row)? else {
@@ -56,7 +55,7 @@ fn rows_in<T: Kept>(alloc: Global, rows: &[Row]) -> Result<Items<T>, LoadFault> 
 }
 
 /// The rows of a kind that the database keeps.
-fn read_all<T: Kept, S: Alter>(
+fn read_all<T: Loaded, S: Alter>(
     conn: &mut Connection<S>,
     alloc: Global,
 ) -> Result<Items<T>, LoadFault> {

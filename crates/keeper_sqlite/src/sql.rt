@@ -1,23 +1,6 @@
 //! Calls of the store, one a function.
-ghost use Rattle.std.specs.Prelude.{◌≡◌, is_ok};
-ghost use Rattle.keeper_sqlite.specs.Pending.{IsPending};
-
-use crate::fault::Fault;
-use sqlite::types::ValueRef;
-use sqlite::{Alter, Connection, Row, Transaction};
-
-/// Runs a statement that shows no rows, and says how many rows it changed.
-#[tactic(auto, using(crate::proofs::Pending::ran))]
-pub(crate) fn run<S: Alter>(
-    tx: &mut Transaction<'_, S>,
-    text: &str,
-    values: &[ValueRef<'_>],
-) -> Result<usize, Fault>
-    ensures same_reference { tx.new.conn.ghost_name ≡ tx.old.conn.ghost_name }
-    ensures pending { IsPending S.Store tx.old.conn.now tx.new.conn.now (is_ok result) }
-{
-    Ok(tx.execute(text, values)?)
-}
+use sqlite::{Alter, Connection, Row};
+use store_commits::Fault;
 
 /// The rows that a statement without parameters shows, in its order.
 pub(crate) fn rows_of<S: Alter>(conn: &mut Connection<S>, text: &str) -> Result<Vec<Row>, Fault> {

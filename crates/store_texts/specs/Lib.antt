@@ -3,3 +3,4 @@ pub mod Means
 pub mod Schema
 pub mod Texts
 pub mod Ran
+pub mod Standing

@@ -7,7 +7,7 @@ use tail_base::NoMemory;
 
 /// Why the store did nothing.
 #[derive(Clone, Copy, Debug, PartialEq, Eq, Drop)]
-pub(crate) enum Fault {
+pub enum Fault {
     /// A statement failed.
     Failed,
     /// Memory was refused.

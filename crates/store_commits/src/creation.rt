@@ -1,8 +1,8 @@
 //! The tables of a database that has none.
 ghost use Rattle.std.specs.Prelude.{◌≡◌, is_ok};
-ghost use Rattle.keeper_sqlite.specs.Pending.{IsPending};
+ghost use Rattle.store_commits.specs.Pending.{IsPending};
 
-use crate::commit::put_next;
+use crate::commits::put_next;
 use crate::fault::Fault;
 use crate::sql::run;
 use net_rows::Counters;
@@ -14,7 +14,7 @@ use store_texts::{
 };
 
 /// The first id of each kind.
-pub(crate) const FIRST: Counters = Counters {
+pub const FIRST: Counters = Counters {
     user: 1,
     key: 1,
     pending: 1,
@@ -42,7 +42,7 @@ fn make_tables<S: Alter>(tx: &mut Transaction<'_, S>) -> Result<(), Fault>
 }
 
 /// Makes the tables, all empty but for the counters, which are 1, in one transaction.
-pub(crate) fn create<S: Alter>(conn: &mut Connection<S>, alloc: Global) -> Result<(), Fault> {
+pub fn create<S: Alter>(conn: &mut Connection<S>, alloc: Global) -> Result<(), Fault> {
     if !conn.is_autocommit() {
         return Err(Fault::Failed);
     }

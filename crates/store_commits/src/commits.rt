@@ -1,15 +1,20 @@
 //! A change of the tables as one transaction.
-ghost use Rattle.std.specs.Prelude.{◌≡◌, is_ok, OnOk, OnErr};
+ghost use Rattle.std.specs.Prelude.{◌≡◌, ◌∷◌, [], pos, map, is_ok, OnOk, OnErr};
+ghost use Rattle.net_rows.specs.Rows.{after, put as put_of, put_all as put_all_of, take_all_out, take_out};
+ghost use Rattle.store_rows.specs.Rows.{extra_cells, meta_cells, policy_cells};
+ghost use Rattle.store_texts.specs.Texts.{insert_meta_text, insert_policy_text, update_meta_text, update_policy_text};
 ghost use Rattle.sqlite.specs.State.{HasCleanDisk};
 ghost use Rattle.sqlite.specs.Held.{state};
-ghost use Rattle.keeper_sqlite.specs.Pending.{IsPending, IsSettled, Leaves};
+ghost use Rattle.store_texts.specs.Ran.{IsPutBy};
+ghost use Rattle.store_commits.specs.Gone.{gone_text, gone_id};
+ghost use Rattle.store_commits.specs.Kept.{IsAdded, Makes, value_of};
+ghost use Rattle.store_commits.specs.Pending.{IsPending, IsSettled, Leaves};
 
-use crate::cells::values_of;
+use crate::values::{id_value, values_of};
 use crate::fault::Fault;
 use crate::kept::Kept;
 use crate::sql::run;
 use net_rows::{Change, Counters, Row, RowKey};
-use sqlite::types::ValueRef;
 use sqlite::{Alter, Connection, Transaction};
 use std::alloc::Global;
 use store_rows::{Cell, write_extra, write_meta, write_policy_text};
@@ -20,19 +25,31 @@ use store_texts::{
 use tail_base::Text;
 use tailcfg::DnsExtra;
 
+/// The text that takes out a row of this kind, and the id that it is given.
+fn goes_by(gone: RowKey) -> (&'static str, u32)
+    ensures text { result.0.now ≡ gone_text gone }
+    ensures id { result.1 ≡ gone_id gone }
+{
+    match gone {
+        RowKey::User(id) => (delete_users(), id),
+        RowKey::Key(id) => (delete_auth_keys(), id),
+        RowKey::Pending(id) => (delete_pending(), id),
+        RowKey::Machine(id) => (delete_machines(), id),
+    }
+}
+
 /// Takes out the row of an id.
 #[tactic(auto, using(crate::proofs::Pending::nothing, crate::proofs::Pending::then))]
 fn remove<S: Alter>(tx: &mut Transaction<'_, S>, gone: RowKey) -> Result<(), Fault>
     ensures same_reference { tx.new.conn.ghost_name ≡ tx.old.conn.ghost_name }
     ensures pending { IsPending S.Store tx.old.conn.now tx.new.conn.now (is_ok result) }
+    ensures made { HasCleanDisk (state S.Store tx.new.conn.now) → OnOk result (Makes
+        (state S.Store tx.old.conn.now).now (state S.Store tx.new.conn.now).now
+        (λ rows. take_out rows gone)) }
 {
-    let (text, id) = match gone {
-        RowKey::User(id) => (delete_users(), id),
-        RowKey::Key(id) => (delete_auth_keys(), id),
-        RowKey::Pending(id) => (delete_pending(), id),
-        RowKey::Machine(id) => (delete_machines(), id),
-    };
-    run(tx, text, &[ValueRef::Int(i64::from(id))])?;
+    let (text, id) = goes_by(gone);
+    let value = id_value(id);
+    run(tx, text, &[value])?;
     Ok(())
 }
 
@@ -40,6 +57,9 @@ fn remove<S: Alter>(tx: &mut Transaction<'_, S>, gone: RowKey) -> Result<(), Fau
 fn remove_all<S: Alter>(tx: &mut Transaction<'_, S>, gone: &[RowKey]) -> Result<(), Fault>
     ensures same_reference { tx.new.conn.ghost_name ≡ tx.old.conn.ghost_name }
     ensures pending { IsPending S.Store tx.old.conn.now tx.new.conn.now (is_ok result) }
+    ensures made { HasCleanDisk (state S.Store tx.new.conn.now) → OnOk result (Makes
+        (state S.Store tx.old.conn.now).now (state S.Store tx.new.conn.now).now
+        (λ rows. take_all_out rows gone.now)) }
 {
     for key in gone {
         remove(tx, *key)?;
@@ -58,11 +78,16 @@ fn put_cells<S: Alter>(
 ) -> Result<(), Fault>
     ensures same_reference { tx.new.conn.ghost_name ≡ tx.old.conn.ghost_name }
     ensures pending { IsPending S.Store tx.old.conn.now tx.new.conn.now (is_ok result) }
+    ensures put { HasCleanDisk (state S.Store tx.new.conn.now) → OnOk result (IsPutBy update.now insert.now
+        (map value_of cells.now)
+        (state S.Store tx.old.conn.now).now (state S.Store tx.new.conn.now).now) }
 {
     let values = values_of(alloc, cells)?;
-    if run(tx, update, values.as_slice())? == 0 {
-        run(tx, insert, values.as_slice())?;
+    let replaced = run(tx, update, values.as_slice())?;
+    if replaced > 0 {
+        return Ok(());
     }
+    run(tx, insert, values.as_slice())?;
     Ok(())
 }
 
@@ -71,6 +96,9 @@ fn put_cells<S: Alter>(
 fn put<T: Kept, S: Alter>(tx: &mut Transaction<'_, S>, alloc: Global, row: &T) -> Result<(), Fault>
     ensures same_reference { tx.new.conn.ghost_name ≡ tx.old.conn.ghost_name }
     ensures pending { IsPending S.Store tx.old.conn.now tx.new.conn.now (is_ok result) }
+    ensures put { HasCleanDisk (state S.Store tx.new.conn.now) → OnOk result (IsPutBy T.update_text T.insert_text
+        (map value_of (T.cells row.now))
+        (state S.Store tx.old.conn.now).now (state S.Store tx.new.conn.now).now) }
 {
     let cells = row.write(alloc)?;
     put_cells(tx, alloc, T::update(), T::insert(), cells.as_slice())
@@ -86,6 +114,9 @@ fn add_extra<S: Alter>(
 ) -> Result<(), Fault>
     ensures same_reference { tx.new.conn.ghost_name ≡ tx.old.conn.ghost_name }
     ensures pending { IsPending S.Store tx.old.conn.now tx.new.conn.now (is_ok result) }
+    ensures added { HasCleanDisk (state S.Store tx.new.conn.now) → OnOk result (IsAdded
+        (map value_of (extra_cells place extra.now))
+        (state S.Store tx.old.conn.now).now (state S.Store tx.new.conn.now).now) }
 {
     let cells = write_extra(alloc, place, extra)?;
     let values = values_of(alloc, cells.as_slice())?;
@@ -102,12 +133,16 @@ fn put_extras<S: Alter>(
 ) -> Result<(), Fault>
     ensures same_reference { tx.new.conn.ghost_name ≡ tx.old.conn.ghost_name }
     ensures pending { IsPending S.Store tx.old.conn.now tx.new.conn.now (is_ok result) }
+    ensures made { HasCleanDisk (state S.Store tx.new.conn.now) → OnOk result (Makes
+        (state S.Store tx.old.conn.now).now (state S.Store tx.new.conn.now).now
+        (λ rows. record rows { extras = extras.now })) }
 {
     run(tx, clear_extras(), &[])?;
-    let mut place = 0u32;
+    let mut last = 0u32;
     for extra in extras {
-        place = place.saturating_add(1);
+        let place = last.checked_add(1).ok_or(Fault::Failed)?;
         add_extra(tx, alloc, place, extra)?;
+        last = place;
     }
     Ok(())
 }
@@ -120,6 +155,9 @@ fn put_policy<S: Alter>(
 ) -> Result<(), Fault>
     ensures same_reference { tx.new.conn.ghost_name ≡ tx.old.conn.ghost_name }
     ensures pending { IsPending S.Store tx.old.conn.now tx.new.conn.now (is_ok result) }
+    ensures put { HasCleanDisk (state S.Store tx.new.conn.now) → OnOk result (IsPutBy update_policy_text insert_policy_text
+        (map value_of (policy_cells text.now))
+        (state S.Store tx.old.conn.now).now (state S.Store tx.new.conn.now).now) }
 {
     let cells = write_policy_text(alloc, text)?;
     put_cells(
@@ -135,6 +173,9 @@ fn put_policy<S: Alter>(
 fn put_row<S: Alter>(tx: &mut Transaction<'_, S>, alloc: Global, row: &Row) -> Result<(), Fault>
     ensures same_reference { tx.new.conn.ghost_name ≡ tx.old.conn.ghost_name }
     ensures pending { IsPending S.Store tx.old.conn.now tx.new.conn.now (is_ok result) }
+    ensures made { HasCleanDisk (state S.Store tx.new.conn.now) → OnOk result (Makes
+        (state S.Store tx.old.conn.now).now (state S.Store tx.new.conn.now).now
+        (λ rows. put_of rows row.now)) }
 {
     match row {
         Row::User(user) => put(tx, alloc, user),
@@ -150,6 +191,9 @@ fn put_row<S: Alter>(tx: &mut Transaction<'_, S>, alloc: Global, row: &Row) -> R
 fn put_all<S: Alter>(tx: &mut Transaction<'_, S>, alloc: Global, puts: &[Row]) -> Result<(), Fault>
     ensures same_reference { tx.new.conn.ghost_name ≡ tx.old.conn.ghost_name }
     ensures pending { IsPending S.Store tx.old.conn.now tx.new.conn.now (is_ok result) }
+    ensures made { HasCleanDisk (state S.Store tx.new.conn.now) → OnOk result (Makes
+        (state S.Store tx.old.conn.now).now (state S.Store tx.new.conn.now).now
+        (λ rows. put_all_of rows puts.now)) }
 {
     for row in puts {
         put_row(tx, alloc, row)?;
@@ -166,6 +210,9 @@ pub(crate) fn put_next<S: Alter>(
 ) -> Result<(), Fault>
     ensures same_reference { tx.new.conn.ghost_name ≡ tx.old.conn.ghost_name }
     ensures pending { IsPending S.Store tx.old.conn.now tx.new.conn.now (is_ok result) }
+    ensures put { HasCleanDisk (state S.Store tx.new.conn.now) → OnOk result (IsPutBy update_meta_text insert_meta_text
+        (map value_of (meta_cells next.now))
+        (state S.Store tx.old.conn.now).now (state S.Store tx.new.conn.now).now) }
 {
     let cells = write_meta(alloc, next)?;
     put_cells(tx, alloc, update_meta(), insert_meta(), cells.as_slice())
@@ -176,6 +223,9 @@ pub(crate) fn put_next<S: Alter>(
 fn write<S: Alter>(tx: &mut Transaction<'_, S>, alloc: Global, change: &Change) -> Result<(), Fault>
     ensures same_reference { tx.new.conn.ghost_name ≡ tx.old.conn.ghost_name }
     ensures pending { IsPending S.Store tx.old.conn.now tx.new.conn.now (is_ok result) }
+    ensures made { HasCleanDisk (state S.Store tx.new.conn.now) → OnOk result (Makes
+        (state S.Store tx.old.conn.now).now (state S.Store tx.new.conn.now).now
+        (λ rows. after rows change.now)) }
 {
     remove_all(tx, change.gone.as_slice())?;
     put_all(tx, alloc, change.puts.as_slice())?;
@@ -183,13 +233,16 @@ fn write<S: Alter>(tx: &mut Transaction<'_, S>, alloc: Global, change: &Change) 
 }
 
 /// Keeps the change in one transaction, which is rolled back where a statement fails.
-pub(crate) fn commit<S: Alter>(
+pub fn commit<S: Alter>(
     conn: &mut Connection<S>,
     alloc: Global,
     change: &Change,
 ) -> Result<(), Fault>
     ensures ok { HasCleanDisk (state S.Store conn.new)
         → OnOk result (IsSettled (state S.Store conn.new)) }
+    ensures made { HasCleanDisk (state S.Store conn.new) → OnOk result (Makes
+        (state S.Store conn.old).now (state S.Store conn.new).now
+        (λ rows. after rows change.now)) }
     ensures err { HasCleanDisk (state S.Store conn.new)
         → OnErr result (Leaves (state S.Store conn.old) (state S.Store conn.new)) }
 {

@@ -1,5 +1,5 @@
 -- Statements within a transaction, one behind the other.
-use Rattle.std.proofs.Common.{◌≡◌, ℕ, Bool, true, false, List, Ok, Err, Result, is_ok, IsTrue, inl, inr, refl, sym, subst, ◌∙◌, arith}
+use Rattle.std.proofs.Common.{◌≡◌, ℕ, Bool, true, false, List, Ok, Err, Result, is_ok, IfOk, IsTrue, inl, inr, refl, sym, subst, ◌∙◌, arith}
 use Rattle.std.proofs.lemmas.Bool.{cases_Bool, true≢false}
 use Rattle.sqlite.specs.Order.{Row}
 use Rattle.sqlite.specs.Store.{Ghosts}
@@ -10,7 +10,9 @@ use Rattle.sqlite.specs.State.{State, HasCleanDisk, KeepsCommit, Survives, Execu
 use Rattle.sqlite.specs.Steps.{FailsToCommit}
 use Rattle.sqlite.specs.Held.{Held, state}
 use Rattle.sqlite.proofs.StateLemmas.{survives_then}
-use Rattle.keeper_sqlite.specs.Pending.{IsPending}
+use Rattle.store_texts.specs.Ran.{HasRun}
+use Rattle.store_texts.proofs.Running.{ran_as_said}
+use Rattle.store_commits.specs.Pending.{IsPending}
 
 keeps_none : (s : State) → KeepsCommit s s
 keeps_none s = record { was_open = λ o. o; committed = λ _. refl }
@@ -38,6 +40,17 @@ ran g sql params old new r ended runs survives = record {
   inside = λ clean done was. stays_inside sql params (state g old) (state g new) r (runs clean was) done;
   survives = survives;
 }
+
+-- a statement that went well has run
+pub ran_well : {S : Type 0} (g : Ghosts S) (sql : List ℕ) (params : Row) (old new : Held S) (r : Result ℕ Error)
+    → (old.in_transaction ≡ false → (r ≡ Err (SqliteFailure TransactionState)) × (new ≡ old))
+    → (HasCleanDisk (state g new) → IsTrue old.in_transaction → ExecutesInside 0 sql params (state g old) (state g new) r)
+    → HasCleanDisk (state g new) → IfOk r (λ count. HasRun sql params count (state g old).now (state g new).now)
+ran_well g sql params old new (Err e) ended runs clean = tt
+ran_well g sql params old new (Ok count) ended runs clean = elim (cases_Bool old.in_transaction) [
+  | inl opened ↦ ran_as_said sql params count (state g old) (state g new) (runs clean opened).0
+  | inr shut ↦ absurd (let e = (ended shut).0 in cc)
+]
 
 pub keeps_then : (a b c : State) → KeepsCommit a b → KeepsCommit b c → KeepsCommit a c
 keeps_then a b c p q = record { was_open = λ o. p.was_open (q.was_open o); committed = λ o. q.committed o ∙ p.committed (q.was_open o) }

@@ -1,0 +1,4 @@
+pub mod KeptChange
+pub mod KeptLists
+pub mod KeptSteps
+pub mod Pending
