@@ -68,3 +68,7 @@ Makes old new f = (rows : Rows) → Keeps old rows → Keeps new (f rows)
 -- an INSERT of an extra record ran with these values
 abbrev pub IsAdded : Row → Database → Database → Type 0
 IsAdded values old new = (count : ℕ) × HasRun insert_extras_text values count old new
+
+-- The trees hold what is made of the rows that the database keeps, whatever they are.
+abbrev pub HoldsMade : Database → (Rows → Rows) → Trees → Type 0
+HoldsMade old f trees = (rows : Rows) → Keeps old rows → AreStored trees (f rows)

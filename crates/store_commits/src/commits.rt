@@ -3,11 +3,11 @@ ghost use Rattle.std.specs.Prelude.{◌≡◌, ◌∷◌, [], pos, map, is_ok, O
 ghost use Rattle.net_rows.specs.Rows.{after, put as put_of, put_all as put_all_of, take_all_out, take_out};
 ghost use Rattle.store_rows.specs.Rows.{extra_cells, meta_cells, policy_cells};
 ghost use Rattle.store_texts.specs.Texts.{insert_meta_text, insert_policy_text, update_meta_text, update_policy_text};
-ghost use Rattle.sqlite.specs.State.{HasCleanDisk};
+ghost use Rattle.sqlite.specs.State.{HasCleanDisk, Survives};
 ghost use Rattle.sqlite.specs.Held.{state};
 ghost use Rattle.store_texts.specs.Ran.{IsPutBy};
 ghost use Rattle.store_commits.specs.Gone.{gone_text, gone_id};
-ghost use Rattle.store_commits.specs.Kept.{IsAdded, Makes, value_of};
+ghost use Rattle.store_commits.specs.Kept.{HoldsMade, IsAdded, Makes, value_of};
 ghost use Rattle.store_commits.specs.Pending.{IsPending, IsSettled, Leaves};
 
 use crate::values::{id_value, values_of};
@@ -245,6 +245,8 @@ pub fn commit<S: Alter>(
         (λ rows. after rows change.now)) }
     ensures err { HasCleanDisk (state S.Store conn.new)
         → OnErr result (Leaves (state S.Store conn.old) (state S.Store conn.new)) }
+    ensures crash { Survives (state S.Store conn.old) (state S.Store conn.new)
+        (HoldsMade (state S.Store conn.old).now (λ rows. after rows change.now)) }
 {
     if !conn.is_autocommit() {
         return Err(Fault::Failed);

@@ -8,7 +8,7 @@ ghost use Rattle.store_commits.specs.Pending.{IsPending};
 
 use crate::fault::Fault;
 use sqlite::types::ValueRef;
-use sqlite::{Alter, Connection, Row, Transaction};
+use sqlite::{Alter, Transaction};
 
 /// Runs a statement that shows no rows, and says how many rows it changed.
 #[tactic(auto, using(crate::proofs::Pending::ran))]
@@ -24,9 +24,4 @@ pub(crate) fn run<S: Alter>(
             (state S.Store tx.old.conn.now).now (state S.Store tx.new.conn.now).now) }
 {
     Ok(tx.execute(text, values)?)
-}
-
-/// The rows that a statement without parameters shows, in its order.
-pub(crate) fn rows_of<S: Alter>(conn: &mut Connection<S>, text: &str) -> Result<Vec<Row>, Fault> {
-    Ok(conn.query_all(text, &[])?)
 }

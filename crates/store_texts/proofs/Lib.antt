@@ -8,4 +8,5 @@ pub mod Deletes
 pub mod Inserts
 pub mod Meanings
 pub mod Selects
+pub mod Shows
 pub mod Updates
