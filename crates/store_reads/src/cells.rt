@@ -1,4 +1,9 @@
 //! The values of a database as cells.
+ghost use Rattle.std.specs.Prelude.{◌≡◌, map, IfOk};
+ghost use Rattle.sqlite_value.specs.Value.{owned};
+ghost use Rattle.sqlite_value.specs.declared.value.Value.TheVariants.{Text};
+ghost use Rattle.store_reads.specs.Readable.{cell_in};
+
 use sqlite::Row;
 use sqlite::types::ValueRef;
 use std::alloc::Global;
@@ -7,7 +12,9 @@ use store_rows::Cell;
 use tail_base::{Bytes, Items, NoMemory, Text};
 
 /// The cell of a text's bytes.
-fn text_cell(alloc: Global, bytes: &[u8]) -> Result<Cell, NoMemory> {
+fn text_cell(alloc: Global, bytes: &[u8]) -> Result<Cell, NoMemory>
+    ensures value { IfOk result (λ made. made ≡ cell_in (Text bytes.now)) }
+{
     match from_utf8(bytes) {
         Ok(text) => Ok(Cell::Text(Text::from_str(alloc, text)?)),
         Err(_) => Ok(Cell::Other),
@@ -15,7 +22,9 @@ fn text_cell(alloc: Global, bytes: &[u8]) -> Result<Cell, NoMemory> {
 }
 
 /// The cell that stands for a value.
-fn cell_of(alloc: Global, value: ValueRef<'_>) -> Result<Cell, NoMemory> {
+fn cell_of(alloc: Global, value: ValueRef<'_>) -> Result<Cell, NoMemory>
+    ensures value { IfOk result (λ made. made ≡ cell_in (owned value)) }
+{
     match value {
         ValueRef::Null => Ok(Cell::Null),
         ValueRef::Int(n) => Ok(Cell::Number(n)),
@@ -26,7 +35,9 @@ fn cell_of(alloc: Global, value: ValueRef<'_>) -> Result<Cell, NoMemory> {
 }
 
 /// The cells that stand for the values of a row.
-pub(crate) fn cells_of(alloc: Global, row: &Row) -> Result<Items<Cell>, NoMemory> {
+pub(crate) fn cells_of(alloc: Global, row: &Row) -> Result<Items<Cell>, NoMemory>
+    ensures value { IfOk result (λ made. made ≡ map cell_in row.now) }
+{
     let mut cells = Items::new(alloc);
     for at in 0..row.column_count() {
         if let Ok(value) = row.get_ref(at) {
