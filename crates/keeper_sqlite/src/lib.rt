@@ -1,16 +1,13 @@
 //! The tables of a tailnet in a SQLite database: keepers over a store, and what opens them.
 #![tactic(auto)]
 
-mod cells;
 mod forms;
 mod host_keeper;
 mod host_opener;
 mod keeper;
 mod load;
-mod loaded;
 mod opener;
 mod schema;
-mod sql;
 
 pub use host_keeper::HostKeeper;
 pub use host_opener::HostOpener;

@@ -1,12 +1,16 @@
 -- Readings, one behind the other.
 use Rattle.std.proofs.Common.{◌≡◌, ℕ, Bool, true, false, List, [], None, Ok, Err, Result, is_ok, IfOk, IsSome, IsTrue, inl, inr, refl, sym, ap, subst, ◌∙◌, arith}
+use Rattle.std.proofs.lemmas.Bool.{true≢false}
 use Rattle.sqlite_value.specs.Order.{Row}
 use Rattle.sqlite.specs.declared.error.Error.{Error}
+use Rattle.net_rows.specs.declared.rows.Rows.{Rows}
+use Rattle.sqlite.specs.Effect.{Database}
 use Rattle.sqlite.specs.Listing.{understood}
 use Rattle.sqlite.specs.State.{State, HasCleanDisk, Survives, Shown, CommitsShowing}
 use Rattle.sqlite.specs.Tree.{Trees}
 use Rattle.sqlite.proofs.Callers.{IsPlain}
 use Rattle.sqlite.proofs.StateLemmas.{survives_then}
+use Rattle.store_commits.specs.Kept.{Keeps}
 use Rattle.store_texts.specs.Schema.{schema_1}
 use Rattle.store_reads.specs.Seen.{IsSeen}
 
@@ -22,7 +26,8 @@ commits_nothing : (text : List ℕ) (old : State) (db : Trees) → IsPlain (unde
 unfolding CommitsShowing
 commits_nothing text old db plain h =
     let bare = subst IsPlain h.1.is plain in
-    absurd (rw bare.0 at h.2)
+    let some = (rw bare.0 at h.2).0 in
+    true≢false (sym some)
 
 -- what a query without RETURNING leaves
 pub seen_by : (text : List ℕ) (old new : State) (r : Result (List Row) Error) → IsPlain (understood schema_1 text)
@@ -65,3 +70,11 @@ seen_then a b c done one two =
       same = λ clean has so. two.same clean (there clean has) so ∙ mid clean has;
       survives = λ clean has. survives_then a b c _ _ (λ _. ⊥) (λ _ db none. none) (λ _ db none. none) (one.survives (two.clean clean) has) (two.survives clean (there clean has));
     }
+
+-- of a reading whose answer didn't serve
+pub seen_less : (a b : State) (done : Bool) → IsSeen a b true → IsSeen a b done
+seen_less a b done seen = record { clean = seen.clean; same = λ clean has _. seen.same clean has refl; survives = seen.survives }
+
+-- what a database keeps once it was read
+pub keeps_seen : (a b : State) (rows : Rows) → IsSeen a b true → HasCleanDisk b → Keeps a.now rows → Keeps b.now rows
+keeps_seen a b rows seen clean keeps = subst (λ (d : Database). Keeps d rows) (sym (seen.same clean keeps.schema refl)) keeps

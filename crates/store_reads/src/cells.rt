@@ -1,7 +1,7 @@
 //! The values of a database as cells.
 ghost use Rattle.std.specs.Prelude.{◌≡◌, map, IfOk};
 ghost use Rattle.sqlite_value.specs.Value.{owned};
-ghost use Rattle.sqlite_value.specs.declared.value.Value.TheVariants.{Text};
+ghost use Rattle.sqlite_value.specs.declared.value.Value.TheVariants as shape;
 ghost use Rattle.store_reads.specs.Readable.{cell_in};
 
 use sqlite::Row;
@@ -13,7 +13,7 @@ use tail_base::{Bytes, Items, NoMemory, Text};
 
 /// The cell of a text's bytes.
 fn text_cell(alloc: Global, bytes: &[u8]) -> Result<Cell, NoMemory>
-    ensures value { IfOk result (λ made. made ≡ cell_in (Text bytes.now)) }
+    ensures value { IfOk result (λ made. made ≡ cell_in (shape.Text bytes.now)) }
 {
     match from_utf8(bytes) {
         Ok(text) => Ok(Cell::Text(Text::from_str(alloc, text)?)),
@@ -23,7 +23,7 @@ fn text_cell(alloc: Global, bytes: &[u8]) -> Result<Cell, NoMemory>
 
 /// The cell that stands for a value.
 fn cell_of(alloc: Global, value: ValueRef<'_>) -> Result<Cell, NoMemory>
-    ensures value { IfOk result (λ made. made ≡ cell_in (owned value)) }
+    ensures value { IfOk result (λ made. made ≡ cell_in (owned value.entry)) }
 {
     match value {
         ValueRef::Null => Ok(Cell::Null),

@@ -1,5 +1,5 @@
 //! The rows of a kind, read from those that its table shows.
-ghost use Rattle.std.specs.Prelude.{◌≡◌, [], List, Some, map, is_ok, IfOk};
+ghost use Rattle.std.specs.Prelude.{◌≡◌, ◌∷◌, ◌++◌, [], List, Some, map, is_ok, IfOk};
 ghost use Rattle.std.specs.List.{AllByRecursion};
 ghost use Rattle.sqlite.specs.Given.{IsPlain};
 ghost use Rattle.sqlite.specs.Held.{state};
@@ -7,7 +7,7 @@ ghost use Rattle.sqlite.specs.Listing.{understood};
 ghost use Rattle.sqlite.specs.State.{HasCleanDisk, Shown};
 ghost use Rattle.sqlite_value.specs.Order.{Row};
 ghost use Rattle.store_texts.specs.Schema.{schema_1};
-ghost use Rattle.store_reads.specs.Readable.{IsOutside, IsReadable, Yields, shown_row};
+ghost use Rattle.store_reads.specs.Readable.{Fills, IsOutside, IsReadable, Yields, shown_row};
 ghost use Rattle.store_reads.specs.Seen.{IsSeen};
 
 use crate::cells::cells_of;
@@ -48,6 +48,24 @@ fn read_row<T: Loaded>(alloc: Global, row: &Row) -> Result<Option<T>, Fault>
     Ok(T::read(alloc, cells.as_slice())?)
 }
 
+/// Adds the row of a kind that this is, if it is one; else it is damaged.
+fn take_row<T: Loaded>(alloc: Global, row: &Row, all: &mut Items<T>) -> Result<(), LoadFault>
+    ensures read { (x : T) → row.now ≡ shown_row (T.stored x) → IsReadable T.stored T.Typed x
+        → Fills result (all.new ≡ all.old ++ x ∷ []) }
+{
+    match read_row(alloc, row) {
+        Ok(Some(read)) => match all.push(read) {
+            Ok(()) => Ok(()),
+            Err(_) => Err(LoadFault::NoMemory),
+        },
+        Ok(None) => Err(LoadFault::Damaged {
+            kind: T::kind(),
+            id: id_of(row),
+        }),
+        Err(fault) => Err(load_fault(fault)),
+    }
+}
+
 /// The rows of a kind; the first that is no stored row is damaged.
 fn rows_in<T: Loaded>(alloc: Global, rows: &[Row]) -> Result<Items<T>, LoadFault>
     ensures read { (xs : List T) → rows.now ≡ map (λ x. shown_row (T.stored x)) xs
@@ -55,20 +73,7 @@ fn rows_in<T: Loaded>(alloc: Global, rows: &[Row]) -> Result<Items<T>, LoadFault
 {
     let mut all = Items::new(alloc);
     for row in rows {
-        match read_row(alloc, row) {
-            Ok(Some(read)) => {
-                if all.push(read).is_err() {
-                    return Err(LoadFault::NoMemory);
-                }
-            }
-            Ok(None) => {
-                return Err(LoadFault::Damaged {
-                    kind: T::kind(),
-                    id: id_of(row),
-                });
-            }
-            Err(fault) => return Err(load_fault(fault)),
-        }
+        take_row(alloc, row, &mut all)?;
     }
     Ok(all)
 }

@@ -1,5 +1,5 @@
 //! Counters, extra records and the policy, which have no ids.
-ghost use Rattle.std.specs.Prelude.{◌≡◌, ◌+◌, ◌∷◌, [], ℕ, true, List, Option, Some, None, map, is_ok, IfOk, IfSome};
+ghost use Rattle.std.specs.Prelude.{◌≡◌, ◌∷◌, ◌++◌, [], ℕ, true, List, Option, Some, map, is_ok, IfOk, IfSome};
 ghost use Rattle.std.specs.List.{AllByRecursion};
 ghost use Rattle.std.specs.Option.{option_to_list};
 ghost use Rattle.std.specs.Str.{is_utf8};
@@ -10,7 +10,7 @@ ghost use Rattle.sqlite.specs.State.{HasCleanDisk};
 ghost use Rattle.tailcfg.specs.declared.dns.DnsExtra.{DnsExtra};
 ghost use Rattle.store_commits.specs.Kept.{Keeps};
 ghost use Rattle.store_rows.specs.Rows.{IsTypedCounters, extra_cells, meta_cells, policy_cells};
-ghost use Rattle.store_reads.specs.Readable.{AreReadable, IsReadableExtra, Yields, shown_extras, shown_row};
+ghost use Rattle.store_reads.specs.Readable.{AreReadable, Fills, IsReadableExtra, Yields, shown_extras, shown_row};
 ghost use Rattle.store_reads.specs.Seen.{IsSeen};
 
 use crate::cells::cells_of;
@@ -81,6 +81,26 @@ fn extra_in(alloc: Global, place: u32, row: &Row) -> Result<Option<DnsExtra>, Fa
     Ok(read_extra(alloc, place, cells.as_slice())?)
 }
 
+/// Adds the extra record of a place that this is, if it is one; else the records are damaged.
+fn take_extra(
+    alloc: Global,
+    place: u32,
+    row: &Row,
+    extras: &mut Items<DnsExtra>,
+) -> Result<(), LoadFault>
+    ensures read { (x : DnsExtra) → row.now ≡ shown_row (extra_cells place x)
+        → IsReadableExtra x → Fills result (extras.new ≡ extras.old ++ x ∷ []) }
+{
+    match extra_in(alloc, place, row) {
+        Ok(Some(extra)) => match extras.push(extra) {
+            Ok(()) => Ok(()),
+            Err(_) => Err(LoadFault::NoMemory),
+        },
+        Ok(None) => Err(damaged(Kind::Extras)),
+        Err(fault) => Err(load_fault(fault)),
+    }
+}
+
 /// The extra records of these rows, whose places count from 1.
 fn extras_in(alloc: Global, rows: &[Row]) -> Result<Items<DnsExtra>, LoadFault>
     ensures read { (xs : List DnsExtra) → rows.now ≡ shown_extras 1 xs
@@ -92,15 +112,7 @@ fn extras_in(alloc: Global, rows: &[Row]) -> Result<Items<DnsExtra>, LoadFault>
         let Some(place) = last.checked_add(1) else {
             return Err(LoadFault::Failed);
         };
-        match extra_in(alloc, place, row) {
-            Ok(Some(extra)) => {
-                if extras.push(extra).is_err() {
-                    return Err(LoadFault::NoMemory);
-                }
-            }
-            Ok(None) => return Err(damaged(Kind::Extras)),
-            Err(fault) => return Err(load_fault(fault)),
-        }
+        take_extra(alloc, place, row, &mut extras)?;
         last = place;
     }
     Ok(extras)

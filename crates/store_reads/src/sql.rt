@@ -18,5 +18,8 @@ pub fn rows_of<S: Alter>(conn: &mut Connection<S>, text: &str) -> Result<Vec<Row
     ensures seen { IsPlain (understood schema_1 text.now)
         → IsSeen (state S.Store conn.old) (state S.Store conn.new) (is_ok result) }
 {
-    Ok(conn.query_all(text, &[])?)
+    match conn.query_all(text, &[]) {
+        Ok(rows) => Ok(rows),
+        Err(error) => Err(Fault::from(error)),
+    }
 }

@@ -4,6 +4,7 @@ pub mod Running
 pub mod Writes
 pub mod Puts
 pub mod Places
+pub mod Creates
 pub mod Deletes
 pub mod Inserts
 pub mod Meanings

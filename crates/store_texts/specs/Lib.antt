@@ -4,3 +4,4 @@ pub mod Schema
 pub mod Texts
 pub mod Ran
 pub mod Standing
+pub mod Making
