@@ -44,7 +44,9 @@ pub record IsExtraAt (place : ℕ) (xs : List DnsExtra) (i : ℕ) (r : Row) : Ty
 
 pub extra_at : (place : ℕ) (xs : List DnsExtra) (i : ℕ) (r : Row) → i < length (shown_extras place xs) → r ≡ get_or (shown_extras place xs) i r → AllByRecursion IsReadableExtra xs → IsExtraAt place xs i r
 extra_at place [] i r less is all = absurd (omega (arith, less))
-extra_at place (x ∷ xs) zero r less is all = record { it = x; is = is; keeps = all.0; next = refl }
+extra_at place (x ∷ xs) zero r less is all =
+    let here : place ≡ 0 + place = omega arith in
+    record { it = x; is = is ∙ ap (λ n. shown_row (extra_cells n x)) here; keeps = all.0; next = refl }
 extra_at place (x ∷ xs) (suc i) r less is all =
     let later = extra_at (place + 1) xs i r (omega (arith, less)) is all.1 in
     let on : suc i + 1 ≡ suc (i + 1) = omega arith in

@@ -26,8 +26,7 @@ commits_nothing : (text : List ℕ) (old : State) (db : Trees) → IsPlain (unde
 unfolding CommitsShowing
 commits_nothing text old db plain h =
     let bare = subst IsPlain h.1.is plain in
-    let some = (rw bare.0 at h.2).0 in
-    true≢false (sym some)
+    true≢false (sym (rw bare.0 at h.2))
 
 -- what a query without RETURNING leaves
 pub seen_by : (text : List ℕ) (old new : State) (r : Result (List Row) Error) → IsPlain (understood schema_1 text)

@@ -39,7 +39,6 @@ fn id_of(row: &Row) -> u32 {
 }
 
 /// The row of an id that stands so in the database, if it is one.
-#[tactic(auto, using(crate::proofs::GivenBack::all_given_back))]
 fn read_row<T: Loaded>(alloc: Global, row: &Row) -> Result<Option<T>, Fault>
     ensures read { (x : T) → row.now ≡ shown_row (T.stored x) → IsReadable T.stored T.Typed x
         → IfOk result (λ found. found ≡ Some x) }
@@ -73,7 +72,10 @@ fn rows_in<T: Loaded>(alloc: Global, rows: &[Row]) -> Result<Items<T>, LoadFault
 {
     let mut all = Items::new(alloc);
     for row in rows {
-        take_row(alloc, row, &mut all)?;
+        match take_row(alloc, row, &mut all) {
+            Ok(()) => {}
+            Err(fault) => return Err(fault),
+        }
     }
     Ok(all)
 }

@@ -112,7 +112,10 @@ fn extras_in(alloc: Global, rows: &[Row]) -> Result<Items<DnsExtra>, LoadFault>
         let Some(place) = last.checked_add(1) else {
             return Err(LoadFault::Failed);
         };
-        take_extra(alloc, place, row, &mut extras)?;
+        match take_extra(alloc, place, row, &mut extras) {
+            Ok(()) => {}
+            Err(fault) => return Err(fault),
+        }
         last = place;
     }
     Ok(extras)
