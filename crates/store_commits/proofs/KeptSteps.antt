@@ -84,7 +84,7 @@ pub user_put : (old new : Database) (x : User) → IsPutBy update_users_text ins
 user_put old new x put rows was =
     let key = λ (r : User). r.id in
     let set = puts_row 1 1 (drop 1 users_table.columns) users_place x.id (drop 1 (map value_of (user_cells x))) (refl, tt) key user_rest rows.users update_users_text insert_users_text _ _ _ old new
-        was.schema was.stored.users update_users_means insert_users_means (λ row. refl) refl put in
+    was.schema was.stored.users update_users_means insert_users_means (λ row. refl) refl put in
     set_users old new rows (put_row key rows.users x) was (resets _ _ _ _ old new (put_in_place key user_rest x rows.users was.ordered.users) set)
     (record { users = IsAscending-put key rows.users x was.ordered.users; keys = was.ordered.keys; pending = was.ordered.pending; machines = was.ordered.machines })
 
@@ -121,7 +121,7 @@ pub key_put : (old new : Database) (x : AuthKey) → IsPutBy update_auth_keys_te
 key_put old new x put rows was =
     let key = λ (r : AuthKey). r.id in
     let set = puts_row 2 3 (drop 1 auth_keys_table.columns) auth_keys_place x.id (drop 1 (map value_of (auth_key_cells x))) (refl, (cast_number (pos x.user), (truth_taken x.reusable, (truth_taken x.ephemeral, (truth_taken x.used, (expiry_taken x.expiry, (refl, tt))))))) key key_rest rows.keys update_auth_keys_text insert_auth_keys_text _ _ _ old new
-        was.schema was.stored.keys update_auth_keys_means insert_auth_keys_means (λ row. refl) refl put in
+    was.schema was.stored.keys update_auth_keys_means insert_auth_keys_means (λ row. refl) refl put in
     set_keys old new rows (put_row key rows.keys x) was (resets _ _ _ _ old new (put_in_place key key_rest x rows.keys was.ordered.keys) set)
     (record { users = was.ordered.users; keys = IsAscending-put key rows.keys x was.ordered.keys; pending = was.ordered.pending; machines = was.ordered.machines })
 
@@ -158,7 +158,7 @@ pub pending_put : (old new : Database) (x : Pending) → IsPutBy update_pending_
 pending_put old new x put rows was =
     let key = λ (r : Pending). r.id in
     let set = puts_row 3 5 (drop 1 pending_table.columns) pending_place x.id (drop 1 (map value_of (pending_cells x))) (refl, (refl, (refl, (refl, (refl, (refl, (truth_taken x.ephemeral, (expiry_taken x.expiry, (cast_number x.made, tt))))))))) key pending_rest rows.pending update_pending_text insert_pending_text _ _ _ old new
-        was.schema was.stored.pending update_pending_means insert_pending_means (λ row. refl) refl put in
+    was.schema was.stored.pending update_pending_means insert_pending_means (λ row. refl) refl put in
     set_pending old new rows (put_row key rows.pending x) was (resets _ _ _ _ old new (put_in_place key pending_rest x rows.pending was.ordered.pending) set)
     (record { users = was.ordered.users; keys = was.ordered.keys; pending = IsAscending-put key rows.pending x was.ordered.pending; machines = was.ordered.machines })
 
@@ -195,7 +195,7 @@ pub machine_put : (old new : Database) (x : Machine) → IsPutBy update_machines
 machine_put old new x put rows was =
     let key = λ (r : Machine). r.id in
     let set = puts_row 4 8 (drop 1 machines_table.columns) machines_place x.id (drop 1 (map value_of (machine_cells x))) (cast_number (pos x.user), (refl, (refl, (refl, (refl, (refl, (address_taken x.v4, (refl, (refl, (cast_number (pos x.derp), (refl, (refl, (refl, (truth_taken x.ephemeral, (expiry_taken x.expiry, (cast_number x.created, tt)))))))))))))))) key machine_rest rows.machines update_machines_text insert_machines_text _ _ _ old new
-        was.schema was.stored.machines update_machines_means insert_machines_means (λ row. refl) refl put in
+    was.schema was.stored.machines update_machines_means insert_machines_means (λ row. refl) refl put in
     set_machines old new rows (put_row key rows.machines x) was (resets _ _ _ _ old new (put_in_place key machine_rest x rows.machines was.ordered.machines) set)
     (record { users = was.ordered.users; keys = was.ordered.keys; pending = was.ordered.pending; machines = IsAscending-put key rows.machines x was.ordered.machines })
 
@@ -221,17 +221,17 @@ pub next_put : (old new : Database) (next : Counters) → IsPutBy update_meta_te
 next_put old new next put rows was =
     let key : Counters → ℕ = λ n. 1 in
     let set = puts_row 0 0 (drop 1 meta_table.columns) meta_place 1 (drop 1 (map value_of (meta_cells next))) (cast_number (pos 1), (cast_number (pos next.user), (cast_number (pos next.key), (cast_number (pos next.pending), (cast_number (pos next.machine), tt))))) key meta_rest (rows.next ∷ []) update_meta_text insert_meta_text _ _ _ old new
-        was.schema was.stored.meta update_meta_means insert_meta_means (λ row. refl) refl put in
+    was.schema was.stored.meta update_meta_means insert_meta_means (λ row. refl) refl put in
     record {
       schema = set.schema_is;
       stored = record {
-    meta = set.rows_are;
-    users = set.others.1.0 (λ (e : 1 ≡ 0). omega (arith, e)) ∙ was.stored.users;
-    keys = set.others.1.1.0 (λ (e : 3 ≡ 0). omega (arith, e)) ∙ was.stored.keys;
-    pending = set.others.1.1.1.0 (λ (e : 5 ≡ 0). omega (arith, e)) ∙ was.stored.pending;
-    machines = set.others.1.1.1.1.0 (λ (e : 8 ≡ 0). omega (arith, e)) ∙ was.stored.machines;
-    extras = set.others.1.1.1.1.1.0 (λ (e : 14 ≡ 0). omega (arith, e)) ∙ was.stored.extras;
-    policy = set.others.1.1.1.1.1.1.0 (λ (e : 15 ≡ 0). omega (arith, e)) ∙ was.stored.policy;
+        meta = set.rows_are;
+        users = set.others.1.0 (λ (e : 1 ≡ 0). omega (arith, e)) ∙ was.stored.users;
+        keys = set.others.1.1.0 (λ (e : 3 ≡ 0). omega (arith, e)) ∙ was.stored.keys;
+        pending = set.others.1.1.1.0 (λ (e : 5 ≡ 0). omega (arith, e)) ∙ was.stored.pending;
+        machines = set.others.1.1.1.1.0 (λ (e : 8 ≡ 0). omega (arith, e)) ∙ was.stored.machines;
+        extras = set.others.1.1.1.1.1.0 (λ (e : 14 ≡ 0). omega (arith, e)) ∙ was.stored.extras;
+        policy = set.others.1.1.1.1.1.1.0 (λ (e : 15 ≡ 0). omega (arith, e)) ∙ was.stored.policy;
       };
       ordered = record { users = was.ordered.users; keys = was.ordered.keys; pending = was.ordered.pending; machines = was.ordered.machines };
     }
@@ -251,18 +251,18 @@ pub policy_put : (old new : Database) (body : List ℕ) → IsPutBy update_polic
 policy_put old new body put rows was =
     let key : List ℕ → ℕ = λ b. 1 in
     let set = puts_row 6 15 (drop 1 policy_table.columns) policy_place 1 (Text body ∷ []) (refl, tt) key policy_rest (option_to_list rows.policy) update_policy_text insert_policy_text _ _ _ old new
-        was.schema (was.stored.policy ∙ policy_list rows.policy) update_policy_means insert_policy_means (λ row. refl) refl put in
+    was.schema (was.stored.policy ∙ policy_list rows.policy) update_policy_means insert_policy_means (λ row. refl) refl put in
     let alone = ap (λ l. put_tree (tree_row (policy_cells body)) (map (row_of key policy_rest) l)) (none_left rows.policy) in
     record {
       schema = set.schema_is;
       stored = record {
-    meta = set.others.0 (λ (e : 0 ≡ 15). omega (arith, e)) ∙ was.stored.meta;
-    users = set.others.1.0 (λ (e : 1 ≡ 15). omega (arith, e)) ∙ was.stored.users;
-    keys = set.others.1.1.0 (λ (e : 3 ≡ 15). omega (arith, e)) ∙ was.stored.keys;
-    pending = set.others.1.1.1.0 (λ (e : 5 ≡ 15). omega (arith, e)) ∙ was.stored.pending;
-    machines = set.others.1.1.1.1.0 (λ (e : 8 ≡ 15). omega (arith, e)) ∙ was.stored.machines;
-    extras = set.others.1.1.1.1.1.0 (λ (e : 14 ≡ 15). omega (arith, e)) ∙ was.stored.extras;
-    policy = set.rows_are ∙ alone;
+        meta = set.others.0 (λ (e : 0 ≡ 15). omega (arith, e)) ∙ was.stored.meta;
+        users = set.others.1.0 (λ (e : 1 ≡ 15). omega (arith, e)) ∙ was.stored.users;
+        keys = set.others.1.1.0 (λ (e : 3 ≡ 15). omega (arith, e)) ∙ was.stored.keys;
+        pending = set.others.1.1.1.0 (λ (e : 5 ≡ 15). omega (arith, e)) ∙ was.stored.pending;
+        machines = set.others.1.1.1.1.0 (λ (e : 8 ≡ 15). omega (arith, e)) ∙ was.stored.machines;
+        extras = set.others.1.1.1.1.1.0 (λ (e : 14 ≡ 15). omega (arith, e)) ∙ was.stored.extras;
+        policy = set.rows_are ∙ alone;
       };
       ordered = record { users = was.ordered.users; keys = was.ordered.keys; pending = was.ordered.pending; machines = was.ordered.machines };
     }

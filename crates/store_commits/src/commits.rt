@@ -10,10 +10,10 @@ ghost use Rattle.store_commits.specs.Gone.{gone_text, gone_id};
 ghost use Rattle.store_commits.specs.Kept.{HoldsMade, IsAdded, Makes, value_of};
 ghost use Rattle.store_commits.specs.Pending.{IsPending, IsSettled, Leaves};
 
-use crate::values::{id_value, values_of};
 use crate::fault::Fault;
 use crate::kept::Kept;
 use crate::sql::run;
+use crate::values::{id_value, values_of};
 use net_rows::{Change, Counters, Row, RowKey};
 use sqlite::{Alter, Connection, Transaction};
 use std::alloc::Global;
@@ -78,8 +78,8 @@ fn put_cells<S: Alter>(
 ) -> Result<(), Fault>
     ensures same_reference { tx.new.conn.ghost_name ≡ tx.old.conn.ghost_name }
     ensures pending { IsPending S.Store tx.old.conn.now tx.new.conn.now (is_ok result) }
-    ensures put { HasCleanDisk (state S.Store tx.new.conn.now) → OnOk result (IsPutBy update.now insert.now
-        (map value_of cells.now)
+    ensures put { HasCleanDisk (state S.Store tx.new.conn.now) → OnOk result (IsPutBy
+        update.now insert.now (map value_of cells.now)
         (state S.Store tx.old.conn.now).now (state S.Store tx.new.conn.now).now) }
 {
     let values = values_of(alloc, cells)?;
@@ -96,8 +96,8 @@ fn put_cells<S: Alter>(
 fn put<T: Kept, S: Alter>(tx: &mut Transaction<'_, S>, alloc: Global, row: &T) -> Result<(), Fault>
     ensures same_reference { tx.new.conn.ghost_name ≡ tx.old.conn.ghost_name }
     ensures pending { IsPending S.Store tx.old.conn.now tx.new.conn.now (is_ok result) }
-    ensures put { HasCleanDisk (state S.Store tx.new.conn.now) → OnOk result (IsPutBy T.update_text T.insert_text
-        (map value_of (T.cells row.now))
+    ensures put { HasCleanDisk (state S.Store tx.new.conn.now) → OnOk result (IsPutBy
+        T.update_text T.insert_text (map value_of (T.cells row.now))
         (state S.Store tx.old.conn.now).now (state S.Store tx.new.conn.now).now) }
 {
     let cells = row.write(alloc)?;
@@ -155,8 +155,8 @@ fn put_policy<S: Alter>(
 ) -> Result<(), Fault>
     ensures same_reference { tx.new.conn.ghost_name ≡ tx.old.conn.ghost_name }
     ensures pending { IsPending S.Store tx.old.conn.now tx.new.conn.now (is_ok result) }
-    ensures put { HasCleanDisk (state S.Store tx.new.conn.now) → OnOk result (IsPutBy update_policy_text insert_policy_text
-        (map value_of (policy_cells text.now))
+    ensures put { HasCleanDisk (state S.Store tx.new.conn.now) → OnOk result (IsPutBy
+        update_policy_text insert_policy_text (map value_of (policy_cells text.now))
         (state S.Store tx.old.conn.now).now (state S.Store tx.new.conn.now).now) }
 {
     let cells = write_policy_text(alloc, text)?;
@@ -210,8 +210,8 @@ pub(crate) fn put_next<S: Alter>(
 ) -> Result<(), Fault>
     ensures same_reference { tx.new.conn.ghost_name ≡ tx.old.conn.ghost_name }
     ensures pending { IsPending S.Store tx.old.conn.now tx.new.conn.now (is_ok result) }
-    ensures put { HasCleanDisk (state S.Store tx.new.conn.now) → OnOk result (IsPutBy update_meta_text insert_meta_text
-        (map value_of (meta_cells next.now))
+    ensures put { HasCleanDisk (state S.Store tx.new.conn.now) → OnOk result (IsPutBy
+        update_meta_text insert_meta_text (map value_of (meta_cells next.now))
         (state S.Store tx.old.conn.now).now (state S.Store tx.new.conn.now).now) }
 {
     let cells = write_meta(alloc, next)?;

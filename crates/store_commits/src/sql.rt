@@ -21,7 +21,7 @@ pub(crate) fn run<S: Alter>(
     ensures pending { IsPending S.Store tx.old.conn.now tx.new.conn.now (is_ok result) }
     ensures ran { HasCleanDisk (state S.Store tx.new.conn.now)
         → IfOk result (λ count. HasRun text.now (bound values.now) count
-            (state S.Store tx.old.conn.now).now (state S.Store tx.new.conn.now).now) }
+        (state S.Store tx.old.conn.now).now (state S.Store tx.new.conn.now).now) }
 {
     Ok(tx.execute(text, values)?)
 }

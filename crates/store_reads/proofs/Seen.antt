@@ -4,6 +4,7 @@ use Rattle.std.proofs.lemmas.Bool.{true≢false}
 use Rattle.sqlite_value.specs.Order.{Row}
 use Rattle.sqlite.specs.declared.error.Error.{Error}
 use Rattle.net_rows.specs.declared.rows.Rows.{Rows}
+use Rattle.sqlite_schema.specs.declared.schema.Schema.{Schema}
 use Rattle.sqlite.specs.Effect.{Database}
 use Rattle.sqlite.specs.Listing.{understood}
 use Rattle.sqlite.specs.State.{State, HasCleanDisk, Survives, Shown, CommitsShowing}
@@ -29,9 +30,9 @@ commits_nothing text old db plain h =
     true≢false (sym (rw bare.0 at h.2))
 
 -- what a query without RETURNING leaves
-pub seen_by : (text : List ℕ) (old new : State) (r : Result (List Row) Error) → IsPlain (understood schema_1 text)
-    → (HasCleanDisk new → IfOk r (λ rows. Shown text [] old new rows)) → Survives old new (CommitsShowing text [] old) → IsSeen old new (is_ok r)
-seen_by text old new r plain shown survives = record {
+pub seen_by : (schema : Schema) (text : List ℕ) (old new : State) (r : Result (List Row) Error) → IsPlain (understood schema text)
+    → (HasCleanDisk new → IfOk r (λ rows. Shown text [] old new rows)) → Survives old new (CommitsShowing text [] old) → IsSeen schema old new (is_ok r)
+seen_by schema text old new r plain shown survives = record {
   clean = λ clean. omega (arith, survives.clean, clean);
   same = λ clean has done. same_if r (shown clean) (subst (λ s. IsPlain (understood s text)) (sym has) plain) done;
   survives = λ clean has. record {
@@ -52,18 +53,18 @@ seen_by text old new r plain shown survives = record {
     same_if (Err e) h here done = absurd cc
 
 -- before the first reading
-pub seen_none : (s : State) (done : Bool) → IsSeen s s done
-seen_none s done = record {
+pub seen_none : (schema : Schema) (s : State) (done : Bool) → IsSeen schema s s done
+seen_none schema s done = record {
   clean = λ clean. clean;
   same = λ _ _ _. refl;
   survives = λ _ _. record { clean = omega arith; shield = λ h. h; counts = omega arith; limit = refl; closes = λ _ o. inl o; crash = λ _ db left. inl left };
 }
 
 -- what comes behind a reading that went well
-pub seen_then : (a b c : State) (done : Bool) → IsSeen a b true → IsSeen b c done → IsSeen a c done
-seen_then a b c done one two =
-    let mid : HasCleanDisk c → a.now.schema ≡ schema_1 → b.now ≡ a.now = λ clean has. one.same (two.clean clean) has refl in
-    let there : HasCleanDisk c → a.now.schema ≡ schema_1 → b.now.schema ≡ schema_1 = λ clean has. ap (λ d. d.schema) (mid clean has) ∙ has in
+pub seen_then : (schema : Schema) (a b c : State) (done : Bool) → IsSeen schema a b true → IsSeen schema b c done → IsSeen schema a c done
+seen_then schema a b c done one two =
+    let mid : HasCleanDisk c → a.now.schema ≡ schema → b.now ≡ a.now = λ clean has. one.same (two.clean clean) has refl in
+    let there : HasCleanDisk c → a.now.schema ≡ schema → b.now.schema ≡ schema = λ clean has. ap (λ d. d.schema) (mid clean has) ∙ has in
     record {
       clean = λ clean. one.clean (two.clean clean);
       same = λ clean has so. two.same clean (there clean has) so ∙ mid clean has;
@@ -71,9 +72,9 @@ seen_then a b c done one two =
     }
 
 -- of a reading whose answer didn't serve
-pub seen_less : (a b : State) (done : Bool) → IsSeen a b true → IsSeen a b done
-seen_less a b done seen = record { clean = seen.clean; same = λ clean has _. seen.same clean has refl; survives = seen.survives }
+pub seen_less : (schema : Schema) (a b : State) (done : Bool) → IsSeen schema a b true → IsSeen schema a b done
+seen_less schema a b done seen = record { clean = seen.clean; same = λ clean has _. seen.same clean has refl; survives = seen.survives }
 
 -- what a database keeps once it was read
-pub keeps_seen : (a b : State) (rows : Rows) → IsSeen a b true → HasCleanDisk b → Keeps a.now rows → Keeps b.now rows
+pub keeps_seen : (a b : State) (rows : Rows) → IsSeen schema_1 a b true → HasCleanDisk b → Keeps a.now rows → Keeps b.now rows
 keeps_seen a b rows seen clean keeps = subst (λ (d : Database). Keeps d rows) (sym (seen.same clean keeps.schema refl)) keeps

@@ -8,5 +8,6 @@ mod single;
 mod sql;
 mod whole;
 
+pub use listed::load_fault;
 pub use sql::rows_of;
 pub use whole::read_rows;

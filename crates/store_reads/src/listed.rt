@@ -21,7 +21,7 @@ use store_commits::Fault;
 use tail_base::Items;
 
 /// What it means for a load that the store did nothing.
-pub(crate) fn load_fault(fault: Fault) -> LoadFault
+pub fn load_fault(fault: Fault) -> LoadFault
     ensures outside { IsOutside result }
 {
     match fault {
@@ -86,7 +86,7 @@ pub(crate) fn read_all<T: Loaded, S: Alter>(
     alloc: Global,
 ) -> Result<Items<T>, LoadFault>
     ensures seen { IsPlain (understood schema_1 T.select_text)
-        → IsSeen (state S.Store conn.old) (state S.Store conn.new) (is_ok result) }
+        → IsSeen schema_1 (state S.Store conn.old) (state S.Store conn.new) (is_ok result) }
     ensures read { HasCleanDisk (state S.Store conn.new) → (xs : List T)
         → ((rows : List Row)
         → Shown T.select_text [] (state S.Store conn.old) (state S.Store conn.new) rows

@@ -10,6 +10,7 @@ ghost use Rattle.sqlite.specs.State.{HasCleanDisk};
 ghost use Rattle.tailcfg.specs.declared.dns.DnsExtra.{DnsExtra};
 ghost use Rattle.store_commits.specs.Kept.{Keeps};
 ghost use Rattle.store_rows.specs.Rows.{IsTypedCounters, extra_cells, meta_cells, policy_cells};
+ghost use Rattle.store_texts.specs.Schema.{schema_1};
 ghost use Rattle.store_reads.specs.Readable.{AreReadable, Fills, IsReadableExtra, Yields, shown_extras, shown_row};
 ghost use Rattle.store_reads.specs.Seen.{IsSeen};
 
@@ -61,7 +62,8 @@ pub(crate) fn read_next<S: Alter>(
     conn: &mut Connection<S>,
     alloc: Global,
 ) -> Result<Counters, LoadFault>
-    ensures seen { IsSeen (state S.Store conn.old) (state S.Store conn.new) (is_ok result) }
+    ensures seen { IsSeen schema_1 (state S.Store conn.old) (state S.Store conn.new)
+        (is_ok result) }
     ensures read { HasCleanDisk (state S.Store conn.new) → (all : Rows)
         → Keeps (state S.Store conn.old).now all → AreReadable all → Yields result all.next }
 {
@@ -126,7 +128,8 @@ pub(crate) fn read_extras<S: Alter>(
     conn: &mut Connection<S>,
     alloc: Global,
 ) -> Result<Items<DnsExtra>, LoadFault>
-    ensures seen { IsSeen (state S.Store conn.old) (state S.Store conn.new) (is_ok result) }
+    ensures seen { IsSeen schema_1 (state S.Store conn.old) (state S.Store conn.new)
+        (is_ok result) }
     ensures read { HasCleanDisk (state S.Store conn.new) → (all : Rows)
         → Keeps (state S.Store conn.old).now all → AreReadable all → Yields result all.extras }
 {
@@ -168,7 +171,8 @@ pub(crate) fn read_policy<S: Alter>(
     conn: &mut Connection<S>,
     alloc: Global,
 ) -> Result<Option<Text>, LoadFault>
-    ensures seen { IsSeen (state S.Store conn.old) (state S.Store conn.new) (is_ok result) }
+    ensures seen { IsSeen schema_1 (state S.Store conn.old) (state S.Store conn.new)
+        (is_ok result) }
     ensures read { HasCleanDisk (state S.Store conn.new) → (all : Rows)
         → Keeps (state S.Store conn.old).now all → AreReadable all → Yields result all.policy }
 {

@@ -4,7 +4,7 @@ ghost use Rattle.sqlite.specs.Given.{IsPlain};
 ghost use Rattle.sqlite.specs.Held.{state};
 ghost use Rattle.sqlite.specs.Listing.{understood};
 ghost use Rattle.sqlite.specs.State.{HasCleanDisk, Shown};
-ghost use Rattle.store_texts.specs.Schema.{schema_1};
+ghost use Rattle.sqlite_schema.specs.declared.schema.Schema.{Schema};
 ghost use Rattle.store_reads.specs.Seen.{IsSeen};
 
 use sqlite::{Alter, Connection, Row};
@@ -15,8 +15,8 @@ pub fn rows_of<S: Alter>(conn: &mut Connection<S>, text: &str) -> Result<Vec<Row
     ensures shown { HasCleanDisk (state S.Store conn.new)
         → IfOk result (λ rows. Shown text.now [] (state S.Store conn.old) (state S.Store conn.new)
         rows.items) }
-    ensures seen { IsPlain (understood schema_1 text.now)
-        → IsSeen (state S.Store conn.old) (state S.Store conn.new) (is_ok result) }
+    ensures seen { (schema : Schema) → IsPlain (understood schema text.now)
+        → IsSeen schema (state S.Store conn.old) (state S.Store conn.new) (is_ok result) }
 {
     match conn.query_all(text, &[]) {
         Ok(rows) => Ok(rows),

@@ -4,6 +4,7 @@ ghost use Rattle.net_rows.specs.declared.rows.Rows.{Rows};
 ghost use Rattle.sqlite.specs.Held.{state};
 ghost use Rattle.sqlite.specs.State.{HasCleanDisk};
 ghost use Rattle.store_commits.specs.Kept.{Keeps};
+ghost use Rattle.store_texts.specs.Schema.{schema_1};
 ghost use Rattle.store_reads.specs.Readable.{AreReadable, Fills, Yields};
 ghost use Rattle.store_reads.specs.Seen.{IsSeen};
 
@@ -17,11 +18,9 @@ use store_commits::FIRST;
 use tail_base::Items;
 
 /// The users that the database keeps.
-fn read_users<S: Alter>(
-    conn: &mut Connection<S>,
-    alloc: Global,
-) -> Result<Items<User>, LoadFault>
-    ensures seen { IsSeen (state S.Store conn.old) (state S.Store conn.new) (is_ok result) }
+fn read_users<S: Alter>(conn: &mut Connection<S>, alloc: Global) -> Result<Items<User>, LoadFault>
+    ensures seen { IsSeen schema_1 (state S.Store conn.old) (state S.Store conn.new)
+        (is_ok result) }
     ensures read { HasCleanDisk (state S.Store conn.new) → (all : Rows)
         → Keeps (state S.Store conn.old).now all → AreReadable all → Yields result all.users }
 {
@@ -29,11 +28,9 @@ fn read_users<S: Alter>(
 }
 
 /// The keys that the database keeps.
-fn read_keys<S: Alter>(
-    conn: &mut Connection<S>,
-    alloc: Global,
-) -> Result<Items<AuthKey>, LoadFault>
-    ensures seen { IsSeen (state S.Store conn.old) (state S.Store conn.new) (is_ok result) }
+fn read_keys<S: Alter>(conn: &mut Connection<S>, alloc: Global) -> Result<Items<AuthKey>, LoadFault>
+    ensures seen { IsSeen schema_1 (state S.Store conn.old) (state S.Store conn.new)
+        (is_ok result) }
     ensures read { HasCleanDisk (state S.Store conn.new) → (all : Rows)
         → Keeps (state S.Store conn.old).now all → AreReadable all → Yields result all.keys }
 {
@@ -45,7 +42,8 @@ fn read_pending_entries<S: Alter>(
     conn: &mut Connection<S>,
     alloc: Global,
 ) -> Result<Items<Pending>, LoadFault>
-    ensures seen { IsSeen (state S.Store conn.old) (state S.Store conn.new) (is_ok result) }
+    ensures seen { IsSeen schema_1 (state S.Store conn.old) (state S.Store conn.new)
+        (is_ok result) }
     ensures read { HasCleanDisk (state S.Store conn.new) → (all : Rows)
         → Keeps (state S.Store conn.old).now all → AreReadable all → Yields result all.pending }
 {
@@ -57,7 +55,8 @@ fn read_machines<S: Alter>(
     conn: &mut Connection<S>,
     alloc: Global,
 ) -> Result<Items<Machine>, LoadFault>
-    ensures seen { IsSeen (state S.Store conn.old) (state S.Store conn.new) (is_ok result) }
+    ensures seen { IsSeen schema_1 (state S.Store conn.old) (state S.Store conn.new)
+        (is_ok result) }
     ensures read { HasCleanDisk (state S.Store conn.new) → (all : Rows)
         → Keeps (state S.Store conn.old).now all → AreReadable all → Yields result all.machines }
 {
@@ -70,7 +69,8 @@ fn fill_policy<S: Alter>(
     alloc: Global,
     rows: &mut Rows,
 ) -> Result<(), LoadFault>
-    ensures seen { IsSeen (state S.Store conn.old) (state S.Store conn.new) (is_ok result) }
+    ensures seen { IsSeen schema_1 (state S.Store conn.old) (state S.Store conn.new)
+        (is_ok result) }
     ensures read { HasCleanDisk (state S.Store conn.new) → (all : Rows)
         → Keeps (state S.Store conn.old).now all → AreReadable all
         → Fills result (rows.new ≡ record rows.old {
@@ -87,7 +87,8 @@ fn fill_extras<S: Alter>(
     alloc: Global,
     rows: &mut Rows,
 ) -> Result<(), LoadFault>
-    ensures seen { IsSeen (state S.Store conn.old) (state S.Store conn.new) (is_ok result) }
+    ensures seen { IsSeen schema_1 (state S.Store conn.old) (state S.Store conn.new)
+        (is_ok result) }
     ensures read { HasCleanDisk (state S.Store conn.new) → (all : Rows)
         → Keeps (state S.Store conn.old).now all → AreReadable all
         → Fills result (rows.new ≡ record rows.old {
@@ -105,7 +106,8 @@ fn fill_machines<S: Alter>(
     alloc: Global,
     rows: &mut Rows,
 ) -> Result<(), LoadFault>
-    ensures seen { IsSeen (state S.Store conn.old) (state S.Store conn.new) (is_ok result) }
+    ensures seen { IsSeen schema_1 (state S.Store conn.old) (state S.Store conn.new)
+        (is_ok result) }
     ensures read { HasCleanDisk (state S.Store conn.new) → (all : Rows)
         → Keeps (state S.Store conn.old).now all → AreReadable all
         → Fills result (rows.new ≡ record rows.old {
@@ -124,7 +126,8 @@ fn fill_pending<S: Alter>(
     alloc: Global,
     rows: &mut Rows,
 ) -> Result<(), LoadFault>
-    ensures seen { IsSeen (state S.Store conn.old) (state S.Store conn.new) (is_ok result) }
+    ensures seen { IsSeen schema_1 (state S.Store conn.old) (state S.Store conn.new)
+        (is_ok result) }
     ensures read { HasCleanDisk (state S.Store conn.new) → (all : Rows)
         → Keeps (state S.Store conn.old).now all → AreReadable all
         → Fills result (rows.new ≡ record rows.old {
@@ -144,7 +147,8 @@ fn fill_keys<S: Alter>(
     alloc: Global,
     rows: &mut Rows,
 ) -> Result<(), LoadFault>
-    ensures seen { IsSeen (state S.Store conn.old) (state S.Store conn.new) (is_ok result) }
+    ensures seen { IsSeen schema_1 (state S.Store conn.old) (state S.Store conn.new)
+        (is_ok result) }
     ensures read { HasCleanDisk (state S.Store conn.new) → (all : Rows)
         → Keeps (state S.Store conn.old).now all → AreReadable all
         → Fills result (rows.new ≡ record rows.old {
@@ -165,7 +169,8 @@ fn fill_users<S: Alter>(
     alloc: Global,
     rows: &mut Rows,
 ) -> Result<(), LoadFault>
-    ensures seen { IsSeen (state S.Store conn.old) (state S.Store conn.new) (is_ok result) }
+    ensures seen { IsSeen schema_1 (state S.Store conn.old) (state S.Store conn.new)
+        (is_ok result) }
     ensures read { HasCleanDisk (state S.Store conn.new) → (all : Rows)
         → Keeps (state S.Store conn.old).now all → AreReadable all
         → Fills result (rows.new ≡ record rows.old {
@@ -187,7 +192,8 @@ fn fill_next<S: Alter>(
     alloc: Global,
     rows: &mut Rows,
 ) -> Result<(), LoadFault>
-    ensures seen { IsSeen (state S.Store conn.old) (state S.Store conn.new) (is_ok result) }
+    ensures seen { IsSeen schema_1 (state S.Store conn.old) (state S.Store conn.new)
+        (is_ok result) }
     ensures read { HasCleanDisk (state S.Store conn.new) → (all : Rows)
         → Keeps (state S.Store conn.old).now all → AreReadable all
         → Fills result (rows.new ≡ record rows.old {
@@ -220,7 +226,8 @@ fn no_rows(alloc: Global) -> Rows {
 /// All rows that the database keeps. The first in the order of reading that is no stored row is
 /// damaged.
 pub fn read_rows<S: Alter>(conn: &mut Connection<S>, alloc: Global) -> Result<Rows, LoadFault>
-    ensures seen { IsSeen (state S.Store conn.old) (state S.Store conn.new) (is_ok result) }
+    ensures seen { IsSeen schema_1 (state S.Store conn.old) (state S.Store conn.new)
+        (is_ok result) }
     ensures read { HasCleanDisk (state S.Store conn.new) → (all : Rows)
         → Keeps (state S.Store conn.old).now all → AreReadable all → Yields result all }
 {

@@ -51,14 +51,25 @@ leads_on text table rest old new count was ran =
 
 all_making : AreMaking no_schema making_texts
 unfolding understood everything
-all_making =
-    (record { command_is = refl; words = refl; plain = (refl, refl); defined = refl; alone = refl; last = refl },
-    (record { command_is = refl; words = refl; plain = (refl, refl); defined = refl; alone = refl; last = refl },
-    (record { command_is = refl; words = refl; plain = (refl, refl); defined = refl; alone = refl; last = refl },
-    (record { command_is = refl; words = refl; plain = (refl, refl); defined = refl; alone = refl; last = refl },
-    (record { command_is = refl; words = refl; plain = (refl, refl); defined = refl; alone = refl; last = refl },
-    (record { command_is = refl; words = refl; plain = (refl, refl); defined = refl; alone = refl; last = refl },
-    (record { command_is = refl; words = refl; plain = (refl, refl); defined = refl; alone = refl; last = refl }, tt)))))))
+all_making = (
+  record { command_is = refl; words = refl; plain = (refl, refl); defined = refl; alone = refl; last = refl },
+  (
+    record { command_is = refl; words = refl; plain = (refl, refl); defined = refl; alone = refl; last = refl },
+    (
+      record { command_is = refl; words = refl; plain = (refl, refl); defined = refl; alone = refl; last = refl },
+      (
+        record { command_is = refl; words = refl; plain = (refl, refl); defined = refl; alone = refl; last = refl },
+        (
+          record { command_is = refl; words = refl; plain = (refl, refl); defined = refl; alone = refl; last = refl },
+          (
+            record { command_is = refl; words = refl; plain = (refl, refl); defined = refl; alone = refl; last = refl },
+            (record { command_is = refl; words = refl; plain = (refl, refl); defined = refl; alone = refl; last = refl }, tt),
+          ),
+        ),
+      ),
+    ),
+  ),
+)
 
 all_made : made_by no_schema making_texts ≡ schema_1
 unfolding understood everything

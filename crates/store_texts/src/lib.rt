@@ -23,6 +23,7 @@ pub use laws::{
 };
 pub use select::{
     select_auth_keys, select_extras, select_machines, select_meta, select_pending, select_policy,
+    select_schema,
     select_users,
 };
 pub use update::{

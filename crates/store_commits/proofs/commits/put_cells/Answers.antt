@@ -22,5 +22,9 @@ returns-clause-put g c clean =
     let mid = (state g.S.Store c.run.new.tx.conn.now).now in
     let new = (state g.S.Store c.run-2.new.tx.conn.now).now in
     let early : HasCleanDisk (state g.S.Store c.run.new.tx.conn.now) = omega (arith, c.in_ok-run.ensures.pending.survives.clean, clean) in
-    inr (mid, c.in_ok-run.field-0, subst₂ (λ ps n. HasRun c.args.update.now ps n old mid) same none (c.in_ok-replaced.ensures.ran early),
-      subst (λ ps. HasRun c.args.insert.now ps c.in_ok-run.field-0 mid new) again (c.in_ok-run.ensures.ran clean))
+    inr (
+      mid,
+      c.in_ok-run.field-0,
+      subst₂ (λ ps n. HasRun c.args.update.now ps n old mid) same none (c.in_ok-replaced.ensures.ran early),
+      subst (λ ps. HasRun c.args.insert.now ps c.in_ok-run.field-0 mid new) again (c.in_ok-run.ensures.ran clean),
+    )

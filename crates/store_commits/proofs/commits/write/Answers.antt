@@ -23,9 +23,9 @@ returns-clause-made g c clean =
     let late : HasCleanDisk (state g.S.Store mid) = omega (arith, c.put_next.ensures.pending.survives.clean, clean) in
     let early : HasCleanDisk (state g.S.Store out) = omega (arith, c.in_ok-put_all.ensures.pending.survives.clean, late) in
     let first : Makes old (state g.S.Store out).now (λ (rows : Rows). take_all_out rows change.gone) =
-        subst (λ (keys : List RowKey). Makes old (state g.S.Store out).now (λ (rows : Rows). take_all_out rows keys)) c.as_slice.ensures.value (c.in_ok-remove_all.ensures.made early) in
+    subst (λ (keys : List RowKey). Makes old (state g.S.Store out).now (λ (rows : Rows). take_all_out rows keys)) c.as_slice.ensures.value (c.in_ok-remove_all.ensures.made early) in
     let second : Makes (state g.S.Store out).now (state g.S.Store mid).now (λ (rows : Rows). put_all rows change.puts) =
-        subst (λ (puts : List Row). Makes (state g.S.Store out).now (state g.S.Store mid).now (λ (rows : Rows). put_all rows puts)) c.as_slice-2.ensures.value (c.in_ok-put_all.ensures.made late) in
+    subst (λ (puts : List Row). Makes (state g.S.Store out).now (state g.S.Store mid).now (λ (rows : Rows). put_all rows puts)) c.as_slice-2.ensures.value (c.in_ok-put_all.ensures.made late) in
     where_ok c.put_next.result (IsPutBy update_meta_text insert_meta_text (map value_of (meta_cells change.next)) (state g.S.Store mid).now new) (Makes old new (λ (rows : Rows). after rows change))
     (λ put rows was. next_put (state g.S.Store mid).now new change.next put _ (second _ (first rows was)))
     (c.put_next.ensures.put clean)

@@ -9,7 +9,7 @@ returns-in-Err g c = record {
   read = λ xs shows good.
       let i = c.loop-row.row-index in
       let at = at_place (λ x. shown_row (g.T.Loaded.stored x)) (IsReadable g.T.Loaded.stored g.T.Loaded.Typed) xs i c.row-item.result
-          (subst (λ (l : List Row). i < length l) shows c.loop-row-test.true) (c.row-item.is ∙ ap (λ (l : List Row). get_or l i c.row-item.result) shows) good in
+      (subst (λ (l : List Row). i < length l) shows c.loop-row-test.true) (c.row-item.is ∙ ap (λ (l : List Row). get_or l i c.row-item.result) shows) good in
       c.in-Err.ensures.read at.it at.is at.keeps;
 }
 
@@ -17,5 +17,5 @@ pub loop-row-preserved : goal.loop-row-preserved
 loop-row-preserved g c = λ xs shows good.
     let i = c.loop-row.row-index in
     let at = at_place (λ x. shown_row (g.T.Loaded.stored x)) (IsReadable g.T.Loaded.stored g.T.Loaded.Typed) xs i c.row-item.result
-        (subst (λ (l : List Row). i < length l) shows c.loop-row-test.true) (c.row-item.is ∙ ap (λ (l : List Row). get_or l i c.row-item.result) shows) good in
+    (subst (λ (l : List Row). i < length l) shows c.loop-row-test.true) (c.row-item.is ∙ ap (λ (l : List Row). get_or l i c.row-item.result) shows) good in
     c.in-Ok.ensures.read at.it at.is at.keeps ∙ ap (λ l. l ++ at.it ∷ []) (c.loop-row.invariant xs shows good) ∙ sym at.next

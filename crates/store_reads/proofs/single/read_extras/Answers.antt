@@ -12,12 +12,12 @@ use Rattle.store_reads.proofs.single.read_extras.Goals as goal
 
 pub returns-in-Ok-clause-seen : goal.returns-in-Ok-clause-seen
 returns-in-Ok-clause-seen g c =
-    seen_less (state g.S.Store c.args.conn.now) (state g.S.Store c.rows_of.new.conn) (is_ok c.extras_in.result)
-    (c.in-Ok.ensures.seen (subst (λ text. IsPlain (understood schema_1 text)) (sym c.select_extras.ensures.value) select_extras_means.plain))
+    seen_less schema_1 (state g.S.Store c.args.conn.now) (state g.S.Store c.rows_of.new.conn) (is_ok c.extras_in.result)
+    (c.in-Ok.ensures.seen schema_1 (subst (λ text. IsPlain (understood schema_1 text)) (sym c.select_extras.ensures.value) select_extras_means.plain))
 
 pub returns-in-Err-clause-seen : goal.returns-in-Err-clause-seen
 returns-in-Err-clause-seen g c =
-    c.in-Err.ensures.seen (subst (λ text. IsPlain (understood schema_1 text)) (sym c.select_extras.ensures.value) select_extras_means.plain)
+    c.in-Err.ensures.seen schema_1 (subst (λ text. IsPlain (understood schema_1 text)) (sym c.select_extras.ensures.value) select_extras_means.plain)
 
 pub returns-in-Ok-clause-read : goal.returns-in-Ok-clause-read
 returns-in-Ok-clause-read g c clean all keeps good =

@@ -12,12 +12,12 @@ use Rattle.store_reads.proofs.single.read_policy.Goals as goal
 
 pub returns-in-Ok-clause-seen : goal.returns-in-Ok-clause-seen
 returns-in-Ok-clause-seen g c =
-    seen_less (state g.S.Store c.args.conn.now) (state g.S.Store c.rows_of.new.conn) (is_ok c.policy_of.result)
-    (c.in-Ok.ensures.seen (subst (λ text. IsPlain (understood schema_1 text)) (sym c.select_policy.ensures.value) select_policy_means.plain))
+    seen_less schema_1 (state g.S.Store c.args.conn.now) (state g.S.Store c.rows_of.new.conn) (is_ok c.policy_of.result)
+    (c.in-Ok.ensures.seen schema_1 (subst (λ text. IsPlain (understood schema_1 text)) (sym c.select_policy.ensures.value) select_policy_means.plain))
 
 pub returns-in-Err-clause-seen : goal.returns-in-Err-clause-seen
 returns-in-Err-clause-seen g c =
-    c.in-Err.ensures.seen (subst (λ text. IsPlain (understood schema_1 text)) (sym c.select_policy.ensures.value) select_policy_means.plain)
+    c.in-Err.ensures.seen schema_1 (subst (λ text. IsPlain (understood schema_1 text)) (sym c.select_policy.ensures.value) select_policy_means.plain)
 
 pub returns-in-Ok-clause-read : goal.returns-in-Ok-clause-read
 returns-in-Ok-clause-read g c clean all keeps good =
