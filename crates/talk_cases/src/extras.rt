@@ -220,7 +220,8 @@ fn one_record_more_than_there_may_be(rt: HostRuntime) -> Result<(), Fail> {
     Ok(())
 }
 
-const PUT: &str = r#"> PUT /api/v1/dns Bearer/secret [{"Name":"nas.tail.example","Value":"192.168.5.9"}]"#;
+const PUT: &str =
+    r#"> PUT /api/v1/dns Bearer/secret [{"Name":"nas.tail.example","Value":"192.168.5.9"}]"#;
 
 const SHOW: &str = r#"> GET /api/v1/dns Bearer/secret
 < 200 [{"Name":"nas.tail.example","Type":"A","Value":"192.168.5.9"}]"#;
