@@ -202,25 +202,26 @@ fn records(alloc: Global, count: u32) -> Result<String, NoMemory> {
 
 #[test]
 fn as_many_records_as_there_may_be(rt: HostRuntime) -> Result<(), Fail> {
-    let list = records(rt.alloc(), 256)?;
-    let talk = format!(in rt.alloc();
-        "= all\n> PUT /api/v1/dns Bearer/secret {list}\n< 200 {list}"
-    )?;
-    assert_eq!(rt; first_not_held(rt.alloc(), talk.as_str())?, None);
+    let alloc = rt.alloc();
+    let list = records(alloc, 256)?;
+    let talk = format!(in alloc; "= all\n> PUT /api/v1/dns Bearer/secret {list}\n< 200 {list}")?;
+    assert_eq!(rt; first_not_held(alloc, talk.as_str())?, None);
     Ok(())
 }
 
 #[test]
 fn one_record_more_than_there_may_be(rt: HostRuntime) -> Result<(), Fail> {
-    let list = records(rt.alloc(), 257)?;
-    let talk = format!(in rt.alloc();
+    let alloc = rt.alloc();
+    let list = records(alloc, 257)?;
+    let talk = format!(in alloc;
         "= more\n> PUT /api/v1/dns Bearer/secret {list}\n< 400 {{\"error\":\"BadField\",\"field\":\"Name\"}}"
     )?;
-    assert_eq!(rt; first_not_held(rt.alloc(), talk.as_str())?, None);
+    assert_eq!(rt; first_not_held(alloc, talk.as_str())?, None);
     Ok(())
 }
 
-const PUT: &str = r#"> PUT /api/v1/dns Bearer/secret [{"Name":"nas.tail.example","Value":"192.168.5.9"}]"#;
+const PUT: &str =
+    r#"> PUT /api/v1/dns Bearer/secret [{"Name":"nas.tail.example","Value":"192.168.5.9"}]"#;
 
 const SHOW: &str = r#"> GET /api/v1/dns Bearer/secret
 < 200 [{"Name":"nas.tail.example","Type":"A","Value":"192.168.5.9"}]"#;
