@@ -1,5 +1,5 @@
 -- The ends without the machines: each other end has one of them that stands for it.
-use Rattle.std.proofs.Common.{◌≡◌, Bool, true, List, [], ◌∷◌, ◌⊎◌, inl, inr, refl, sym, ap, ◌∙◌, subst, ℕ}
+use Rattle.std.proofs.Common.{◌≡◌, Bool, true, List, [], ◌∷◌, ◌⊎◌, inl, inr, refl, sym, subst, ℕ}
 use Rattle.std.specs.Prelude.{Contains, filter, flat_map}
 use Rattle.std.specs.List.{list_any}
 use Rattle.std.proofs.lemmas.Bool.{cases_Bool}

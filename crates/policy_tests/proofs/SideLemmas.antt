@@ -1,10 +1,10 @@
 -- What flags say of machines is what their ends say.
-use Rattle.std.proofs.Common.{◌≡◌, ◌<◌, ◌+◌, ◌&&◌, ◌||◌, ℕ, Bool, true, false, List, [], ◌∷◌, ◌++◌, ◌⊎◌, length, append_assoc, length-append, inl, inr, refl, sym, ap, ◌∙◌, not, subst, if◌then◌else◌}
+use Rattle.std.proofs.Common.{◌≡◌, ◌+◌, ◌&&◌, ◌||◌, ℕ, Bool, true, false, List, [], ◌∷◌, ◌++◌, ◌⊎◌, length, append_assoc, length-append, inl, inr, refl, sym, ap, ◌∙◌, not, subst, if◌then◌else◌}
 use Rattle.std.specs.Prelude.{Contains, Option, Some, filter, flat_map, slice_get}
 use Rattle.std.specs.List.{list_any}
 use Rattle.std.specs.Option.{option_map_or}
 use Rattle.std.proofs.lemmas.Bool.{and_from, and_parts, cases_Bool, or_cases, or_left, or_right}
-use Rattle.std.proofs.lemmas.List.Elements.{Contains-append_cases, Contains-append_left, Contains-append_right}
+use Rattle.std.proofs.lemmas.List.Elements.{Contains-append_cases, Contains-append_left}
 use Rattle.tail_base.proofs.Bools.{same_tests}
 use Rattle.net_rows.proofs.Members.{cut_member, first_member, list_any_found, list_any_is, no_member, rest_member}
 use Rattle.policy_rows.specs.Named.{members_of}
@@ -21,7 +21,7 @@ use Rattle.policy_sites.specs.declared.end.End.{End}
 use Rattle.policy_sites.specs.declared.site.Site.{Site}
 use Rattle.policy_eval.specs.Expansion.{Expansion}
 use Rattle.policy_tests.specs.Sides.{is_met_by, joins_machine, lets_by, names_machine, passes_at, places_from, side_joins, side_of, side_sends, side_takes, takes_by}
-use Rattle.policy_tests.specs.TestEnds.{ends_of, has_tag, is_users, machine_end, site_ends, tag_ends, tag_phantom, user_ends, user_phantom}
+use Rattle.policy_tests.specs.TestEnds.{ends_of, has_tag, is_users, machine_end, site_ends, tag_phantom, user_ends, user_phantom}
 use Rattle.policy_tests.specs.Tests.{port_of}
 use Rattle.policy_tests.specs.Trials.{core_of, denied_by, is_met, is_open, lets_some, some_passes}
 use Rattle.policy_tests.specs.declared.side.Side.{Side}

@@ -163,13 +163,7 @@ fn is_met(r: &RuleAt<'_>, sources: &Side, dests: &Side, entry: &Dest) -> bool
     }
 }
 
-fn rule_lets(
-    r: &RuleAt<'_>,
-    proto: Option<u8>,
-    port: u16,
-    sources: &Side,
-    dests: &Side,
-) -> bool
+fn rule_lets(r: &RuleAt<'_>, proto: Option<u8>, port: u16, sources: &Side, dests: &Side) -> bool
     ensures value { result
         ≡ lets_by r.now.x.now proto port sources.now dests.now r.now.rule.now }
 {
@@ -179,13 +173,7 @@ fn rule_lets(
 }
 
 /// Whether some pair of the ends is granted.
-fn some_lets(
-    x: &Expanded,
-    proto: Option<u8>,
-    port: u16,
-    sources: &Side,
-    dests: &Side,
-) -> bool
+fn some_lets(x: &Expanded, proto: Option<u8>, port: u16, sources: &Side, dests: &Side) -> bool
     ensures value { result
         ≡ list_any (lets_by x.now proto port sources.now dests.now) x.now.rules }
 {

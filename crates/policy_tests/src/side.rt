@@ -81,11 +81,7 @@ fn places_of(
 }
 
 /// What a subject or a destination stands for. No end of a machine is made.
-pub(crate) fn side_of(
-    alloc: Global,
-    x: &Expanded,
-    selector: &Selector,
-) -> Result<Side, NoMemory>
+pub(crate) fn side_of(alloc: Global, x: &Expanded, selector: &Selector) -> Result<Side, NoMemory>
     ensures value { IfOk result (λ side. side ≡ side_of x.now selector.now) }
 {
     let (groups, sites) = (x.groups(), x.sites());

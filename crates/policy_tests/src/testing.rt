@@ -19,11 +19,7 @@ use std::alloc::Global;
 use tail_base::{Failure, NoMemory, Text};
 
 /// The first accept entry that fails.
-fn first_refused(
-    alloc: Global,
-    x: &Expanded,
-    test: &Test,
-) -> Result<Option<usize>, NoMemory>
+fn first_refused(alloc: Global, x: &Expanded, test: &Test) -> Result<Option<usize>, NoMemory>
     ensures value { IfOk result (λ at. at ≡ position_from (λ e. not
         (accepted_by x.now.groups x.now.rules x.now.sites test.now e)) 0 test.now.accept) }
 {
@@ -37,11 +33,7 @@ fn first_refused(
 }
 
 /// The first deny entry that fails.
-fn first_let_through(
-    alloc: Global,
-    x: &Expanded,
-    test: &Test,
-) -> Result<Option<usize>, NoMemory>
+fn first_let_through(alloc: Global, x: &Expanded, test: &Test) -> Result<Option<usize>, NoMemory>
     ensures value { IfOk result (λ at. at ≡ position_from (λ e. not
         (denied_by x.now.groups x.now.rules x.now.sites test.now e)) 0 test.now.deny) }
 {
