@@ -115,14 +115,14 @@ pub(crate) fn load_beginning<K: Keeper>(
     ensures presence { IfOk result (λ made. made.1.presence.0
         ≡ map (λ m. offline_at now m.id) made.0.rows.machines) }
     ensures rows { IfOk result (λ made. IsWhereTold made.0.rows (K.told keeper.old)) }
-    ensures served { IfOk result (λ made. unserved made.0.rows ≡ None) }
+    ensures read { IfOk result (λ made. unread_policy made.0.rows ≡ None) }
     ensures still { StillTells (K.told keeper.old) (K.told keeper.new) }
     ensures later { K.faults keeper.old ≤ K.faults keeper.new }
     ensures fault { IfErr result (λ e. e ≡ OpenFault.KeeperFault
         → Rose (K.faults keeper.old) (K.faults keeper.new)) }
     ensures damaged { IfErr result (λ e. (kind : _) (id : ℕ) → e ≡ OpenFault.Damaged kind id
         → IfSome (K.told keeper.old)
-        (λ rows. unserved rows ≡ Some (record { kind = kind; id = id }))) }
+        (λ rows. unread_policy rows ≡ Some (record { kind = kind; id = id }))) }
 {
     let tables = load_tables(alloc, keeper)?;
     let beginning = beginning_of(alloc, &tables, now)?;
