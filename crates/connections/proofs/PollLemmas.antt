@@ -18,7 +18,7 @@ use Rattle.desk_front.specs.declared.poll.Poll.{Poll}
 use Rattle.run_ends.specs.Pieces.{Sent}
 use Rattle.run_ends.specs.declared.closed.Closed.{Closed}
 use Rattle.connections.specs.Exchanges.{breaks}
-use Rattle.connections.specs.Polled.{Completed, DrainedSent, Followed, FurtherSent, GoesOn, IsPollAnswered, NextSent, TurnedOnce}
+use Rattle.connections.specs.Polled.{AttachAnswered, Completed, DrainedSent, Followed, FurtherSent, GoesOn, IsPollAnswered, NextSent, TurnedOnce}
 use Rattle.connections.specs.Polls.{AreBehind, AreFurther, IsAttachOf, IsBehindDrain, IsDetachOf, IsDrainOf, IsPollOf, chunks_for, drained_bytes, further_bytes, stream_ending, stream_front, stream_opening}
 use Rattle.connections.specs.Tellings.{Drew, Giving, TurnsTook, taking}
 use Rattle.connections.proofs.AnswerLemmas.{clamped_told, same_number, took_none}
@@ -336,42 +336,50 @@ module _ {S : Type 0} (turn : S → Event → Reply → S → Type 0) where
   -- ---- from the attach on
 
   module _ (site : FrontSettings) (more : ℕ) (close : Bool) (p : Poll) where
-    polled : {T : Type 0} (outcome : Result T Closed) (reply : Reply) (later : List Turned) (bytes : List ℕ) (h k : Option (List ℕ)) (n m : ℕ) (a b c : ℕ → Option ℤ)
-        (w x : ℕ → Option (List ℕ)) (f g : ℕ) (s u t : S)
-        → TurnedOnce turn (IsAttachOf p) reply (taking h n a w f) (taking h n b x g) s u → IsPollOf site more close p reply later bytes (breaks outcome)
-        → Chain turn u later t → TurnsTook (taking h n b x g) (taking k m c x g) later → Sent outcome h k n m bytes
-        → IsPollAnswered turn site more outcome p close (taking h n a w f) (taking k m c x g) s t
-    polled outcome reply later bytes h k n m a b c w x f g s u t attach follows chain took sent = record {
-      turns = attach.turned ∷ later;
-      bytes = bytes;
-      poll = record {
-        attach = attach.turned;
-        later = later;
-        turns_are = refl;
-        attach_is = attach.fits;
-        follows = subst (λ (r : Reply). IsPollOf site more close p r later bytes (breaks outcome)) (sym attach.reply_is) follows;
-      };
-      chain = (u, attach.leads, chain);
-      took = took-append (taking h n a w f) (taking h n b x g) (taking k m c x g) (attach.turned ∷ []) later attach.took took;
+    -- the session goes on or began
+    pub answered_on : {T : Type 0} (outcome : Result T Closed) (reply : Reply) (handle : List ℕ) (seq : ℕ) (resumed may_wait : Bool) (old new : Giving) (s t : S)
+        → reply ≡ Attached handle seq resumed may_wait
+        → Followed turn site (if may_wait then more else 0) outcome close p handle resumed old new s t
+        → AttachAnswered turn site more outcome close p reply old new s t
+    answered_on outcome reply handle seq resumed may_wait old new s t is followed = record {
+      later = followed.later;
+      bytes = followed.bytes;
+      follows = subst (λ (r : Reply). IsPollOf site more close p r followed.later followed.bytes (breaks outcome)) (sym is) followed.stream;
+      chain = followed.chain;
+      took = followed.took;
+      sent = followed.sent;
+    }
+
+    -- the attach was refused or lost, and nothing follows
+    pub answered_alone : {T : Type 0} (outcome : Result T Closed) (reply : Reply) (h k : Option (List ℕ)) (n m : ℕ) (a : ℕ → Option ℤ) (w : ℕ → Option (List ℕ)) (f : ℕ) (s : S)
+        → IsPollOf site more close p reply [] (reply_bytes site (map_ask_of p) reply close) (breaks outcome)
+        → Sent outcome h k n m (reply_bytes site (map_ask_of p) reply close)
+        → AttachAnswered turn site more outcome close p reply (taking h n a w f) (taking k m a w f) s s
+    answered_alone outcome reply h k n m a w f s follows sent = record {
+      later = [];
+      bytes = reply_bytes site (map_ask_of p) reply close;
+      follows = follows;
+      chain = refl;
+      took = took_none (taking h n a w f) (taking k m a w f) (λ i. refl) (λ i. refl) (omega arith);
       sent = sent;
     }
 
-    pub polled_on : {T : Type 0} (outcome : Result T Closed) (handle : List ℕ) (seq : ℕ) (resumed may_wait : Bool) (h k : Option (List ℕ)) (n m : ℕ) (a b c : ℕ → Option ℤ)
+    pub polled : {T : Type 0} (outcome : Result T Closed) (reply : Reply) (h k : Option (List ℕ)) (n m : ℕ) (a b c : ℕ → Option ℤ)
         (w x : ℕ → Option (List ℕ)) (f g : ℕ) (s u t : S)
-        → TurnedOnce turn (IsAttachOf p) (Attached handle seq resumed may_wait) (taking h n a w f) (taking h n b x g) s u
-        → Followed turn site (if may_wait then more else 0) outcome close p handle resumed (taking h n b x g) (taking k m c x g) u t
-        → IsPollAnswered turn site more outcome p close (taking h n a w f) (taking k m c x g) s t
-    polled_on outcome handle seq resumed may_wait h k n m a b c w x f g s u t attach followed =
-        polled outcome (Attached handle seq resumed may_wait) followed.later followed.bytes h k n m a b c w x f g s u t attach followed.stream followed.chain followed.took
-        followed.sent
-
-    -- the attach was refused or lost, and nothing follows
-    pub polled_alone : {T : Type 0} (outcome : Result T Closed) (reply : Reply) (h k : Option (List ℕ)) (n m : ℕ) (a b : ℕ → Option ℤ)
-        (w x : ℕ → Option (List ℕ)) (f g : ℕ) (s u : S)
         → TurnedOnce turn (IsAttachOf p) reply (taking h n a w f) (taking h n b x g) s u
-        → IsPollOf site more close p reply [] (reply_bytes site (map_ask_of p) reply close) (breaks outcome)
-        → Sent outcome h k n m (reply_bytes site (map_ask_of p) reply close)
-        → IsPollAnswered turn site more outcome p close (taking h n a w f) (taking k m b x g) s u
-    polled_alone outcome reply h k n m a b w x f g s u attach follows sent =
-        polled outcome reply [] (reply_bytes site (map_ask_of p) reply close) h k n m a b b w x f g s u u attach follows refl
-        (took_none (taking h n b x g) (taking k m b x g) (λ i. refl) (λ i. refl) (omega arith)) sent
+        → AttachAnswered turn site more outcome close p reply (taking h n b x g) (taking k m c x g) u t
+        → IsPollAnswered turn site more outcome p close (taking h n a w f) (taking k m c x g) s t
+    polled outcome reply h k n m a b c w x f g s u t attach answered = record {
+      turns = attach.turned ∷ answered.later;
+      bytes = answered.bytes;
+      poll = record {
+        attach = attach.turned;
+        later = answered.later;
+        turns_are = refl;
+        attach_is = attach.fits;
+        follows = subst (λ (r : Reply). IsPollOf site more close p r answered.later answered.bytes (breaks outcome)) (sym attach.reply_is) answered.follows;
+      };
+      chain = (u, attach.leads, answered.chain);
+      took = took-append (taking h n a w f) (taking h n b x g) (taking k m c x g) (attach.turned ∷ []) answered.later attach.took answered.took;
+      sent = answered.sent;
+    }
