@@ -18,7 +18,7 @@ use Rattle.desk_front.specs.declared.poll.Poll.{Poll}
 use Rattle.run_ends.specs.Pieces.{Sent}
 use Rattle.run_ends.specs.declared.closed.Closed.{Closed}
 use Rattle.connections.specs.Exchanges.{breaks}
-use Rattle.connections.specs.Polled.{Completed, DrainedSent, Followed, FurtherSent, GoesOn, IsPollAnswered, NextSent, TurnedOnce}
+use Rattle.connections.specs.Polled.{AttachAnswered, Completed, DrainedSent, Followed, FurtherSent, GoesOn, IsPollAnswered, NextSent, TurnedOnce}
 use Rattle.connections.specs.Polls.{AreBehind, AreFurther, IsAttachOf, IsBehindDrain, IsDetachOf, IsDrainOf, IsPollOf, chunks_for, drained_bytes, further_bytes, stream_ending, stream_front, stream_opening}
 use Rattle.connections.specs.Tellings.{Drew, Giving, TurnsTook, taking}
 use Rattle.connections.proofs.AnswerLemmas.{clamped_told, same_number, took_none}
@@ -133,43 +133,43 @@ module _ {S : Type 0} (turn : S → Event → Reply → S → Type 0) where
 
   -- behind a drain that was answered frames, more follow
   behind_frames : (broken : Bool) (on : Bool) (reply : Reply) (ts : List Turned) (rest : Type 0) → on ≡ true → GoesOn (Ok on) reply → rest → IsBehindDrain broken reply ts rest
-  behind_frames broken on (Done answer) ts rest yes goes r = absurd goes
-  behind_frames broken on (Attached handle seq resumed may_wait) ts rest yes goes r = absurd goes
-  behind_frames broken on (Frames responses) ts rest yes goes r = r
-  behind_frames broken on Ended ts rest yes goes r = absurd (let clash : true ≡ false = sym yes ∙ goes in cc)
-  behind_frames broken on Detached ts rest yes goes r = absurd goes
-  behind_frames broken on (Refused refusal) ts rest yes goes r = absurd goes
-  behind_frames broken on (Lost loss) ts rest yes goes r = absurd goes
+  behind_frames broken on (Done answer) ts rest holds goes r = absurd goes
+  behind_frames broken on (Attached handle seq resumed may_wait) ts rest holds goes r = absurd goes
+  behind_frames broken on (Frames responses) ts rest holds goes r = r
+  behind_frames broken on Ended ts rest holds goes r = absurd (let clash : true ≡ false = sym holds ∙ goes in cc)
+  behind_frames broken on Detached ts rest holds goes r = absurd goes
+  behind_frames broken on (Refused refusal) ts rest holds goes r = absurd goes
+  behind_frames broken on (Lost loss) ts rest holds goes r = absurd goes
 
   -- behind one that was answered the end, none
   behind_end : (broken : Bool) (on : Bool) (reply : Reply) (rest : Type 0) → on ≡ false → GoesOn (Ok on) reply → IsBehindDrain broken reply [] rest
-  behind_end broken on (Done answer) rest no goes = absurd goes
-  behind_end broken on (Attached handle seq resumed may_wait) rest no goes = absurd goes
-  behind_end broken on (Frames responses) rest no goes = absurd (let clash : true ≡ false = sym goes ∙ no in cc)
-  behind_end broken on Ended rest no goes = refl
-  behind_end broken on Detached rest no goes = absurd goes
-  behind_end broken on (Refused refusal) rest no goes = absurd goes
-  behind_end broken on (Lost loss) rest no goes = absurd goes
+  behind_end broken on (Done answer) rest fails goes = absurd goes
+  behind_end broken on (Attached handle seq resumed may_wait) rest fails goes = absurd goes
+  behind_end broken on (Frames responses) rest fails goes = absurd (let clash : true ≡ false = sym goes ∙ fails in cc)
+  behind_end broken on Ended rest fails goes = refl
+  behind_end broken on Detached rest fails goes = absurd goes
+  behind_end broken on (Refused refusal) rest fails goes = absurd goes
+  behind_end broken on (Lost loss) rest fails goes = absurd goes
 
   -- behind one by which the writing broke off, none
   behind_break : (broken : Bool) (e : Closed) (reply : Reply) (rest : Type 0) → broken ≡ true → rest → GoesOn (Err e) reply → IsBehindDrain broken reply [] rest
-  behind_break broken e (Done answer) rest yes r goes = absurd goes
-  behind_break broken e (Attached handle seq resumed may_wait) rest yes r goes = absurd goes
-  behind_break broken e (Frames responses) rest yes r goes = r
-  behind_break broken e Ended rest yes r goes = absurd goes
-  behind_break broken e Detached rest yes r goes = absurd goes
-  behind_break broken e (Refused refusal) rest yes r goes = absurd goes
-  behind_break broken e (Lost loss) rest yes r goes = (refl, yes)
+  behind_break broken e (Done answer) rest holds r goes = absurd goes
+  behind_break broken e (Attached handle seq resumed may_wait) rest holds r goes = absurd goes
+  behind_break broken e (Frames responses) rest holds r goes = r
+  behind_break broken e Ended rest holds r goes = absurd goes
+  behind_break broken e Detached rest holds r goes = absurd goes
+  behind_break broken e (Refused refusal) rest holds r goes = absurd goes
+  behind_break broken e (Lost loss) rest holds r goes = (refl, holds)
 
   pub further_more : {T : Type 0} (on : Bool) (outcome : Result T Closed) (machine : MachineKey) (handle : List ℕ) (more left : ℕ) (old mid new : Giving) (s u t : S)
       → left ≡ more - 1 → 0 < more → on ≡ true → NextSent turn (Ok on) machine handle old mid s u → FurtherSent turn outcome machine handle left mid new u t
       → FurtherSent turn outcome machine handle more old new s t
-  further_more on outcome machine handle more left old mid new s u t is some yes next rest = record {
+  further_more on outcome machine handle more left old mid new s u t is some holds next rest = record {
     further = next.drain ∷ rest.further;
     are = (
       some,
       next.drain_is,
-      behind_frames (breaks outcome) on next.drain.reply rest.further (AreFurther machine handle (more - 1) (breaks outcome) rest.further) yes next.goes_on
+      behind_frames (breaks outcome) on next.drain.reply rest.further (AreFurther machine handle (more - 1) (breaks outcome) rest.further) holds next.goes_on
           (subst (λ (n : ℕ). AreFurther machine handle n (breaks outcome) rest.further) is rest.are),
     );
     chain = (u, next.leads, rest.chain);
@@ -184,31 +184,36 @@ module _ {S : Type 0} (turn : S → Event → Reply → S → Type 0) where
 
   pub further_last : {T : Type 0} (on : Bool) (done : T) (machine : MachineKey) (handle : List ℕ) (more : ℕ) (old new : Giving) (s t : S)
       → 0 < more → on ≡ false → NextSent turn (Ok on) machine handle old new s t → FurtherSent turn (Ok done) machine handle more old new s t
-  further_last on done machine handle more old new s t some no next = record {
+  further_last on done machine handle more old new s t some fails next = record {
     further = next.drain ∷ [];
-    are = (some, next.drain_is, behind_end false on next.drain.reply (AreFurther machine handle (more - 1) false []) no next.goes_on);
+    are = (some, next.drain_is, behind_end false on next.drain.reply (AreFurther machine handle (more - 1) false []) fails next.goes_on);
     chain = (t, next.leads, refl);
     took = next.took;
     sent = ended_sent on done old.held new.held old.write_faults new.write_faults (drained_bytes next.drain.reply) next.sent;
   }
 
-  pub further_broken : {T : Type 0} (e : Closed) (machine : MachineKey) (handle : List ℕ) (more : ℕ) (old new : Giving) (s t : S)
+  further_broken : {T : Type 0} (e : Closed) (machine : MachineKey) (handle : List ℕ) (more : ℕ) (old new : Giving) (s t : S)
       → 0 < more → NextSent turn (Err e) machine handle old new s t → FurtherSent {T = T} turn (Err e) machine handle more old new s t
   further_broken {T} e machine handle more old new s t some next =
       let sent : Sent {T = T} (Err e) old.held new.held old.write_faults new.write_faults (drained_bytes next.drain.reply ++ []) =
       sent_broken {T = Bool} {U = T} e old.held new.held old.write_faults new.write_faults (drained_bytes next.drain.reply) [] next.sent in
-      let yes : breaks {T = T} (Err e) ≡ true = broke {T = T} e sent.written (drained_bytes next.drain.reply ++ []) old.write_faults new.write_faults sent.is in
+      let holds : breaks {T = T} (Err e) ≡ true = broke T e sent.written (drained_bytes next.drain.reply ++ []) old.write_faults new.write_faults sent.is in
       record {
         further = next.drain ∷ [];
         are = (
           some,
           next.drain_is,
-          behind_break (breaks {T = T} (Err e)) e next.drain.reply (AreFurther machine handle (more - 1) (breaks {T = T} (Err e)) []) yes (inr yes) next.goes_on,
+          behind_break (breaks {T = T} (Err e)) e next.drain.reply (AreFurther machine handle (more - 1) (breaks {T = T} (Err e)) []) holds (inr holds) next.goes_on,
         );
         chain = (t, next.leads, refl);
         took = next.took;
         sent = sent;
       }
+
+  pub further_failed : {T : Type 0} (outcome : Result T Closed) (e : Closed) (machine : MachineKey) (handle : List ℕ) (more : ℕ) (old new : Giving) (s t : S)
+      → outcome ≡ Err e → 0 < more → NextSent turn (Err e) machine handle old new s t → FurtherSent turn outcome machine handle more old new s t
+  further_failed {T} outcome e machine handle more old new s t is some next =
+      subst (λ (r : Result T Closed). FurtherSent turn r machine handle more old new s t) (sym is) (further_broken {T = T} e machine handle more old new s t some next)
 
   -- ---- the first drain
 
@@ -232,7 +237,7 @@ module _ {S : Type 0} (turn : S → Event → Reply → S → Type 0) where
         → DrainedSent {T = T} turn site more (Err e) close p handle resumed (Frames responses) (taking h n a w f) (taking k m a w f) s s
     frames_broken {T} e responses h k n m a w f s first = record {
       further = [];
-      are = inr (broke {T = T} e first.written (stream_opening handle resumed ++ chunks_for responses) n m first.is);
+      are = inr (broke T e first.written (stream_opening handle resumed ++ chunks_for responses) n m first.is);
       chain = refl;
       took = took_none (taking h n a w f) (taking k m a w f) (λ i. refl) (λ i. refl) (omega arith);
       sent = sent_broken {T = T} {U = T} e h k n m (stream_opening handle resumed ++ chunks_for responses) [] first;
@@ -275,7 +280,7 @@ module _ {S : Type 0} (turn : S → Event → Reply → S → Type 0) where
 
     further_still : (b c : Bool) (left : ℕ) (ts : List Turned) → (b ≡ true → c ≡ true) → AreFurther p.machine handle left b ts → AreFurther p.machine handle left c ts
     further_still b c left [] h (inl none) = inl none
-    further_still b c left [] h (inr yes) = inr (h yes)
+    further_still b c left [] h (inr holds) = inr (h holds)
     further_still b c left (t ∷ ts) h are = (
       are.0,
       are.1,
@@ -331,42 +336,50 @@ module _ {S : Type 0} (turn : S → Event → Reply → S → Type 0) where
   -- ---- from the attach on
 
   module _ (site : FrontSettings) (more : ℕ) (close : Bool) (p : Poll) where
-    polled : {T : Type 0} (outcome : Result T Closed) (reply : Reply) (later : List Turned) (bytes : List ℕ) (h k : Option (List ℕ)) (n m : ℕ) (a b c : ℕ → Option ℤ)
-        (w x : ℕ → Option (List ℕ)) (f g : ℕ) (s u t : S)
-        → TurnedOnce turn (IsAttachOf p) reply (taking h n a w f) (taking h n b x g) s u → IsPollOf site more close p reply later bytes (breaks outcome)
-        → Chain turn u later t → TurnsTook (taking h n b x g) (taking k m c x g) later → Sent outcome h k n m bytes
-        → IsPollAnswered turn site more outcome p close (taking h n a w f) (taking k m c x g) s t
-    polled outcome reply later bytes h k n m a b c w x f g s u t attach follows chain took sent = record {
-      turns = attach.turned ∷ later;
-      bytes = bytes;
-      poll = record {
-        attach = attach.turned;
-        later = later;
-        turns_are = refl;
-        attach_is = attach.fits;
-        follows = subst (λ (r : Reply). IsPollOf site more close p r later bytes (breaks outcome)) (sym attach.reply_is) follows;
-      };
-      chain = (u, attach.leads, chain);
-      took = took-append (taking h n a w f) (taking h n b x g) (taking k m c x g) (attach.turned ∷ []) later attach.took took;
+    -- the session goes on or began
+    pub answered_on : {T : Type 0} (outcome : Result T Closed) (reply : Reply) (handle : List ℕ) (seq : ℕ) (resumed may_wait : Bool) (old new : Giving) (s t : S)
+        → reply ≡ Attached handle seq resumed may_wait
+        → Followed turn site (if may_wait then more else 0) outcome close p handle resumed old new s t
+        → AttachAnswered turn site more outcome close p reply old new s t
+    answered_on outcome reply handle seq resumed may_wait old new s t is followed = record {
+      later = followed.later;
+      bytes = followed.bytes;
+      follows = subst (λ (r : Reply). IsPollOf site more close p r followed.later followed.bytes (breaks outcome)) (sym is) followed.stream;
+      chain = followed.chain;
+      took = followed.took;
+      sent = followed.sent;
+    }
+
+    -- the attach was refused or lost, and nothing follows
+    pub answered_alone : {T : Type 0} (outcome : Result T Closed) (reply : Reply) (h k : Option (List ℕ)) (n m : ℕ) (a : ℕ → Option ℤ) (w : ℕ → Option (List ℕ)) (f : ℕ) (s : S)
+        → IsPollOf site more close p reply [] (reply_bytes site (map_ask_of p) reply close) (breaks outcome)
+        → Sent outcome h k n m (reply_bytes site (map_ask_of p) reply close)
+        → AttachAnswered turn site more outcome close p reply (taking h n a w f) (taking k m a w f) s s
+    answered_alone outcome reply h k n m a w f s follows sent = record {
+      later = [];
+      bytes = reply_bytes site (map_ask_of p) reply close;
+      follows = follows;
+      chain = refl;
+      took = took_none (taking h n a w f) (taking k m a w f) (λ i. refl) (λ i. refl) (omega arith);
       sent = sent;
     }
 
-    pub polled_on : {T : Type 0} (outcome : Result T Closed) (handle : List ℕ) (seq : ℕ) (resumed may_wait : Bool) (h k : Option (List ℕ)) (n m : ℕ) (a b c : ℕ → Option ℤ)
+    pub polled : {T : Type 0} (outcome : Result T Closed) (reply : Reply) (h k : Option (List ℕ)) (n m : ℕ) (a b c : ℕ → Option ℤ)
         (w x : ℕ → Option (List ℕ)) (f g : ℕ) (s u t : S)
-        → TurnedOnce turn (IsAttachOf p) (Attached handle seq resumed may_wait) (taking h n a w f) (taking h n b x g) s u
-        → Followed turn site (if may_wait then more else 0) outcome close p handle resumed (taking h n b x g) (taking k m c x g) u t
-        → IsPollAnswered turn site more outcome p close (taking h n a w f) (taking k m c x g) s t
-    polled_on outcome handle seq resumed may_wait h k n m a b c w x f g s u t attach followed =
-        polled outcome (Attached handle seq resumed may_wait) followed.later followed.bytes h k n m a b c w x f g s u t attach followed.stream followed.chain followed.took
-        followed.sent
-
-    -- the attach was refused or lost, and nothing follows
-    pub polled_alone : {T : Type 0} (outcome : Result T Closed) (reply : Reply) (h k : Option (List ℕ)) (n m : ℕ) (a b : ℕ → Option ℤ)
-        (w x : ℕ → Option (List ℕ)) (f g : ℕ) (s u : S)
         → TurnedOnce turn (IsAttachOf p) reply (taking h n a w f) (taking h n b x g) s u
-        → IsPollOf site more close p reply [] (reply_bytes site (map_ask_of p) reply close) (breaks outcome)
-        → Sent outcome h k n m (reply_bytes site (map_ask_of p) reply close)
-        → IsPollAnswered turn site more outcome p close (taking h n a w f) (taking k m b x g) s u
-    polled_alone outcome reply h k n m a b w x f g s u attach follows sent =
-        polled outcome reply [] (reply_bytes site (map_ask_of p) reply close) h k n m a b b w x f g s u u attach follows refl
-        (took_none (taking h n b x g) (taking k m b x g) (λ i. refl) (λ i. refl) (omega arith)) sent
+        → AttachAnswered turn site more outcome close p reply (taking h n b x g) (taking k m c x g) u t
+        → IsPollAnswered turn site more outcome p close (taking h n a w f) (taking k m c x g) s t
+    polled outcome reply h k n m a b c w x f g s u t attach answered = record {
+      turns = attach.turned ∷ answered.later;
+      bytes = answered.bytes;
+      poll = record {
+        attach = attach.turned;
+        later = answered.later;
+        turns_are = refl;
+        attach_is = attach.fits;
+        follows = subst (λ (r : Reply). IsPollOf site more close p r answered.later answered.bytes (breaks outcome)) (sym attach.reply_is) answered.follows;
+      };
+      chain = (u, attach.leads, answered.chain);
+      took = took-append (taking h n a w f) (taking h n b x g) (taking k m c x g) (attach.turned ∷ []) answered.later attach.took answered.took;
+      sent = answered.sent;
+    }

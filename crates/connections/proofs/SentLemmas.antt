@@ -35,21 +35,21 @@ sent_then done outcome o mid new n m k first rest a b =
       is = sent_as outcome first b.written rest n m k a.later b.is;
     }
 
-broken_as : {T U : Type 0} (e : Closed) (written first all : List ℕ) (n k : ℕ) → IsSent {T = T} (Err e) written first n k → IsSent {T = U} (Err e) written all n k
-broken_as End written first all n k h = h
-broken_as Early written first all n k h = h
-broken_as ReadFault written first all n k h = h
-broken_as WriteFault written first all n k h = h
-broken_as NoMemory written first all n k h = tt
+broken_as : (T U : Type 0) (e : Closed) (written first all : List ℕ) (n k : ℕ) → IsSent {T = T} (Err e) written first n k → IsSent {T = U} (Err e) written all n k
+broken_as T U End written first all n k h = h
+broken_as T U Early written first all n k h = h
+broken_as T U ReadFault written first all n k h = h
+broken_as T U WriteFault written first all n k h = h
+broken_as T U NoMemory written first all n k h = tt
 
 -- the first piece broke off
 pub sent_broken : {T U : Type 0} (e : Closed) (o new : Option (List ℕ)) (n k : ℕ) (first rest : List ℕ) → Sent {T = T} (Err e) o new n k first → Sent {T = U} (Err e) o new n k (first ++ rest)
-sent_broken e o new n k first rest a = record {
+sent_broken {T} {U} e o new n k first rest a = record {
   written = a.written;
   front = (a.front.0 ++ rest, ap (λ x. x ++ rest) a.front.1 ∙ append_assoc a.written a.front.0 rest);
   to_sink = a.to_sink;
   later = a.later;
-  is = broken_as e a.written first (first ++ rest) n k a.is;
+  is = broken_as T U e a.written first (first ++ rest) n k a.is;
 }
 
 -- nothing is sent
@@ -57,12 +57,12 @@ pub sent_nothing : {T : Type 0} (done : T) (o : Option (List ℕ)) (n : ℕ) →
 sent_nothing done o n = record { written = []; front = ([], refl); to_sink = held_nothing o; later = omega arith; is = refl }
 
 -- what broke off ends the connection so
-pub broke : {T : Type 0} (e : Closed) (written bytes : List ℕ) (before now : ℕ) → IsSent {T = T} (Err e) written bytes before now → breaks {T = T} (Err e) ≡ true
-broke End written bytes before now h = absurd h
-broke Early written bytes before now h = absurd h
-broke ReadFault written bytes before now h = absurd h
-broke WriteFault written bytes before now h = refl
-broke NoMemory written bytes before now h = refl
+pub broke : (T : Type 0) (e : Closed) (written bytes : List ℕ) (before now : ℕ) → IsSent {T = T} (Err e) written bytes before now → breaks {T = T} (Err e) ≡ true
+broke T End written bytes before now h = absurd h
+broke T Early written bytes before now h = absurd h
+broke T ReadFault written bytes before now h = absurd h
+broke T WriteFault written bytes before now h = refl
+broke T NoMemory written bytes before now h = refl
 
 -- what was sent, and then its ending, unless it broke off
 pub sent_completed : {T : Type 0} (sent outcome : Result T Closed) (o mid new : Option (List ℕ)) (n m k : ℕ) (front ending : List ℕ)
@@ -97,11 +97,13 @@ responses_more rs i x done outcome o mid new n m k less is a b =
     subst (λ (bytes : List ℕ). Sent outcome o new n k bytes) (sym (chunks_left rs i x less is))
     (sent_then done outcome o mid new n m k (chunk_of (frame_of x)) (chunks_for (drop (i + 1) rs)) a b)
 
-pub responses_broken : {T U : Type 0} (rs : List Response) (i : ℕ) (x : Response) (e : Closed) (o new : Option (List ℕ)) (n k : ℕ)
-    → i < length rs → x ≡ get_or rs i x → Sent {T = T} (Err e) o new n k (chunk_of (frame_of x)) → Sent {T = U} (Err e) o new n k (chunks_for (drop i rs))
-responses_broken {T} {U} rs i x e o new n k less is a =
-    subst (λ (bytes : List ℕ). Sent {T = U} (Err e) o new n k bytes) (sym (chunks_left rs i x less is))
-    (sent_broken {T = T} {U = U} e o new n k (chunk_of (frame_of x)) (chunks_for (drop (i + 1) rs)) a)
+pub responses_failed : {T U : Type 0} (rs : List Response) (i : ℕ) (x : Response) (outcome : Result U Closed) (e : Closed) (o new : Option (List ℕ)) (n k : ℕ)
+    → outcome ≡ Err e → i < length rs → x ≡ get_or rs i x → Sent {T = T} (Err e) o new n k (chunk_of (frame_of x)) → Sent outcome o new n k (chunks_for (drop i rs))
+responses_failed {T} {U} rs i x outcome e o new n k same less is a =
+    let here : Sent {T = U} (Err e) o new n k (chunk_of (frame_of x) ++ chunks_for (drop (i + 1) rs)) =
+    sent_broken {T = T} {U = U} e o new n k (chunk_of (frame_of x)) (chunks_for (drop (i + 1) rs)) a in
+    subst (λ (bytes : List ℕ). Sent outcome o new n k bytes) (sym (chunks_left rs i x less is))
+    (subst (λ (r : Result U Closed). Sent r o new n k (chunk_of (frame_of x) ++ chunks_for (drop (i + 1) rs))) (sym same) here)
 
 pub responses_done : {T : Type 0} (done : T) (rs : List Response) (i : ℕ) (o : Option (List ℕ)) (n : ℕ) → length rs ≤ i → Sent (Ok done) o o n n (chunks_for (drop i rs))
 responses_done done rs i o n all =

@@ -8,7 +8,7 @@ use Rattle.tailnet_desk.specs.declared.reply.Reply.TheVariants.{Attached, Detach
 use Rattle.desk_front.specs.declared.front_settings.FrontSettings.{FrontSettings}
 use Rattle.desk_front.specs.declared.poll.Poll.{Poll}
 use Rattle.connections.specs.Exchanges.{breaks}
-use Rattle.connections.specs.Polls.{AreBehind, AreFurther, IsDrainOf, IsPoll, IsStream, drained_bytes, further_bytes, stream_front}
+use Rattle.connections.specs.Polls.{AreBehind, AreFurther, IsDrainOf, IsPoll, IsPollOf, IsStream, drained_bytes, further_bytes, stream_front}
 use Rattle.connections.specs.Tellings.{Giving, TurnsTook}
 use Rattle.run_ends.specs.Pieces.{Sent}
 use Rattle.run_ends.specs.declared.closed.Closed.{Closed}
@@ -73,6 +73,15 @@ pub record Followed {T S : Type 0} (turn : S → Event → Reply → S → Type 
   pub later : List Turned
   pub bytes : List ℕ
   pub stream : IsStream site more close p handle resumed later bytes (breaks outcome)
+  pub chain : Chain turn s later t
+  pub took : TurnsTook old new later
+  pub sent : Sent outcome old.held new.held old.write_faults new.write_faults bytes
+
+-- an attach that was replied so was answered
+pub record AttachAnswered {T S : Type 0} (turn : S → Event → Reply → S → Type 0) (site : FrontSettings) (more : ℕ) (outcome : Result T Closed) (close : Bool) (p : Poll) (reply : Reply) (old new : Giving) (s t : S) : Type 0 where
+  pub later : List Turned
+  pub bytes : List ℕ
+  pub follows : IsPollOf site more close p reply later bytes (breaks outcome)
   pub chain : Chain turn s later t
   pub took : TurnsTook old new later
   pub sent : Sent outcome old.held new.held old.write_faults new.write_faults bytes

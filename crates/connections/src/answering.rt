@@ -2,6 +2,8 @@
 ghost use Rattle.std.specs.Prelude.{◌≡◌, Option, Some, Bool, true, false, codes, ◌||◌, ◌==◌, IfErr, OnOk, Result, Ok, Err, IsErr};
 ghost use Rattle.http_front.specs.AnswerBytes.{answer};
 ghost use Rattle.tailnet_desk.specs.Asks.{IsShort, ask_draws};
+ghost use Rattle.desk_front.specs.Wanted.{wanted_of};
+ghost use Rattle.desk_front.specs.Wants.{IsSound};
 ghost use Rattle.connections.specs.Asked.{Follows, IsAskAnswered};
 ghost use Rattle.connections.specs.Exchanges.{Answered, ended_by};
 ghost use Rattle.run_ends.specs.declared.closed.Closed.TheVariants.{Early};
@@ -104,9 +106,8 @@ fn closes(asked: bool, last: bool) -> bool
     asked || last
 }
 
-/// Answers one request, which is the last that is served or not. A poll that may wait has so many
-/// further drains at most.
-pub(crate) fn answer_request<T: Turns, O: Sink, C: Clock, N: Entropy, P: Pause>(
+/// Answers what one request wants. `close` says whether the connection ends after it.
+fn answer_wanted<T: Turns, O: Sink, C: Clock, N: Entropy, P: Pause>(
     alloc: Global,
     front: &Front,
     turns: &mut T,
@@ -117,17 +118,19 @@ pub(crate) fn answer_request<T: Turns, O: Sink, C: Clock, N: Entropy, P: Pause>(
     more: u32,
     request: &Request,
     last: bool,
+    wanted: &Wanted,
+    close: bool,
 ) -> Result<(), Closed>
+    requires wanted { wanted.now ≡ wanted_of front.now request.now }
+    requires sound { IsSound wanted.now }
+    requires close { close ≡ (request.now.close || last) }
+    requires goes_on { close ≡ false → last ≡ false }
     ensures answered { let at = giving O.holds O.write_faults C.answer N.word N.faults in
         Answered T.turn front.now more result request.now last (at output.old clock.old entropy.old)
         (at output.new clock.new entropy.new) turns.old turns.new }
     ensures goes_on { OnOk result (last ≡ false) }
 {
-    let close = closes(request.close, last);
-    let Ok(wanted) = front.wanted(alloc, request) else {
-        return finish(send(output, no_memory_answer(close)), close);
-    };
-    match &wanted {
+    match wanted {
         Wanted::Fault { body } => finish_early(answer_fixed(
             alloc,
             output,
@@ -152,4 +155,32 @@ pub(crate) fn answer_request<T: Turns, O: Sink, C: Clock, N: Entropy, P: Pause>(
             close,
         ),
     }
+}
+
+/// Answers one request, which is the last that is served or not. A poll that may wait has so many
+/// further drains at most.
+pub(crate) fn answer_request<T: Turns, O: Sink, C: Clock, N: Entropy, P: Pause>(
+    alloc: Global,
+    front: &Front,
+    turns: &mut T,
+    output: &mut O,
+    clock: &mut C,
+    entropy: &mut N,
+    pause: &P,
+    more: u32,
+    request: &Request,
+    last: bool,
+) -> Result<(), Closed>
+    ensures answered { let at = giving O.holds O.write_faults C.answer N.word N.faults in
+        Answered T.turn front.now more result request.now last (at output.old clock.old entropy.old)
+        (at output.new clock.new entropy.new) turns.old turns.new }
+    ensures goes_on { OnOk result (last ≡ false) }
+{
+    let close = closes(request.close, last);
+    let Ok(wanted) = front.wanted(alloc, request) else {
+        return finish(send(output, no_memory_answer(close)), close);
+    };
+    answer_wanted(
+        alloc, front, turns, output, clock, entropy, pause, more, request, last, &wanted, close,
+    )
 }

@@ -6,7 +6,7 @@ ghost use Rattle.tailnet_desk.specs.declared.reply.Reply.TheVariants as replies;
 ghost use Rattle.desk_front.specs.Replies.{map_ask_of, reply_bytes};
 ghost use Rattle.desk_front.specs.declared.front_settings.FrontSettings.{FrontSettings};
 ghost use Rattle.run_ends.specs.Pieces.{Sent};
-ghost use Rattle.connections.specs.Polled.{DrainedSent, Followed, FurtherSent, IsPollAnswered, NextSent, TurnedOnce};
+ghost use Rattle.connections.specs.Polled.{AttachAnswered, DrainedSent, Followed, FurtherSent, IsPollAnswered, NextSent, TurnedOnce};
 ghost use Rattle.connections.specs.Polls.{IsAttachOf, IsDetachOf, IsDrainOf};
 ghost use Rattle.connections.specs.Tellings.{Drew, Giving, giving, taking, telling, writing};
 
@@ -277,6 +277,47 @@ fn refuse_poll<O: Sink>(
     send_reply(alloc, front, output, &poll.map_ask(), reply, close)
 }
 
+/// Answers a poll by what its attach was replied.
+fn answer_attached<T: Turns, O: Sink, C: Clock, P: Pause>(
+    alloc: Global,
+    front: &Front,
+    turns: &mut T,
+    output: &mut O,
+    clock: &mut C,
+    pause: &P,
+    more: u32,
+    poll: &Poll,
+    reply: &Reply,
+    close: bool,
+) -> Result<(), Closed>
+    requires kind { IsAttachReply reply.now }
+    ensures answered { (words : ℕ → Option (List ℕ)) (word_faults : ℕ)
+        → let at = writing O.holds O.write_faults C.answer words word_faults in
+        AttachAnswered T.turn front.now more result close poll.now reply.now
+        (at output.old clock.old) (at output.new clock.new) turns.old turns.new }
+{
+    match reply {
+        Reply::Attached {
+            handle,
+            seq: _,
+            resumed,
+            may_wait,
+        } => {
+            let stream = Stream {
+                poll,
+                handle,
+                resumed: *resumed,
+                more: further_of(*may_wait, more),
+                close,
+            };
+            follow(alloc, front, turns, output, clock, pause, &stream)
+        }
+        Reply::Refused(_) => refuse_poll(alloc, front, output, poll, reply, close),
+        Reply::Lost(_) => refuse_poll(alloc, front, output, poll, reply, close),
+        Reply::Done(_) | Reply::Frames(_) | Reply::Ended | Reply::Detached => unreachable!(),
+    }
+}
+
 /// Answers a poll, which has so many further drains at most, if it may wait. The pause is noted after
 /// each event but a drain.
 pub(crate) fn answer_poll<T: Turns, O: Sink, C: Clock, N: Entropy, P: Pause>(
@@ -298,24 +339,7 @@ pub(crate) fn answer_poll<T: Turns, O: Sink, C: Clock, N: Entropy, P: Pause>(
 {
     let reply = attach_poll(alloc, turns, clock, entropy, poll);
     pause.note();
-    match &reply {
-        Reply::Attached {
-            handle,
-            seq: _,
-            resumed,
-            may_wait,
-        } => {
-            let stream = Stream {
-                poll,
-                handle,
-                resumed: *resumed,
-                more: further_of(*may_wait, more),
-                close,
-            };
-            follow(alloc, front, turns, output, clock, pause, &stream)
-        }
-        Reply::Refused(_) => refuse_poll(alloc, front, output, poll, &reply, close),
-        Reply::Lost(_) => refuse_poll(alloc, front, output, poll, &reply, close),
-        Reply::Done(_) | Reply::Frames(_) | Reply::Ended | Reply::Detached => unreachable!(),
-    }
+    answer_attached(
+        alloc, front, turns, output, clock, pause, more, poll, &reply, close,
+    )
 }
