@@ -4,8 +4,6 @@
 #[cfg(test)]
 mod edges;
 #[cfg(test)]
-mod extras;
-#[cfg(test)]
 mod faults;
 #[cfg(test)]
 mod limits;
