@@ -56,6 +56,21 @@ fn served(
     Ok((closed, output))
 }
 
+/// Serves two connections over the desk, the first with a write that fails: how the first ended, and
+/// what the second wrote.
+fn served_both(
+    alloc: Global,
+    front: &Front,
+    desk: &mut Desk<MemoryKeeper>,
+    first: &[u8],
+    write: u32,
+    second: &[u8],
+) -> Result<(Closed, MemorySink), NoMemory> {
+    let (closed, _cut) = served(alloc, front, desk, first, write)?;
+    let (_end, output) = served(alloc, front, desk, second, 0)?;
+    Ok((closed, output))
+}
+
 /// Serves two connections over a desk with empty tables, the first with a write that fails: how the
 /// first ended, and what the second wrote.
 pub fn served_twice(
@@ -64,8 +79,8 @@ pub fn served_twice(
     write: u32,
     second: &[u8],
 ) -> Result<(Closed, MemorySink), NoMemory> {
-    let (front, mut desk) = opened(alloc)?;
-    let (closed, _cut) = served(alloc, &front, &mut desk, first, write)?;
-    let (_end, output) = served(alloc, &front, &mut desk, second, 0)?;
-    Ok((closed, output))
+    match opened(alloc) {
+        Ok((front, mut desk)) => served_both(alloc, &front, &mut desk, first, write, second),
+        Err(NoMemory) => Err(NoMemory),
+    }
 }
