@@ -5,7 +5,9 @@ import json
 from texts import (
     FIRST_MOMENT,
     ZERO_KEY,
+    address_of,
     endpoint_of,
+    is_domain,
     is_tag,
     key_of,
     moment_of,
@@ -22,16 +24,20 @@ class BodyFault(Exception):
         self.answer = {"error": error} if field is None else {"error": error, "field": field}
 
 
-def object_of(body):
-    """The JSON object that a body is."""
+def value_of(body, wanted):
+    """The JSON value of this type that a body is."""
     try:
         # (-0 isn't a number in plain digits)
         value = json.loads(body.decode("utf-8"), parse_int=lambda text: -1 if text == "-0" else int(text))
     except ValueError:
         raise BodyFault("NotJson") from None
-    if not isinstance(value, dict):
+    if not isinstance(value, wanted):
         raise BodyFault("NotJson")
     return value
+
+
+def object_of(body):
+    return value_of(body, dict)
 
 
 class Fields:
@@ -147,17 +153,14 @@ def read_map_request(body):
     fields = Fields(object_of(body))
     if fields.members.get("Compress") not in (None, ""):
         raise BodyFault("Compressed")
-    form = {"node": fields.node_key()}
-    is_poll = fields.flag("Stream")
+    form = {"node": fields.node_key(), "is_poll": fields.flag("Stream")}
     form["omits_peers"] = fields.flag("OmitPeers")
     form["reads_only"] = fields.flag("ReadOnly")
-    fields.of_type("MapSessionHandle", str)
-    fields.number("MapSessionSeq", 2**64 - 1)
+    form["handle"] = fields.of_type("MapSessionHandle", str) or ""
+    form["seq"] = fields.number("MapSessionSeq", 2**64 - 1)
     form["endpoints"] = fields.list("Endpoints", 32, endpoint_of)
     form["disco"] = fields.key("DiscoKey", "discokey:")
     form["host"] = read_host_update(fields.inner("Hostinfo"))
-    if is_poll:
-        raise BodyFault("BadField", "Stream")
     return form
 
 
@@ -187,3 +190,28 @@ def read_routes_form(body):
     fields = Fields(object_of(body))
     fields.required("routes")
     return fields.routes("routes")
+
+
+def read_record(element):
+    """An extra record as it is shown. Its type is tried against its address when that was read."""
+    if not isinstance(element, dict):
+        raise BodyFault("BadField", "Name")
+    fields = Fields(element)
+    name = fields.text("Name")
+    if not is_domain(name):
+        raise BodyFault("BadField", "Name")
+    given = fields.of_type("Type", str)
+    address = address_of(fields.text("Value"))
+    if address is None:
+        raise BodyFault("BadField", "Value")
+    fitting = "AAAA" if address.version == 6 else "A"
+    if given not in (None, "", fitting):
+        raise BodyFault("BadField", "Type")
+    return {"Name": name, "Type": fitting, "Value": str(address)}
+
+
+def read_extras_form(body):
+    elements = value_of(body, list)
+    if len(elements) > 256:
+        raise BodyFault("BadField", "Name")
+    return [read_record(element) for element in elements]

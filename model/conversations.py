@@ -3,13 +3,14 @@
 `= NAME` begins a conversation. Before its first request may stand `: KEY = VALUE`, a line more in its settings, and
 `@ 1 2 3`, the clock's answers. Then `> METHOD PATH CALLER BODY` is a request and `< STATUS BODY` an answer. A caller is
 `Bearer/TOKEN`, a machine key, or `-` for none. `%x` stands for 64 times `x`, an answer's body `#..` for a framed one, and
-`< registered` for the answer to a registration of the seed's user.
+`< registered` for the answer to a registration of the seed's user. The answer to a poll is `< stream`, the head of a
+stream, then a line `+ TEXT` for each chunk with the frame of a text, and `.`, the last chunk.
 """
 
 import re
 from dataclasses import dataclass, field
 
-from heads import answer_bytes
+from heads import LAST_CHUNK, STREAM_HEAD, answer_bytes, chunk_of, frame_of
 
 NOON = 1000000000
 EARLY = (400, 411, 413, 431)
@@ -29,7 +30,7 @@ class Conversation:
     settings: str = ""
     moments: list = field(default_factory=list)
     requests: bytes = b""
-    # each answer's bytes, with the number of its line
+    # the bytes of each line of an answer, with the number of the line
     answers: list = field(default_factory=list)
     status: int = 0
 
@@ -43,6 +44,13 @@ class Conversation:
                 self.moments += [int(word) for word in rest.split()]
             case ">":
                 self.requests += request_bytes(rest)
+            case "<" if rest == "stream":
+                self.answers.append((number, STREAM_HEAD))
+                self.status = 0
+            case "+":
+                self.answers.append((number, chunk_of(frame_of(wide(rest)))))
+            case ".":
+                self.answers.append((number, LAST_CHUNK))
             case "<":
                 code, body, ends = answer_of(rest)
                 self.answers.append((number, answer_bytes(code, body, ends)))
@@ -72,9 +80,7 @@ def answer_of(line):
     """The status and the body of an answer, and whether it ends the connection."""
     status, _, text = (REGISTERED if line == "registered" else line).partition(" ")
     body = wide(text.removeprefix("#"))
-    if text.startswith("#"):
-        body = len(body).to_bytes(4, "little") + body
-    return int(status), body, int(status) in EARLY
+    return int(status), frame_of(body) if text.startswith("#") else body, int(status) in EARLY
 
 
 def conversations_of(lines):

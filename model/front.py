@@ -8,6 +8,7 @@ from bodies import (
     Fields,
     object_of,
     read_admit_form,
+    read_extras_form,
     read_key_form,
     read_map_request,
     read_register,
@@ -16,9 +17,10 @@ from bodies import (
 )
 from granting import NoPolicy
 from grants import Grants
-from heads import HeadFault, refuse_head, values_of
+from heads import HeadFault, frame_of, refuse_head, values_of
 from policies import PolicyFault
 from routes import approved, exits_of
+from sessions import drain
 from tailnet import Refusal
 from texts import ZERO_KEY, key_of, moment_text
 
@@ -62,6 +64,7 @@ ROUTES = [
     ("/api/v1/node/{id}/routes", {"POST": "set_routes"}),
     ("/api/v1/register", {"GET": "waiting", "POST": "admit"}),
     ("/api/v1/policy", {"GET": "policy", "PUT": "save_policy"}),
+    ("/api/v1/dns", {"GET": "extras", "PUT": "set_extras"}),
     ("/api/v1/sweep", {"POST": "sweep"}),
 ]
 SEGMENTS = {"{login}": "(?P<login>[^/]+)", "{id}": "(?P<id>[1-9][0-9]{0,9})"}
@@ -97,11 +100,11 @@ class Front:
         self.tailnet, self.settings, self.clock, self.words = tailnet, settings, clock, words
 
     def answer(self, request):
-        """The status and the body of the answer to a request."""
+        """The status and the body of the answer to a request; of a poll, its frames."""
         try:
             refuse_head(request)
             body = self.act(request)
-            return 200, body if isinstance(body, bytes) else text_of(body)
+            return 200, body if isinstance(body, (bytes, list)) else text_of(body)
         except HeadFault as fault:
             return fault.status, json.dumps(fault.answer, separators=(",", ":")).encode()
         except BodyFault as fault:
@@ -160,13 +163,27 @@ class Front:
 
     def map(self, machine, body):
         form = read_map_request(body)
+        if form["is_poll"]:
+            return self.poll(machine, form)
         row = self.at_once().asking(machine, form["node"])
         if not form["reads_only"]:
             self.tailnet.update(row, form)
         if form["omits_peers"] and not form["reads_only"]:
             return b""
-        text = text_of(self.whole_map(row))
-        return len(text).to_bytes(4, "little") + text
+        return frame_of(text_of(self.whole_map(row)))
+
+    def poll(self, machine, form):
+        """The frames of a poll that doesn't wait. It updates nothing."""
+        words = self.words()
+        session, goes_on = self.at_once().attach(machine, form, words)
+        greeting = [{"MapSessionHandle": session.handle}] if goes_on else []
+        responses = greeting + self.drain(machine, session.handle)
+        self.at_once().detach(machine, session.handle)
+        return [frame_of(text_of(response)) for response in responses]
+
+    def drain(self, machine, handle):
+        row, session = self.at_once().drained(machine, handle)
+        return drain(session, self.whole_map(row)) if session else []
 
     def resolvers(self, addresses):
         return [{"Addr": address} for address in addresses]
@@ -181,7 +198,7 @@ class Front:
         whole = {
             "DNSConfig": {
                 "Domains": self.settings.get("dns.search", [self.settings["base_domain"]]),
-                "ExtraRecords": [],
+                "ExtraRecords": tailnet.extras,
                 "Proxied": self.settings.get("dns.magic", True),
                 "Resolvers": self.resolvers(self.settings.get("dns.resolvers", [])),
                 "Routes": {domain: self.resolvers(routes[domain]) for domain in sorted(routes)},
@@ -211,7 +228,7 @@ class Front:
             "Machine": "mkey:" + row.machine,
             "MachineAuthorized": True,
             "Name": f"{row.name}.{self.settings['base_domain']}.",
-            "Online": False,
+            "Online": row.online,
             "StableID": f"n{row.id}",
             "Tags": row.tags,
             "User": self.owner(row),
@@ -275,7 +292,7 @@ class Front:
             "id": row.id,
             "live": self.tailnet.is_live(row),
             "name": row.name,
-            "online": False,
+            "online": row.online,
             "served": [str(route) for route in served],
             "tags": row.tags,
             "user": login,
@@ -331,6 +348,14 @@ class Front:
             raise BodyFault("NotJson") from None
         self.at_once().save_policy(body)
         return {}
+
+    def extras(self, _, body):
+        return text_of(self.at_once().extras)
+
+    def set_extras(self, _, body):
+        extras = read_extras_form(body)
+        self.at_once().set_extras(extras)
+        return text_of(extras)
 
     def sweep(self, _, body):
         object_of(body)

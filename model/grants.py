@@ -76,12 +76,16 @@ class Grants:
         """The routes that a machine is shown at itself."""
         return self.approved(row) + exits_of(self.policy, row, self.login(row))
 
+    def router(self, peers, route):
+        """The peer by which a route goes: one that is online before one that isn't, and then the least id."""
+        return min((peer for peer in peers if route in self.approved(peer)), key=lambda peer: (not peer.online, peer.id))
+
     def shown_routes(self, viewer, peer, peers):
-        """The routes that a viewer of these peers is shown at one. No machine is online, so that the least id is chosen."""
+        """The routes that a viewer of these peers is shown at one."""
         routes = [
             route
             for route in self.approved(peer)
-            if self.is_granted(viewer, [route]) and peer is next(other for other in peers if route in self.approved(other))
+            if self.is_granted(viewer, [route]) and peer is self.router(peers, route)
         ]
         exits = exits_of(self.policy, peer, self.login(peer))
         return routes + (exits if exits and self.is_granted(viewer, INTERNET) else [])

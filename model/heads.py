@@ -43,6 +43,21 @@ def refuse_head(request):
         raise HeadFault(413, "BodyTooLong")
 
 
+STREAM_HEAD = b"HTTP/1.1 200 OK\r\nContent-Type: application/json\r\nTransfer-Encoding: chunked\r\n\r\n"
+LAST_CHUNK = b"0\r\n\r\n"
+
+
+def frame_of(text):
+    return len(text).to_bytes(4, "little") + text
+
+
+def chunk_of(frame):
+    return f"{len(frame):x}\r\n".encode() + frame + b"\r\n"
+
+
 def answer_bytes(status, body, ends):
+    """An answer with a body, or, where the body is a list of frames, with a stream."""
+    if isinstance(body, list):
+        return STREAM_HEAD + b"".join(chunk_of(frame) for frame in body) + LAST_CHUNK
     lines = [f"HTTP/1.1 {status} {PHRASES[status]}", "Content-Type: application/json", f"Content-Length: {len(body)}"]
     return "\r\n".join([*lines, *(["Connection: close"] if ends else []), "", ""]).encode() + body

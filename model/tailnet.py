@@ -6,6 +6,7 @@ from dataclasses import dataclass, field
 from granting import first_failure
 from policies import PolicyFault, read_policy
 from routes import EXITS, TAILNETS, has_both_exits, meet
+from sessions import NUMBER_LIMIT, Session
 from texts import LAST_MOMENT, ZERO_KEY, clamped, is_label, label_of_host, login_of, numbered
 
 COUNTER_LIMIT = 2147483647
@@ -70,16 +71,20 @@ class Machine:
     disco: str = ZERO_KEY
     endpoints: list = field(default_factory=list)
     derp: int = 0
+    online: bool = False
 
 
 class Tailnet:
-    """Rows by id, the policy, the time, and the settings. No machine is ever online, as there are no polls yet."""
+    """Rows by id, the sessions of machines, the policy, the time, and the settings."""
 
     def __init__(self, settings, moment):
         self.settings = settings
         self.now = clamped(moment)
         self.users, self.keys, self.pending, self.machines = {}, {}, {}, {}
         self.next = dict.fromkeys(LIMITS, 1)
+        self.sessions, self.next_session = {}, 1
+        # the extra DNS records, as they are shown
+        self.extras = []
         # the policy in force and its text, from the first save on
         self.policy, self.policy_text = None, None
 
@@ -94,7 +99,9 @@ class Tailnet:
     def is_live(self, machine):
         if machine.expiry is not None and machine.expiry <= self.now:
             return False
-        return not machine.ephemeral or self.now < self.later(machine.offline_since, self.settings["ephemeral_seconds"])
+        if machine.online or not machine.ephemeral:
+            return True
+        return self.now < self.later(machine.offline_since, self.settings["ephemeral_seconds"])
 
     def is_overdue(self, entry):
         return self.later(entry.made, self.settings["pending_seconds"]) <= self.now
@@ -124,6 +131,19 @@ class Tailnet:
             raise Refusal("Full", what=kind)
         return self.next[kind]
 
+    def remove(self, id):
+        """The machine's row goes, and its session."""
+        del self.machines[id]
+        self.sessions.pop(id, None)
+
+    def go_offline(self, row):
+        if row.online:
+            row.online, row.offline_since = False, self.now
+
+    def end_session(self, row):
+        self.sessions.pop(row.id, None)
+        self.go_offline(row)
+
     def put(self, kind, rows, row):
         rows[row.id] = row
         self.next[kind] = row.id + 1
@@ -152,7 +172,7 @@ class Tailnet:
         return Machine(id, self.free_name(host), v4, v6, self.now, key, self.now)
 
     def enter(self, key, user, form, tags, ephemeral):
-        """The machine's row is made, or renewed in its place, and its pending entry goes."""
+        """The machine's row is made, or renewed in its place and without a session, and its pending entry goes."""
         held = self.machine_of(key) or self.new_machine(key, form["host"])
         row = Machine(held.id, held.name, held.v4, held.v6, held.created, key, self.now)
         row.node, row.user, row.host, row.routes = form["node"], user, form["host"], form["routes"]
@@ -161,6 +181,7 @@ class Tailnet:
         if row.expiry is None and not row.tags and self.settings["key_seconds"]:
             row.expiry = self.later(self.now, self.settings["key_seconds"])
         self.machines[row.id] = row
+        self.sessions.pop(row.id, None)
         self.next["Machine"] = max(self.next["Machine"], row.id + 1)
         entry = self.entry_of(key)
         if entry:
@@ -187,6 +208,7 @@ class Tailnet:
             return self.register_by_key(key, form)
         if row and self.is_live(row) and row.node == form["old"]:
             row.node = form["node"]
+            self.end_session(row)
             return self.users[row.user], False
         return self.wait(key, form, words)
 
@@ -194,9 +216,11 @@ class Tailnet:
         if row is None or row.node != form["node"]:
             raise Refusal("UnknownMachine")
         if row.ephemeral:
-            del self.machines[row.id]
-        elif row.expiry is None or row.expiry > self.now:
+            self.remove(row.id)
+            return self.users[row.user], True
+        if row.expiry is None or row.expiry > self.now:
             row.expiry = self.now
+        self.end_session(row)
         return self.users[row.user], True
 
     def refuse_taken(self, key, node):
@@ -253,6 +277,44 @@ class Tailnet:
             row.host = row.host if host["name"] is None else host["name"]
             row.derp = row.derp if host["derp"] is None else host["derp"]
             row.routes = host["routes"]
+
+    # Polls
+
+    def attach(self, key, form, words):
+        """The session that a poll of the live machine holds from now on, and whether it goes on."""
+        row = self.asking(key, form["node"])
+        session = self.sessions.get(row.id)
+        goes_on = bool(session) and not session.is_attached and (session.handle, session.seq) == (form["handle"], form["seq"])
+        if not goes_on:
+            session = self.begin_session(row, words)
+        session.is_attached, row.online = True, True
+        return session, goes_on
+
+    def begin_session(self, row, words):
+        if self.next_session >= NUMBER_LIMIT:
+            raise Refusal("Full", what="Session")
+        if words is None:
+            raise Refusal("EntropyFault")
+        self.sessions[row.id] = Session(f"s{self.next_session}-{words[0]:016x}")
+        self.next_session += 1
+        return self.sessions[row.id]
+
+    def held(self, key, handle):
+        """The machine and its session, where a poll holds it under this handle; else none of them."""
+        row = self.machine_of(key)
+        session = row and self.sessions.get(row.id)
+        return (row, session) if session and session.is_attached and session.handle == handle else (None, None)
+
+    def drained(self, key, handle):
+        """The same where the machine is live and a number is left for a response."""
+        row, session = self.held(key, handle)
+        return (row, session) if row and self.is_live(row) and session.seq < NUMBER_LIMIT else (None, None)
+
+    def detach(self, key, handle):
+        row, session = self.held(key, handle)
+        if session:
+            session.is_attached = False
+            self.go_offline(row)
 
     # What operators ask
 
@@ -345,14 +407,17 @@ class Tailnet:
             raise PolicyFault(21, failure)
         self.policy, self.policy_text = policy, text
 
+    def set_extras(self, extras):
+        self.extras = extras
+
     def drop_node(self, id):
-        del self.machines[self.machine_with(id).id]
+        self.remove(self.machine_with(id).id)
 
     def sweep(self):
         gone = [row.id for row in self.machines.values() if row.ephemeral and not self.is_live(row)]
         overdue = [row.id for row in self.pending.values() if self.is_overdue(row)]
         for id in gone:
-            del self.machines[id]
+            self.remove(id)
         for id in overdue:
             del self.pending[id]
         return len(gone), len(overdue)

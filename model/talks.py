@@ -35,6 +35,11 @@ NO_ENDPOINTS = [
 TAGS = ["tag:web", "tag:Db-1", "tag:a"]
 NO_TAGS = ["tag:", "tag:1", "web", "tag:a_b", "tag:" + "a" * 64, "Tag:a"]
 OTHER_TYPES = [None, 5, True, [], {}, "x", -1, 1.5]
+RECORD_NAMES = ["nas.tail.example", "printer", "a.b.c", "x" * 63 + ".y-1"]
+NO_RECORD_NAMES = ["", ".", "nas.", ".nas", "a..b", "Nas", "a_b", "-a", "é", "x" * 64, ".".join(4 * ["z" * 63])]
+VALUES = ["192.168.5.9", "0.0.0.0", "2001:DB8:0:0:1::80", "fd7a:115c:a1e0::1", "::"]
+NO_VALUES = ["", "192.168.5", "192.168.5.09", "192.168.5.9/32", "2001:db8::1%x", "::1.2.3.4", "nas"]
+NO_TYPES = ["A", "AAAA", "MX", "a", " "]
 IDS = ["0", "01", "2147483647", "2147483648", "x", "-1", "1x", "99999999999", "+1", "7"]
 BODIES = [
     b"", b"[]", b"{", b"null", b'"x"', b'{"a":1}x', b"\xff", b'{"NodeKey":"\xff"}', b'{"name":"a","name":"dup"}', b'{"user":-0}',
@@ -69,7 +74,7 @@ APPROVERS = ["ann@", "seed@", "seed@", "group:dev", "tag:web", "tag:Db-1"]
 PORTS = ["*", "*", "22", "80-90,85-100", "443,22", "1-2,3-4,6", "0-65535"]
 STRAY = [
     ("GET", "/"), ("GET", "/machine/map"), ("PUT", "/machine/map"), ("POST", "/machine/map/"), ("GET", "/api/v1/node/1"),
-    ("POST", "/api/v1/policy"), ("PUT", "/api/v1/node/1/routes"), ("GET", "/api/v1/dns"), ("DELETE", "/api/v1/user/"),
+    ("POST", "/api/v1/policy"), ("PUT", "/api/v1/node/1/routes"), ("POST", "/api/v1/dns"), ("DELETE", "/api/v1/dns"), ("GET", "/api/v1/dns/"), ("DELETE", "/api/v1/user/"),
     ("PATCH", "/api/v1/user"), ("GET", "/api/v1/user?x=1"), ("post", "/api/v1/sweep"), ("GET", "//api/v1/user"),
     ("GET", "/api/v1/user/"), ("DELETE", "/api/v1/node/0"), ("GET", "/api/v1/node/01"), ("GET", "/api/v1/node/1/"),
 ]
@@ -80,11 +85,13 @@ class Talk:
 
     def __init__(self, random, tailnet, settings):
         self.random, self.tailnet, self.settings = random, tailnet, settings
-        others = [self.user, self.pre_auth_key, self.waiting]
+        others = [self.user, self.pre_auth_key, self.waiting, self.extras]
         often = 10 * [self.register] + 5 * [self.map] + 5 * [self.whole_map] + 3 * [self.node] + 3 * [self.routes] + 2 * [self.advertise]
         # every third conversation is about routers and what maps show of them
         routed = 4 * [self.router] + 3 * [self.advertise] + 5 * [self.routes] + 8 * [self.whole_map] + [self.node]
-        self.draws = (routed if self.once_in(3) else often) + 2 * [self.policy] + others
+        # how much of the conversation polls take
+        polled = self.one_of([0, 1, 5]) * (6 * [self.poll] + 3 * [self.change_node] + 3 * [self.join] + [self.extras])
+        self.draws = (routed if self.once_in(3) else often) + 2 * [self.policy] + others + polled
 
     def once_in(self, times):
         return self.random.randrange(times) == 0
@@ -158,10 +165,10 @@ class Talk:
         body = self.object(
             Compress=(3, lambda: self.one_of(["", "zstd"], OTHER_TYPES)),
             NodeKey=(98, lambda: self.key("nodekey:", "abcdefgh")),
-            Stream=(20, lambda: self.once_in(20)),
+            Stream=(20, self.flag),
             OmitPeers=(40, self.flag),
             ReadOnly=(40, self.flag),
-            MapSessionHandle=(5, lambda: self.text(["x", ""])),
+            MapSessionHandle=(8, lambda: self.text(["x", ""], [session.handle for session in self.tailnet.sessions.values()])),
             MapSessionSeq=(8, lambda: self.one_of([0, 1, 2**64 - 1, 2**64], OTHER_TYPES)),
             Endpoints=(40, lambda: self.some(ENDPOINTS, NO_ENDPOINTS, 32)),
             DiscoKey=(30, lambda: self.key("discokey:", "1234")),
@@ -185,6 +192,54 @@ class Talk:
         if held is None:
             return self.register()
         return "POST", "/machine/map", "mkey:" + held.machine, {"NodeKey": "nodekey:" + held.node, "ReadOnly": True}
+
+    def join(self):
+        """A sound registration of a machine that isn't there, once there is a key."""
+        rows = self.tailnet.machines.values()
+        machines = [64 * digit for digit in "12345" if self.tailnet.machine_of(64 * digit) is None]
+        nodes = [64 * digit for digit in "abcdef" if all(row.node != 64 * digit for row in rows)]
+        if not machines or not self.tailnet.keys:
+            return self.register()
+        body = {
+            "NodeKey": "nodekey:" + self.one_of(nodes),
+            "Auth": {"AuthKey": self.one_of(self.tailnet.keys.values()).text},
+            "Hostinfo": {"Hostname": self.one_of(HOSTS[:5])},
+        }
+        return "POST", "/machine/register", "mkey:" + self.one_of(machines), body
+
+    def live_machine(self):
+        """One of the machines that are live; None if none is."""
+        live = [row for row in self.tailnet.machines.values() if self.tailnet.is_live(row)]
+        return self.one_of(live or [None])
+
+    def poll(self):
+        """A sound poll, once a machine is live. It mostly names what its client was told last."""
+        held = self.live_machine()
+        if held is None:
+            return self.register()
+        body = {"NodeKey": "nodekey:" + held.node, "Stream": True}
+        session = self.tailnet.sessions.get(held.id)
+        told = self.one_of(self.tailnet.sessions.values(), [None]) if self.once_in(6) else session
+        if told:
+            seq = told.seq if self.once_in(2) else max(0, told.seq + self.one_of([0, 0, 0, 0, 1, -1]))
+            body |= {"MapSessionHandle": told.handle, "MapSessionSeq": seq}
+        if self.once_in(3):
+            body |= {"OmitPeers": True, "Endpoints": ["192.0.2.9:9"], "Hostinfo": {"Hostname": "polls", "RoutableIPs": ["10.0.0.0/8"]}}
+        return "POST", "/machine/map", "mkey:" + held.machine, body
+
+    def change_node(self):
+        """A sound update of what patches tell, once a machine is live."""
+        held = self.live_machine()
+        if held is None:
+            return self.register()
+        body = {"NodeKey": "nodekey:" + held.node, "OmitPeers": True, "Endpoints": self.one_of([held.endpoints, [], ENDPOINTS[:1], ENDPOINTS[1:3]])}
+        body |= self.object(
+            DiscoKey=(30, lambda: "discokey:" + self.one_of("1234") * 64),
+            Hostinfo=(40, lambda: {
+                "NetInfo": {"PreferredDERP": self.one_of([0, 1, 65535])}, "RoutableIPs": [str(route) for route in held.routes],
+            }),
+        )
+        return "POST", "/machine/map", "mkey:" + held.machine, body
 
     def id(self, rows):
         return self.one_of(IDS if self.once_in(10) else [], [str(id) for id in rows], ["1"])
@@ -311,6 +366,28 @@ class Talk:
             ("PUT", "/api/v1/policy", None, text.encode()),
             ("PUT", "/api/v1/policy", None, text.encode()),
         ])
+
+    def record(self):
+        """An extra record, mostly a sound one."""
+        if self.once_in(80):
+            return self.one_of(OTHER_TYPES)
+        value = self.text(20 * VALUES, NO_VALUES)
+        fitting = "AAAA" if isinstance(value, str) and ":" in value else "A"
+        return self.object(
+            Name=(98, lambda: self.text(40 * RECORD_NAMES, NO_RECORD_NAMES)),
+            Type=(50, lambda: self.text(40 * [fitting], 5 * [""], NO_TYPES)),
+            Value=(98, lambda: value),
+            TTL=(5, lambda: 60),
+        )
+
+    def extras(self):
+        """The extra records are shown, or others put in their place; and sometimes there are too many."""
+        if self.once_in(3):
+            return "GET", "/api/v1/dns", None, None
+        records = [self.record() for _ in range(self.one_of([0, 1, 1, 2, 2, 3]))]
+        if self.once_in(15):
+            records = self.one_of(BODIES, [self.one_of([256, 257]) * [{"Name": "nas", "Value": "192.168.5.9"}]])
+        return "PUT", "/api/v1/dns", None, records
 
     def stray(self):
         method, path = self.one_of(STRAY)

@@ -1,4 +1,4 @@
-"""Texts and their values: moments, keys, addresses, prefixes, endpoints, logins, labels, tags."""
+"""Texts and their values: moments, keys, addresses, prefixes, endpoints, logins, labels, domains, tags."""
 
 import datetime
 import ipaddress
@@ -105,6 +105,11 @@ def login_of(text):
 
 def is_label(text):
     return re.fullmatch("[a-z0-9]([a-z0-9-]{0,61}[a-z0-9])?", text) is not None
+
+
+def is_domain(text):
+    """Labels joined by dots, no longer than a name in the DNS may be."""
+    return len(text) <= 253 and all(is_label(label) for label in text.split("."))
 
 
 def is_tag(text):

@@ -11,6 +11,7 @@ use Rattle.admin_asks.specs.Short.{IsShortOperatorAsk}
 use Rattle.admin_asks.specs.declared.operator_ask.OperatorAsk.{OperatorAsk}
 use Rattle.admin_asks.specs.declared.operator_ask.OperatorAsk.TheVariants as ask
 use Rattle.admin_asks.proofs.Admissions.{admit_proper}
+use Rattle.admin_asks.proofs.ExtraLaws.{set_extras_proper}
 use Rattle.admin_asks.proofs.KeyLaws.{add_key_proper, expire_key_proper}
 use Rattle.admin_asks.proofs.NodeLaws.{drop_node_proper, expire_node_proper, rename_proper, set_tags_proper}
 use Rattle.admin_asks.proofs.RouteLaws.{set_routes_proper}
@@ -32,4 +33,6 @@ operator_decision_sound s (ask.Rename id name) words hold none short = rename_pr
 operator_decision_sound s (ask.SetTags id tags) words hold none short = set_tags_proper s id tags (sound_of s.rows none) short
 operator_decision_sound s (ask.SetRoutes id routes) words hold none short = set_routes_proper s id routes (sound_of s.rows none)
 operator_decision_sound s (ask.DropNode id) words hold none short = drop_node_proper s id (sound_of s.rows none)
+operator_decision_sound s ask.Extras words hold none short = proper_none s.rows _ refl refl
+operator_decision_sound s (ask.SetExtras given) words hold none short = set_extras_proper s given (sound_of s.rows none) short
 operator_decision_sound s ask.Sweep words hold none short = sweep_proper s (sound_of s.rows none)

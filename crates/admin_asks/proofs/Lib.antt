@@ -1,5 +1,6 @@
 pub mod DecisionLaws
 mod Admissions
+mod ExtraLaws
 mod KeyLaws
 mod NamedLaws
 mod NodeLaws

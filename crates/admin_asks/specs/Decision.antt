@@ -4,6 +4,7 @@ use Rattle.desk_state.specs.State.{State}
 use Rattle.desk_state.specs.declared.decision.Decision.{Decision}
 use Rattle.desk_state.specs.declared.refusal.Refusal.{Refusal}
 use Rattle.admin_asks.specs.Admit.{admit}
+use Rattle.admin_asks.specs.Extras.{extras, set_extras}
 use Rattle.admin_asks.specs.Keys.{add_key, keys, expire_key}
 use Rattle.admin_asks.specs.Nodes.{nodes, expire_node, rename, set_tags, drop_node}
 use Rattle.admin_asks.specs.Routes.{set_routes}
@@ -30,4 +31,6 @@ decision s (ask.Rename id name) words = rename s id name
 decision s (ask.SetTags id tags) words = set_tags s id tags
 decision s (ask.SetRoutes id routes) words = set_routes s id routes
 decision s (ask.DropNode id) words = drop_node s id
+decision s ask.Extras words = extras s
+decision s (ask.SetExtras given) words = set_extras s given
 decision s ask.Sweep words = sweep s

@@ -19,4 +19,6 @@ draws (ask.Rename id name) = false
 draws (ask.SetTags id tags) = false
 draws (ask.SetRoutes id routes) = false
 draws (ask.DropNode id) = false
+draws ask.Extras = false
+draws (ask.SetExtras given) = false
 draws ask.Sweep = false

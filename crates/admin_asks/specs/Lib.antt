@@ -1,6 +1,7 @@
 pub mod Admit
 pub mod Decision
 pub mod Draws
+pub mod Extras
 pub mod Keys
 pub mod Nodes
 pub mod Routes

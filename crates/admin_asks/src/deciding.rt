@@ -3,6 +3,7 @@ ghost use Rattle.tail_base.specs.Steps.{Gives};
 ghost use Rattle.admin_asks.specs.Decision.{decision};
 
 use crate::admit_ask::admit;
+use crate::extra_asks::{extras, set_extras};
 use crate::key_asks::{add_key, expire_key, keys};
 use crate::node_asks::{drop_node, expire_node, nodes, rename, set_tags};
 use crate::operator_answer::OperatorAnswer;
@@ -40,6 +41,8 @@ pub fn decide(
         OperatorAsk::SetTags { id, tags } => set_tags(alloc, at, *id, tags.as_slice()),
         OperatorAsk::SetRoutes { id, routes } => set_routes(alloc, at, *id, routes.as_slice()),
         OperatorAsk::DropNode { id } => drop_node(alloc, at, *id),
+        OperatorAsk::Extras => extras(alloc, at),
+        OperatorAsk::SetExtras { extras } => set_extras(alloc, at, extras.as_slice()),
         OperatorAsk::Sweep => sweep(alloc, at),
     }
 }

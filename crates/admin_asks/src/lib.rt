@@ -1,9 +1,10 @@
 //! What is decided on the asks of operators: on users, pre-auth keys, machines, their routes,
-//! admissions, and the sweep. A decision changes nothing yet.
+//! admissions, extra DNS records, and the sweep. A decision changes nothing yet.
 #![tactic(auto)]
 
 mod admit_ask;
 mod deciding;
+mod extra_asks;
 mod key_asks;
 mod laws;
 mod node_asks;

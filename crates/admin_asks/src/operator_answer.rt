@@ -2,6 +2,7 @@
 use desk_state::{KeyLine, NodeLine};
 use net_rows::{Pending, User};
 use tail_base::Items;
+use tailcfg::DnsExtra;
 
 /// What an operator's ask that isn't refused is answered.
 #[derive(Drop)]
@@ -20,6 +21,8 @@ pub enum OperatorAnswer {
     Waiting(Items<Pending>),
     /// A machine, as it is from now on.
     Node(NodeLine),
+    /// The extra DNS records, in their order.
+    Extras(Items<DnsExtra>),
     /// So many machines and pending entries were removed.
     Swept { machines: u32, pending: u32 },
     /// It is done, and there is nothing to say.

@@ -6,6 +6,7 @@ use desk_state::KeyForm;
 use moments::Moment;
 use net_addr::Prefix;
 use tail_base::{Items, Tag, Text};
+use tailcfg::DnsExtra;
 
 /// One thing that an operator asks.
 #[derive(Drop)]
@@ -38,6 +39,10 @@ pub enum OperatorAsk {
     SetRoutes { id: u32, routes: Items<Prefix> },
     /// Removes a machine.
     DropNode { id: u32 },
+    /// Lists the extra DNS records.
+    Extras,
+    /// Puts these extra DNS records in place of those that were there.
+    SetExtras { extras: Items<DnsExtra> },
     /// Removes the ephemeral machines that aren't live, and the pending entries whose time has
     /// passed.
     Sweep,
@@ -62,6 +67,8 @@ pub fn draws(ask: &OperatorAsk) -> bool
         | OperatorAsk::SetTags { .. }
         | OperatorAsk::SetRoutes { .. }
         | OperatorAsk::DropNode { .. }
+        | OperatorAsk::Extras
+        | OperatorAsk::SetExtras { .. }
         | OperatorAsk::Sweep => false,
     }
 }

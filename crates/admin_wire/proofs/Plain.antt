@@ -2,11 +2,13 @@
 use Rattle.std.proofs.Common.{◌≡◌, List, false, refl}
 use Rattle.serde_json.specs.Data.{string}
 use Rattle.serde_json.specs.Written.{has_float}
+use Rattle.tailcfg.specs.declared.dns.DnsExtra.{DnsExtra}
 use Rattle.net_rows.specs.declared.pending.Pending.{Pending}
 use Rattle.net_rows.specs.declared.user.User.{User}
 use Rattle.desk_state.specs.declared.lines.KeyLine.{KeyLine}
 use Rattle.desk_state.specs.declared.lines.NodeLine.{NodeLine}
-use Rattle.wire_text.specs.Parts.{prefix_data, machine_key_data, node_key_data}
+use Rattle.wire_text.specs.Dns.{extra_data}
+use Rattle.wire_text.specs.Parts.{array_data, prefix_data, machine_key_data, node_key_data}
 use Rattle.wire_text.proofs.Plain.{neither, items_plain, time_plain, prefix_plain}
 use Rattle.admin_wire.specs.Keys.{key_data, keys_data}
 use Rattle.admin_wire.specs.Nodes.{addr_data, node_data, nodes_data}
@@ -51,3 +53,10 @@ pending_plain p = refl
 pub waiting_plain : (ps : List Pending) → has_float (waiting_data ps) ≡ false
 unfolding waiting_data
 waiting_plain ps = neither _ _ (items_plain pending_data ps pending_plain) refl
+
+extra_plain : (e : DnsExtra) → has_float (extra_data e) ≡ false
+unfolding extra_data
+extra_plain e = refl
+
+pub extras_plain : (es : List DnsExtra) → has_float (array_data extra_data es) ≡ false
+extras_plain es = items_plain extra_data es extra_plain

@@ -1,3 +1,5 @@
+pub mod ExtraForms
+pub mod Extras
 pub mod Forms
 pub mod Keys
 pub mod Nodes

@@ -1,6 +1,8 @@
 //! The JSON of operators: the bodies of their requests read, and what they are answered written.
 #![tactic(auto)]
 
+mod extra_forms;
+mod extras;
 mod forms;
 mod keys;
 mod nodes;
@@ -11,6 +13,8 @@ mod users;
 mod waiting;
 mod written;
 
+pub use extra_forms::read_extras_form;
+pub use extras::extras_text;
 pub use forms::{
     AdmitForm, read_admit_form, read_empty_form, read_expiry_form, read_key_form, read_rename_form,
     read_routes_form, read_tags_form, read_user_form,

@@ -3,11 +3,10 @@ use Rattle.std.proofs.Common.{◌≡◌, ◌+◌, ◌-◌, ℕ, ℤ, Option, Non
 use Rattle.io_edge.specs.Edge.{IsWhereTold}
 use Rattle.std.specs.Option.{option_map}
 use Rattle.moments.specs.Moments.{clamped}
+use Rattle.tailnet_desk.specs.Asks.{event_words}
 use Rattle.tailnet_desk.specs.Chains.{Turned}
 use Rattle.tailnet_desk.specs.Step.{moment_of}
-use Rattle.tailnet_desk.specs.declared.entry.Event.{Event}
-use Rattle.tailnet_desk.specs.declared.entry.Event.TheVariants as event
-use Rattle.connections.specs.Tellings.{AreNextWords, Giving, TurnsTook, MomentsTold, WordsTold, drawn, drawn_for, failed_draws, from_number}
+use Rattle.connections.specs.Tellings.{AreNext, Giving, TurnsTook, MomentsTold, WordsTold, drawn, drawn_for, failed_draws, from_number}
 
 pub same_moments : (f g : ℕ → Option ℤ) (es : List Turned) → ((k : ℕ) → f k ≡ g k) → MomentsTold f es → MomentsTold g es
 same_moments f g [] h p = tt
@@ -17,15 +16,15 @@ moments-append : (f : ℕ → Option ℤ) (es fs : List Turned) → MomentsTold 
 moments-append f [] fs p q = same_moments (from_number 0 f) f fs (λ k. ap f (add-zero k)) q
 moments-append f (e ∷ es) fs p q = (p.0, moments-append (from_number 1 f) es fs p.1 (same_moments _ (from_number (length es) (from_number 1 f)) fs (λ k. ap f (omega arith)) q))
 
-next_still : (f g : ℕ → Option (List ℕ)) (e : Event) → f 0 ≡ g 0 → AreNextWords f e → AreNextWords g e
-next_still f g (event.Ask ask moment None) h p = tt
-next_still f g (event.Ask ask moment (Some words)) h p = subst (λ (o : Option (List ℕ)). IsWhereTold words o) h p
+next_still : (f g : ℕ → Option (List ℕ)) (words : Option (List ℕ)) → f 0 ≡ g 0 → AreNext f words → AreNext g words
+next_still f g None h p = tt
+next_still f g (Some words) h p = subst (λ (o : Option (List ℕ)). IsWhereTold words o) h p
 
 same_words : (f g : ℕ → Option (List ℕ)) (es : List Turned) → ((k : ℕ) → f k ≡ g k) → WordsTold f es → WordsTold g es
 same_words f g [] h p = tt
 same_words f g (e ∷ es) h p =
     let n = drawn_for e.event in
-    (next_still f g e.event (h 0) p.0, same_words (from_number n f) (from_number n g) es (λ k. h (k + n)) p.1)
+    (next_still f g (event_words e.event) (h 0) p.0, same_words (from_number n f) (from_number n g) es (λ k. h (k + n)) p.1)
 
 words-append : (f : ℕ → Option (List ℕ)) (es fs : List Turned) → WordsTold f es → WordsTold (from_number (drawn es) f) fs → WordsTold f (es ++ fs)
 words-append f [] fs p q = same_words (from_number 0 f) f fs (λ k. ap f (add-zero k)) q

@@ -7,7 +7,7 @@ use Rattle.tailnet_desk.specs.declared.entry.Event.{Event}
 use Rattle.tailnet_desk.specs.declared.reply.Reply.{Reply}
 use Rattle.desk_front.specs.Replies.{reply_bytes}
 use Rattle.desk_front.specs.declared.front_settings.FrontSettings.{FrontSettings}
-use Rattle.connections.specs.Exchanges.{IsOutcome}
+use Rattle.connections.specs.Exchanges.{IsOutcome, breaks}
 use Rattle.connections.specs.Tellings.{Giving, IsTurnOf, TurnsTook}
 use Rattle.run_ends.specs.Pieces.{IsPrefix, Sent, IsSent}
 use Rattle.run_ends.specs.declared.closed.Closed.{Closed}
@@ -29,6 +29,7 @@ IsClosing close (Err e) = (close ≡ true) × (e ≡ End)
 -- What follows an answer that was written or not: how the connection goes on, and how it was ended, if it was.
 pub record Follows {T : Type 0} (sent outcome : Result T Closed) (ended : Option Closed) : Type 0 where
   pub is : (written bytes : List ℕ) (before now : ℕ) → IsSent sent written bytes before now → IsOutcome outcome ended written bytes before now
+  pub breaks_so : breaks outcome ≡ breaks sent
 
 -- how a connection ends after a refused head: its answer was written, or a write failed, or memory ran out
 abbrev pub IsRefusedBy : List ℕ → List ℕ → ℕ → ℕ → Closed → Type 0

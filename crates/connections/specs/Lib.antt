@@ -1,4 +1,6 @@
 pub mod Tellings
+pub mod Polls
 pub mod Exchanges
 pub mod Asked
+pub mod Polled
 pub mod Connection

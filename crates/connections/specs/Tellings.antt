@@ -4,7 +4,7 @@ use Rattle.std.specs.Option.{option_map}
 use Rattle.moments.specs.Moments.{clamped}
 use Rattle.io_edge.specs.Edge.{IsWhereTold, Rose, RoseBy}
 use Rattle.io_edge.specs.Stream as stream
-use Rattle.tailnet_desk.specs.Asks.{draws}
+use Rattle.tailnet_desk.specs.Asks.{ask_draws, draws, event_words}
 use Rattle.tailnet_desk.specs.Chains.{Turned}
 use Rattle.tailnet_desk.specs.Step.{moment_of}
 use Rattle.tailnet_desk.specs.declared.ask.Ask.{Ask}
@@ -16,7 +16,7 @@ pub record IsTurnOf (ask : Ask) (t : Turned) : Type 0 where
   pub moment : ℤ
   pub words : Option (List ℕ)
   pub event_is : t.event ≡ event.Ask ask moment words
-  pub undrawn : draws ask ≡ false → words ≡ None
+  pub undrawn : ask_draws ask ≡ false → words ≡ None
 
 -- what the sink, the clock and the entropy tell, and their counts of faults
 pub record Giving : Type 0 where
@@ -35,6 +35,30 @@ giving holds write_faults answer word word_faults o c n = record {
   word_faults = word_faults n;
 }
 
+-- the same from what each tells
+abbrev pub taking : Option (List ℕ) → ℕ → (ℕ → Option ℤ) → (ℕ → Option (List ℕ)) → ℕ → Giving
+taking held write_faults answers words word_faults = record {
+  held = held;
+  write_faults = write_faults;
+  answers = answers;
+  words = words;
+  word_faults = word_faults;
+}
+
+-- the same with other answers of the clock
+abbrev pub telling : Giving → (ℕ → Option ℤ) → Giving
+telling rest answers = record rest { answers = answers }
+
+-- the same around what any entropy tells
+abbrev pub writing : {O C : Type 0} → (O → Option (List ℕ)) → (O → ℕ) → (C → ℕ → Option ℤ) → (ℕ → Option (List ℕ)) → ℕ → O → C → Giving
+writing holds write_faults answer words word_faults o c = record {
+  held = holds o;
+  write_faults = write_faults o;
+  answers = answer c;
+  words = words;
+  word_faults = word_faults;
+}
+
 -- the answers from number n on
 abbrev pub from_number : {A : Type 0} → ℕ → (ℕ → A) → ℕ → A
 from_number n told k = told (k + n)
@@ -44,28 +68,38 @@ abbrev pub MomentsTold : (ℕ → Option ℤ) → List Turned → Type 0
 MomentsTold told [] = Unit {0}
 MomentsTold told (t ∷ ts) = IsWhereTold (moment_of t.event) (option_map clamped (told 0)) × MomentsTold (from_number 1 told) ts
 
+abbrev pub count_drawn : Option (List ℕ) → ℕ
+count_drawn None = 0
+count_drawn (Some words) = 1
+
 -- how often words were drawn for an event, and for those of turns
 abbrev pub drawn_for : Event → ℕ
-drawn_for (event.Ask ask moment None) = 0
-drawn_for (event.Ask ask moment (Some words)) = 1
+drawn_for e = count_drawn (event_words e)
 
 abbrev pub drawn : List Turned → ℕ
 drawn [] = 0
 drawn (t ∷ ts) = drawn_for t.event + drawn ts
 
--- the words of an event are the entropy's next, where they are told; then those of turns
+-- the words, if there are any, are the entropy's next, where they are told
+abbrev pub AreNext : (ℕ → Option (List ℕ)) → Option (List ℕ) → Type 0
+AreNext told None = Unit {0}
+AreNext told (Some words) = IsWhereTold words (told 0)
+
+-- so are those of an event; then those of turns
 abbrev pub AreNextWords : (ℕ → Option (List ℕ)) → Event → Type 0
-AreNextWords told (event.Ask ask moment None) = Unit {0}
-AreNextWords told (event.Ask ask moment (Some words)) = IsWhereTold words (told 0)
+AreNextWords told e = AreNext told (event_words e)
 
 abbrev pub WordsTold : (ℕ → Option (List ℕ)) → List Turned → Type 0
 WordsTold told [] = Unit {0}
 WordsTold told (t ∷ ts) = AreNextWords told t.event × WordsTold (from_number (drawn_for t.event) told) ts
 
+abbrev pub count_failed : Bool → Option (List ℕ) → ℕ
+count_failed due None = if due then 1 else 0
+count_failed due (Some words) = 0
+
 -- how often a draw that was due failed for an event, and for those of turns
 abbrev pub failed_for : Event → ℕ
-failed_for (event.Ask ask moment None) = if draws ask then 1 else 0
-failed_for (event.Ask ask moment (Some words)) = 0
+failed_for e = count_failed (draws e) (event_words e)
 
 abbrev pub failed_draws : List Turned → ℕ
 failed_draws [] = 0

@@ -1,18 +1,21 @@
 //! One request and its answer.
 ghost use Rattle.std.specs.Prelude.{◌≡◌, Option, Some, Bool, true, false, codes, ◌||◌, ◌==◌, IfErr, OnOk, Result, Ok, Err, IsErr};
 ghost use Rattle.http_front.specs.AnswerBytes.{answer};
-ghost use Rattle.tailnet_desk.specs.Asks.{IsShort, draws};
+ghost use Rattle.tailnet_desk.specs.Asks.{IsShort, ask_draws};
+ghost use Rattle.desk_front.specs.Wanted.{wanted_of};
+ghost use Rattle.desk_front.specs.Wants.{IsSound};
 ghost use Rattle.connections.specs.Asked.{Follows, IsAskAnswered};
 ghost use Rattle.connections.specs.Exchanges.{Answered, ended_by};
 ghost use Rattle.run_ends.specs.declared.closed.Closed.TheVariants.{Early};
 ghost use Rattle.connections.specs.Tellings.{Drew, giving};
 ghost use Rattle.run_ends.specs.Pieces.{Sent};
 
+use crate::polling::{answer_poll, draw_words};
 use crate::replying::send_reply;
 use desk_front::{Front, Wanted};
 use http::StatusCode;
 use http_front::{Request, no_memory_answer, plain_answer};
-use io_edge::{Clock, Entropy, Sink};
+use io_edge::{Clock, Entropy, Pause, Sink};
 use moments::Moment;
 use run_ends::{Closed, send};
 use std::alloc::Global;
@@ -21,11 +24,11 @@ use tailnet_desk::{Ask, Turns};
 
 /// Draws random words, where they are drawn for the ask. A draw that fails gives none.
 fn draw<N: Entropy>(entropy: &mut N, ask: &Ask) -> Option<[u64; 4]>
-    ensures drew { Drew (draws ask.now) result (N.word entropy.old) (N.word entropy.new)
+    ensures drew { Drew (ask_draws ask.now) result (N.word entropy.old) (N.word entropy.new)
         (N.faults entropy.old) (N.faults entropy.new) }
 {
     if ask.draws() {
-        entropy.words().ok()
+        draw_words(entropy)
     } else {
         None
     }
@@ -55,13 +58,14 @@ fn finish_early(sent: Result<(), Closed>) -> Result<(), Closed>
 }
 
 /// One event of the desk and the answer to its reply.
-fn answer_ask<T: Turns, O: Sink, C: Clock, N: Entropy>(
+fn answer_ask<T: Turns, O: Sink, C: Clock, N: Entropy, P: Pause>(
     alloc: Global,
     front: &Front,
     turns: &mut T,
     output: &mut O,
     clock: &mut C,
     entropy: &mut N,
+    pause: &P,
     ask: &Ask,
     close: bool,
 ) -> Result<(), Closed>
@@ -73,6 +77,7 @@ fn answer_ask<T: Turns, O: Sink, C: Clock, N: Entropy>(
     let words = draw(entropy, ask);
     let moment = Moment::clamp(clock.seconds());
     let reply = turns.ask(alloc, ask, moment, words);
+    pause.note();
     send_reply(alloc, front, output, ask, &reply, close)
 }
 
@@ -101,27 +106,31 @@ fn closes(asked: bool, last: bool) -> bool
     asked || last
 }
 
-/// Answers one request, which is the last that is served or not.
-pub(crate) fn answer_request<T: Turns, O: Sink, C: Clock, N: Entropy>(
+/// Answers what one request wants. `close` says whether the connection ends after it.
+fn answer_wanted<T: Turns, O: Sink, C: Clock, N: Entropy, P: Pause>(
     alloc: Global,
     front: &Front,
     turns: &mut T,
     output: &mut O,
     clock: &mut C,
     entropy: &mut N,
+    pause: &P,
+    more: u32,
     request: &Request,
     last: bool,
+    wanted: &Wanted,
+    close: bool,
 ) -> Result<(), Closed>
+    requires wanted { wanted.now ≡ wanted_of front.now request.now }
+    requires sound { IsSound wanted.now }
+    requires close { close ≡ (request.now.close || last) }
+    requires goes_on { close ≡ false → last ≡ false }
     ensures answered { let at = giving O.holds O.write_faults C.answer N.word N.faults in
-        Answered T.turn front.now result request.now last (at output.old clock.old entropy.old)
+        Answered T.turn front.now more result request.now last (at output.old clock.old entropy.old)
         (at output.new clock.new entropy.new) turns.old turns.new }
     ensures goes_on { OnOk result (last ≡ false) }
 {
-    let close = closes(request.close, last);
-    let Ok(wanted) = front.wanted(alloc, request) else {
-        return finish(send(output, no_memory_answer(close)), close);
-    };
-    match &wanted {
+    match wanted {
         Wanted::Fault { body } => finish_early(answer_fixed(
             alloc,
             output,
@@ -133,9 +142,45 @@ pub(crate) fn answer_request<T: Turns, O: Sink, C: Clock, N: Entropy>(
             answer_fixed(alloc, output, *status, body.as_slice(), close),
             close,
         ),
+        Wanted::Poll(poll) => finish(
+            answer_poll(
+                alloc, front, turns, output, clock, entropy, pause, more, poll, close,
+            ),
+            close,
+        ),
         Wanted::Ask(ask) => finish(
-            answer_ask(alloc, front, turns, output, clock, entropy, ask, close),
+            answer_ask(
+                alloc, front, turns, output, clock, entropy, pause, ask, close,
+            ),
             close,
         ),
     }
+}
+
+/// Answers one request, which is the last that is served or not. A poll that may wait has so many
+/// further drains at most.
+pub(crate) fn answer_request<T: Turns, O: Sink, C: Clock, N: Entropy, P: Pause>(
+    alloc: Global,
+    front: &Front,
+    turns: &mut T,
+    output: &mut O,
+    clock: &mut C,
+    entropy: &mut N,
+    pause: &P,
+    more: u32,
+    request: &Request,
+    last: bool,
+) -> Result<(), Closed>
+    ensures answered { let at = giving O.holds O.write_faults C.answer N.word N.faults in
+        Answered T.turn front.now more result request.now last (at output.old clock.old entropy.old)
+        (at output.new clock.new entropy.new) turns.old turns.new }
+    ensures goes_on { OnOk result (last ≡ false) }
+{
+    let close = closes(request.close, last);
+    let Ok(wanted) = front.wanted(alloc, request) else {
+        return finish(send(output, no_memory_answer(close)), close);
+    };
+    answer_wanted(
+        alloc, front, turns, output, clock, entropy, pause, more, request, last, &wanted, close,
+    )
 }

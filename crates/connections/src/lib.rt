@@ -3,9 +3,11 @@
 
 mod answering;
 mod law;
+mod polling;
 mod replying;
 mod seated;
 mod serving;
+mod streaming;
 
 pub use law::{answers_are_heard, nothing_follows_the_end};
 pub use seated::serve_desk;

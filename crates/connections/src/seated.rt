@@ -6,14 +6,14 @@ ghost use Rattle.tailnet_desk.specs.Turns.{IsTurn};
 
 use crate::serving::serve;
 use desk_front::Front;
-use io_edge::{Clock, Entropy, Sink, Source};
+use io_edge::{Clock, Entropy, NoPause, Sink, Source};
 use row_keeper::Keeper;
 use run_ends::Closed;
 use std::alloc::Global;
 use tailnet_desk::Desk;
 
 /// Serves a connection over a desk. Its state, and what is told of its keeper, stand at both ends,
-/// joined by the turns of the served requests.
+/// joined by the turns of the served requests. Nobody else has the desk, so that no poll waits.
 pub fn serve_desk<K: Keeper, I: Source, O: Sink, C: Clock, N: Entropy>(
     alloc: Global,
     front: &Front,
@@ -28,9 +28,11 @@ pub fn serve_desk<K: Keeper, I: Source, O: Sink, C: Clock, N: Entropy>(
     ensures serves { let at = told I.left I.read_faults O.holds O.write_faults
         C.answer N.word N.faults in
         let point = point_of K.told K.faults K.calls in
-        IsConnection IsTurn front.now result requests []
+        IsConnection IsTurn front.now 0 result requests []
         (at input.old output.old clock.old entropy.old)
         (at input.new output.new clock.new entropy.new) (point desk.old) (point desk.new) }
 {
-    serve(alloc, front, requests, desk, input, output, clock, entropy)
+    serve(
+        alloc, front, requests, desk, input, output, clock, entropy, &NoPause, 0,
+    )
 }

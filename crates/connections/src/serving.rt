@@ -8,7 +8,7 @@ use crate::answering::answer_request;
 use crate::replying::send_refusal;
 use desk_front::Front;
 use http_front::{Buffer, HeadFault, Taken, take_request};
-use io_edge::{Clock, Entropy, Sink, Source};
+use io_edge::{Clock, Entropy, Pause, Sink, Source};
 use run_ends::Closed;
 use std::alloc::Global;
 use tailnet_desk::Turns;
@@ -25,7 +25,7 @@ fn refuse<O: Sink>(alloc: Global, output: &mut O, fault: HeadFault) -> Closed
 }
 
 /// Serves one request; after an answer that leaves the connection open it says `Ok`.
-fn serve_one<T: Turns, I: Source, O: Sink, C: Clock, N: Entropy>(
+fn serve_one<T: Turns, I: Source, O: Sink, C: Clock, N: Entropy, P: Pause>(
     alloc: Global,
     front: &Front,
     turns: &mut T,
@@ -33,26 +33,30 @@ fn serve_one<T: Turns, I: Source, O: Sink, C: Clock, N: Entropy>(
     output: &mut O,
     clock: &mut C,
     entropy: &mut N,
+    pause: &P,
+    more: u32,
     buffer: &mut Buffer,
     last: bool,
 ) -> Result<(), Closed>
     ensures goes { let at = told I.left I.read_faults O.holds O.write_faults
         C.answer N.word N.faults in
-        OnOk result (Goes T.turn front.now last buffer.old buffer.new
+        OnOk result (Goes T.turn front.now more last buffer.old buffer.new
         (at input.old output.old clock.old entropy.old)
         (at input.new output.new clock.new entropy.new)
         turns.old turns.new) }
     ensures ends { let at = told I.left I.read_faults O.holds O.write_faults
         C.answer N.word N.faults in
         IfErr result (λ closed. (limit : ℕ) → 0 < limit → last ≡ (limit == 1)
-        → IsConnection T.turn front.now closed limit buffer.old
+        → IsConnection T.turn front.now more closed limit buffer.old
         (at input.old output.old clock.old entropy.old)
         (at input.new output.new clock.new entropy.new)
         turns.old turns.new) }
 {
     match take_request(alloc, input, buffer) {
         Taken::Request(request) => {
-            answer_request(alloc, front, turns, output, clock, entropy, &request, last)
+            answer_request(
+                alloc, front, turns, output, clock, entropy, pause, more, &request, last,
+            )
         }
         Taken::End => Err(Closed::End),
         Taken::Cut => Err(Closed::Early),
@@ -63,8 +67,9 @@ fn serve_one<T: Turns, I: Source, O: Sink, C: Clock, N: Entropy>(
 }
 
 /// Serves requests until the input ends, one of them ends the connection, or as many were served as
-/// may be. At least one may.
-pub fn serve<T: Turns, I: Source, O: Sink, C: Clock, N: Entropy>(
+/// may be. At least one may. A poll that may wait has so many further drains at most; the pause is what
+/// it waits on, and what is told of events that change something.
+pub fn serve<T: Turns, I: Source, O: Sink, C: Clock, N: Entropy, P: Pause>(
     alloc: Global,
     front: &Front,
     requests: u32,
@@ -73,11 +78,13 @@ pub fn serve<T: Turns, I: Source, O: Sink, C: Clock, N: Entropy>(
     output: &mut O,
     clock: &mut C,
     entropy: &mut N,
+    pause: &P,
+    more: u32,
 ) -> Closed
     requires some { 0 < requests }
     ensures serves { let at = told I.left I.read_faults O.holds O.write_faults
         C.answer N.word N.faults in
-        IsConnection T.turn front.now result requests []
+        IsConnection T.turn front.now more result requests []
         (at input.old output.old clock.old entropy.old)
         (at input.new output.new clock.new entropy.new)
         turns.old turns.new }
@@ -95,6 +102,8 @@ pub fn serve<T: Turns, I: Source, O: Sink, C: Clock, N: Entropy>(
             output,
             clock,
             entropy,
+            pause,
+            more,
             &mut buffer,
             left == 1,
         ) {

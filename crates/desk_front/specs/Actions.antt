@@ -37,4 +37,7 @@ action_of route.Waiting method =
 action_of route.Policy method =
     option_or (if_method method (codes "GET") (Operator operator.Policy))
     (if_method method (codes "PUT") (Operator operator.SavePolicy))
+action_of route.Dns method =
+    option_or (if_method method (codes "GET") (Operator operator.Extras))
+    (if_method method (codes "PUT") (Operator operator.SetExtras))
 action_of route.Sweep method = if_method method (codes "POST") (Operator operator.Sweep)

@@ -1,6 +1,7 @@
 -- What operators want.
 use Rattle.std.specs.Prelude.{ℕ, List, Bool, false, ◌&&◌, Option, None, Some, codes, take, drop}
 use Rattle.std.specs.Str.{bytes_eq}
+use Rattle.admin_wire.specs.ExtraForms.{extras_form_of_body}
 use Rattle.admin_wire.specs.Forms.{admit_form_of_body, empty_form_of_body, expiry_form_of_body, key_form_of_body, rename_form_of_body, routes_form_of_body, tags_form_of_body, user_form_of_body}
 use Rattle.admin_wire.specs.declared.forms.AdmitForm.{AdmitForm}
 use Rattle.path_routes.specs.Finds.{text_of}
@@ -67,6 +68,10 @@ admit_wants body =
     unless_faulty (λ (form : AdmitForm). operator_ask (ask.Admit form.pending form.login))
     (admit_form_of_body body)
 
+abbrev pub set_extras_wants : List ℕ → Wanted
+set_extras_wants body =
+    unless_faulty (λ extras. operator_ask (ask.SetExtras extras)) (extras_form_of_body body)
+
 abbrev pub sweep_wants : List ℕ → Wanted
 sweep_wants body = unless_faulty (λ _. operator_ask ask.Sweep) (empty_form_of_body body)
 
@@ -96,4 +101,6 @@ admin_wants action.Waiting id owner body = operator_ask ask.Waiting
 admin_wants action.Admit id owner body = admit_wants body
 admin_wants action.Policy id owner body = policy_ask policy.Policy
 admin_wants action.SavePolicy id owner body = save_policy_wants body
+admin_wants action.Extras id owner body = operator_ask ask.Extras
+admin_wants action.SetExtras id owner body = set_extras_wants body
 admin_wants action.Sweep id owner body = sweep_wants body

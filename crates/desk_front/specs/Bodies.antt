@@ -2,6 +2,7 @@
 use Rattle.std.specs.Prelude.{ℕ, List, [], None, Some, codes}
 use Rattle.admin_asks.specs.declared.operator_answer.OperatorAnswer.{OperatorAnswer}
 use Rattle.admin_asks.specs.declared.operator_answer.OperatorAnswer.TheVariants as operator
+use Rattle.admin_wire.specs.Extras.{extras_text}
 use Rattle.admin_wire.specs.Keys.{key_text, keys_text}
 use Rattle.admin_wire.specs.Nodes.{node_text, nodes_text}
 use Rattle.admin_wire.specs.Swept.{swept_text}
@@ -33,6 +34,7 @@ operator_body (operator.Keys keys) = keys_text keys
 operator_body (operator.Nodes nodes) = nodes_text nodes
 operator_body (operator.Waiting waiting) = waiting_text waiting
 operator_body (operator.Node node) = node_text node
+operator_body (operator.Extras extras) = extras_text extras
 operator_body (operator.Swept machines pending) = swept_text machines pending
 operator_body operator.Gone = codes "{}"
 

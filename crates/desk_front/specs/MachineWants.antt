@@ -5,17 +5,16 @@ use Rattle.tail_base.specs.Keys.{key_of_text}
 use Rattle.tail_base.specs.declared.key.MachineKey.{MachineKey}
 use Rattle.wire_json.specs.MapRequest.{map_ask_of_body}
 use Rattle.wire_json.specs.Register.{register_of_body}
-use Rattle.wire_json.specs.declared.fault.WireFault.TheVariants as fault
-use Rattle.wire_json.specs.declared.field.Field.TheVariants as field
 use Rattle.tailcfg.specs.declared.map_ask.MapAsk.{MapAsk}
 use Rattle.machine_asks.specs.declared.ask.MachineAsk.{MachineAsk}
 use Rattle.machine_asks.specs.declared.ask.MachineAsk.TheVariants as ask
 use Rattle.tailnet_desk.specs.declared.ask.Ask.TheVariants.{Machine}
-use Rattle.desk_front.specs.Faults.{body_answer, field_answer, unless_faulty}
+use Rattle.desk_front.specs.Faults.{field_answer, unless_faulty}
 use Rattle.desk_front.specs.declared.action.MachineAction.{MachineAction}
 use Rattle.desk_front.specs.declared.action.MachineAction.TheVariants as action
 use Rattle.desk_front.specs.declared.header.HeaderKey.{HeaderKey}
 use Rattle.desk_front.specs.declared.header.HeaderKey.TheVariants as header
+use Rattle.desk_front.specs.declared.poll.Poll.{Poll}
 use Rattle.desk_front.specs.declared.want.Wanted.{Wanted}
 use Rattle.desk_front.specs.declared.want.Wanted.TheVariants as wants
 
@@ -43,11 +42,15 @@ abbrev pub register_wants : MachineKey → List ℕ → Wanted
 register_wants machine body =
     unless_faulty (λ form. machine_ask (ask.Register machine form)) (register_of_body body)
 
--- Polls aren't served yet. A request that omits the peers and isn't read-only is an update alone;
--- any other is answered with the map, and is an update too unless it is read-only.
+-- a poll of the machine, by the handle and the last number that its client has
+abbrev pub poll_of : MachineKey → MapAsk → Poll
+poll_of machine m = record { machine = machine; node = m.node; handle = m.handle; seq = m.seq }
+
+-- A request with a stream is a poll, and updates nothing. One without that omits the peers and isn't read-only is an
+-- update alone; any other is answered with the map, and is an update too unless it is read-only.
 abbrev pub map_wants : MachineKey → MapAsk → Wanted
 map_wants machine m =
-    if m.stream then body_answer (fault.BadField field.Stream)
+    if m.stream then wants.Poll (poll_of machine m)
     else if m.omit_peers && not m.read_only then machine_ask (ask.Update machine m.node m.update)
     else machine_ask (ask.OneMap machine m.node (if m.read_only then None else Some m.update))
 

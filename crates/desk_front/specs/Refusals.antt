@@ -14,6 +14,7 @@ scarce_name scarce.User = codes "User"
 scarce_name scarce.Key = codes "Key"
 scarce_name scarce.Pending = codes "Pending"
 scarce_name scarce.Machine = codes "Machine"
+scarce_name scarce.Session = codes "Session"
 
 -- a machine that isn't known is unauthorized; an operator asks for what isn't there
 abbrev pub missing_status : Bool → ℕ

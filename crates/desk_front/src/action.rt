@@ -32,6 +32,8 @@ pub enum OperatorAction {
     Admit,
     Policy,
     SavePolicy,
+    Extras,
+    SetExtras,
     Sweep,
 }
 
@@ -99,6 +101,11 @@ pub(crate) fn action_of(route: Route, method: &Method) -> Option<Action>
             method,
             "PUT",
             OperatorAction::SavePolicy,
+        )),
+        Route::Dns => if_operator(method, "GET", OperatorAction::Extras).or(if_operator(
+            method,
+            "PUT",
+            OperatorAction::SetExtras,
         )),
         Route::Sweep => if_operator(method, "POST", OperatorAction::Sweep),
     }

@@ -9,8 +9,8 @@ use crate::faults::{body_answer, fault_answer};
 use crate::want::Wanted;
 use admin_asks::OperatorAsk;
 use admin_wire::{
-    AdmitForm, read_admit_form, read_empty_form, read_expiry_form, read_key_form, read_rename_form,
-    read_routes_form, read_tags_form, read_user_form,
+    AdmitForm, read_admit_form, read_empty_form, read_expiry_form, read_extras_form, read_key_form,
+    read_rename_form, read_routes_form, read_tags_form, read_user_form,
 };
 use http::StatusCode;
 use path_routes::text_of;
@@ -137,6 +137,17 @@ fn admit_wants(alloc: Global, body: &[u8]) -> Result<Wanted, NoMemory>
 }
 
 #[tactic(auto, using(crate::proofs::FaultLemmas::faulty))]
+fn set_extras_wants(alloc: Global, body: &[u8]) -> Result<Wanted, NoMemory>
+    ensures value { IfOk result (λ w. w ≡ spec.set_extras_wants body.now) }
+    ensures sound { IfOk result IsSound }
+{
+    match read_extras_form(alloc, body) {
+        Ok(extras) => Ok(operator_ask(OperatorAsk::SetExtras { extras })),
+        Err(fault) => body_answer(alloc, fault),
+    }
+}
+
+#[tactic(auto, using(crate::proofs::FaultLemmas::faulty))]
 fn sweep_wants(alloc: Global, body: &[u8]) -> Result<Wanted, NoMemory>
     ensures value { IfOk result (λ w. w ≡ spec.sweep_wants body.now) }
     ensures sound { IfOk result IsSound }
@@ -187,6 +198,8 @@ pub(crate) fn admin_wants(
         OperatorAction::Admit => admit_wants(alloc, body),
         OperatorAction::Policy => Ok(policy_ask(PolicyAsk::Policy)),
         OperatorAction::SavePolicy => save_policy_wants(alloc, body),
+        OperatorAction::Extras => Ok(operator_ask(OperatorAsk::Extras)),
+        OperatorAction::SetExtras => set_extras_wants(alloc, body),
         OperatorAction::Sweep => sweep_wants(alloc, body),
     }
 }

@@ -4,7 +4,8 @@ ghost use Rattle.desk_front.specs.Bodies.{answer_body, machine_body, operator_bo
 
 use admin_asks::OperatorAnswer;
 use admin_wire::{
-    key_text, keys_text, node_text, nodes_text, swept_text, user_text, users_text, waiting_text,
+    extras_text, key_text, keys_text, node_text, nodes_text, swept_text, user_text, users_text,
+    waiting_text,
 };
 use fresh_maps::first_frame;
 use map_asks::MachineAnswer;
@@ -60,6 +61,7 @@ fn operator_text(alloc: Global, answer: &OperatorAnswer) -> Result<Text, NoMemor
         OperatorAnswer::Nodes(nodes) => nodes_text(alloc, nodes),
         OperatorAnswer::Waiting(waiting) => waiting_text(alloc, waiting),
         OperatorAnswer::Node(node) => node_text(alloc, node),
+        OperatorAnswer::Extras(extras) => extras_text(alloc, extras),
         OperatorAnswer::Swept { machines, pending } => swept_text(alloc, *machines, *pending),
         OperatorAnswer::Gone => empty_object(alloc),
     }

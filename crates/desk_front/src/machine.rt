@@ -8,13 +8,14 @@ ghost use Rattle.desk_front.specs.Wants.{IsSound};
 use crate::action::MachineAction;
 use crate::faults::{body_answer, field_answer};
 use crate::header::HeaderKey;
+use crate::poll::Poll;
 use crate::want::Wanted;
 use machine_asks::MachineAsk;
 use std::alloc::Global;
 use tail_base::{Bytes, MachineKey, NoMemory};
 use tailcfg::MapAsk;
 use tailnet_desk::Ask;
-use wire_json::{Field, WireFault, read_map_request, read_register};
+use wire_json::{read_map_request, read_register};
 
 /// The header that names a machine.
 const MACHINE_HEADER: &str = "Ts-Machine-Key";
@@ -50,39 +51,44 @@ fn register_wants(alloc: Global, machine: MachineKey, body: &[u8]) -> Result<Wan
     }
 }
 
-/// A poll isn't served yet. A request without a stream that omits the peers and isn't read-only is
-/// an update alone; any other is answered with the map, and is an update too unless it is
-/// read-only.
-fn map_wants(alloc: Global, machine: MachineKey, asked: MapAsk) -> Result<Wanted, NoMemory>
+/// A request with a stream is a poll, and updates nothing. One without that omits the peers and isn't
+/// read-only is an update alone; any other is answered with the map, and is an update too unless it
+/// is read-only.
+fn map_wants(machine: MachineKey, asked: MapAsk) -> Wanted
     requires short { IsShortUpdate asked.update }
-    ensures value { IfOk result (λ w. w ≡ spec.map_wants machine asked) }
-    ensures sound { IfOk result IsSound }
+    ensures value { result ≡ spec.map_wants machine asked }
+    ensures sound { IsSound result }
 {
     let MapAsk {
         node,
         stream,
         omit_peers,
         read_only,
-        handle: _,
-        seq: _,
+        handle,
+        seq,
         update,
     } = asked;
     if stream {
-        return body_answer(alloc, WireFault::BadField(Field::Stream));
+        return Wanted::Poll(Poll {
+            machine,
+            node,
+            handle,
+            seq,
+        });
     }
     if omit_peers && !read_only {
-        return Ok(machine_ask(MachineAsk::Update {
+        return machine_ask(MachineAsk::Update {
             machine,
             node,
             update,
-        }));
+        });
     }
     let update = if read_only { None } else { Some(update) };
-    Ok(machine_ask(MachineAsk::OneMap {
+    machine_ask(MachineAsk::OneMap {
         machine,
         node,
         update,
-    }))
+    })
 }
 
 #[tactic(auto, using(crate::proofs::FaultLemmas::faulty))]
@@ -91,7 +97,7 @@ fn map_body_wants(alloc: Global, machine: MachineKey, body: &[u8]) -> Result<Wan
     ensures sound { IfOk result IsSound }
 {
     match read_map_request(alloc, body) {
-        Ok(asked) => map_wants(alloc, machine, asked),
+        Ok(asked) => Ok(map_wants(machine, asked)),
         Err(fault) => body_answer(alloc, fault),
     }
 }

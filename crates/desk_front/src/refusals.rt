@@ -19,6 +19,7 @@ fn scarce_name(kind: Scarce) -> &'static str
         Scarce::Key => "Key",
         Scarce::Pending => "Pending",
         Scarce::Machine => "Machine",
+        Scarce::Session => "Session",
     }
 }
 

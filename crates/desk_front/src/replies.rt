@@ -25,7 +25,11 @@ fn reply_status(is_machine: bool, reply: &Reply) -> StatusCode
     ensures value { result ≡ reply_status is_machine reply.now }
 {
     match reply {
-        Reply::Done(_) => StatusCode::OK,
+        Reply::Done(_)
+        | Reply::Attached { .. }
+        | Reply::Frames(_)
+        | Reply::Ended
+        | Reply::Detached => StatusCode::OK,
         Reply::Refused(refusal) => refusal_status(is_machine, refusal),
         Reply::Lost(loss) => loss_status(*loss),
     }
@@ -36,6 +40,9 @@ fn reply_body(alloc: Global, server_url: &Text, reply: &Reply) -> Result<Vec<u8>
 {
     match reply {
         Reply::Done(answer) => answer_body(alloc, server_url, answer),
+        Reply::Attached { .. } | Reply::Frames(_) | Reply::Ended | Reply::Detached => {
+            Ok(Vec::new(alloc))
+        }
         Reply::Refused(refusal) => bytes_of(alloc, &refusal_body(alloc, refusal)?),
         Reply::Lost(loss) => bytes_of(alloc, &loss_body(alloc, *loss)?),
     }

@@ -1,4 +1,5 @@
 //! What requests want.
+use crate::poll::Poll;
 use http::StatusCode;
 use tail_base::Text;
 use tailnet_desk::Ask;
@@ -7,6 +8,9 @@ use tailnet_desk::Ask;
 #[derive(Drop)]
 pub enum Wanted {
     Ask(Ask),
+
+    /// What is new, from now on.
+    Poll(Poll),
 
     /// It names no machine, or its body isn't what its path takes: it is answered 400 (RFC 9110,
     /// section 15.5.1), and the connection ends.

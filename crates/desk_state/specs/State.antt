@@ -14,13 +14,19 @@ use Rattle.settings.specs.declared.fields.SettingsFields.{SettingsFields}
 use Rattle.desk_state.specs.declared.presence.Presence.{Presence}
 use Rattle.desk_state.specs.declared.presence.Presence.TheVariants.{Online, OfflineSince}
 use Rattle.desk_state.specs.declared.presence.MachinePresence.{MachinePresence}
+use Rattle.desk_state.specs.declared.session.Attachment.{Attachment}
+use Rattle.desk_state.specs.declared.session.Session.{Session}
 
--- settings, tables, the policy in force, the presence of each machine, and the time
+-- settings, tables, the policy in force, the presence of each machine, its session, if it has one, and whether a poll
+-- holds that, the number of the next session, and the time
 pub record State : Type 0 where
   pub settings : SettingsFields
   pub rows : Rows
   pub policy : Option Policy
   pub presence : List MachinePresence
+  pub sessions : List Session
+  pub attached : List Attachment
+  pub next_session : ℕ
   pub now : ℤ
 
 -- so many seconds later, or the last moment
@@ -84,13 +90,18 @@ all_ended moment presence [] = presence
 all_ended moment presence (id ∷ ids) =
     all_ended moment (if is_online (presence_of presence id) then put_row (λ p. p.id) presence (offline_at moment id) else presence) ids
 
--- a machine whose row goes has no presence
-abbrev pub forgotten : List MachinePresence → List RowKey → List MachinePresence
-forgotten presence [] = presence
-forgotten presence (gone.Machine id ∷ keys) = forgotten (without (λ p. p.id) presence id) keys
-forgotten presence (gone.User id ∷ keys) = forgotten presence keys
-forgotten presence (gone.Key id ∷ keys) = forgotten presence keys
-forgotten presence (gone.Pending id ∷ keys) = forgotten presence keys
+-- what is kept by the id of a machine, without those whose rows go
+abbrev pub forgotten : {T : Type 0} → (T → ℕ) → List T → List RowKey → List T
+forgotten id xs [] = xs
+forgotten id xs (gone.Machine k ∷ keys) = forgotten id (without id xs k) keys
+forgotten id xs (gone.User k ∷ keys) = forgotten id xs keys
+forgotten id xs (gone.Key k ∷ keys) = forgotten id xs keys
+forgotten id xs (gone.Pending k ∷ keys) = forgotten id xs keys
+
+-- the same without those of these ids
+abbrev pub without_all : {T : Type 0} → (T → ℕ) → List T → List ℕ → List T
+without_all id xs [] = xs
+without_all id xs (k ∷ ks) = without_all id (without id xs k) ks
 
 -- the state at an event's moment: time never falls
 abbrev pub at_moment : State → ℤ → State

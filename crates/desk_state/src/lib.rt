@@ -1,5 +1,5 @@
-//! What all asks speak of: the state of a tailnet with its policy in force, decisions, and why an
-//! ask is refused.
+//! What all events speak of: the state of a tailnet with its policy in force and its sessions,
+//! decisions, and why an event is refused.
 #![tactic(auto)]
 
 mod changes;
@@ -10,6 +10,7 @@ mod lines;
 mod presence;
 mod refusal;
 mod rules;
+mod session;
 mod tags;
 mod texts;
 mod users;
@@ -24,6 +25,7 @@ pub use lines::{KeyLine, NodeLine, key_line, login_of, node_line, offline_line};
 pub use presence::{MachinePresence, Presence};
 pub use refusal::{Refusal, Scarce};
 pub use rules::keep_rules;
+pub use session::{Attachment, Session, Sessions};
 pub use tags::{tags_defined, tags_granted};
-pub use texts::row_text;
+pub use texts::{row_text, session_handle};
 pub use users::user_named;

@@ -3,6 +3,7 @@ ghost use Rattle.std.specs.Prelude.{◌≡◌, ◌∷◌, ◌++◌, [], IfOk, On
 ghost use Rattle.desk_state.specs.State.{State, is_ahead, is_live, is_live_with, is_online, is_overdue, is_past, live_ids, presence_of, stays, stays_with};
 
 use crate::presence::{MachinePresence, Presence};
+use crate::session::Sessions;
 use moments::Moment;
 use net_rows::{Machine, Pending, Shelf, Tables};
 use policy_eval::InForce;
@@ -19,6 +20,7 @@ pub struct Snapshot<'a> {
     /// The policy in force.
     pub policy: &'a InForce,
     pub presence: &'a Shelf<MachinePresence>,
+    pub sessions: &'a Sessions,
     pub time: Moment,
 }
 
@@ -27,7 +29,16 @@ impl<'a> Model for Snapshot<'a> {
 
     ghost Value = { State };
 
-    ghost view = { λ a. record { settings = a.settings.now; rows = a.tables.now.rows; policy = a.policy.now; presence = a.presence.now.0; now = a.time } };
+    ghost view = { λ a. record {
+      settings = a.settings.now;
+      rows = a.tables.now.rows;
+      policy = a.policy.now;
+      presence = a.presence.now.0;
+      sessions = a.sessions.now.rows.0;
+      attached = a.sessions.now.attached.0;
+      next_session = a.sessions.now.next;
+      now = a.time;
+    } };
 }
 
 /// Whether there is no end, or it is still to come.

@@ -9,6 +9,7 @@ pub enum Scarce {
     Key,
     Pending,
     Machine,
+    Session,
 }
 
 /// The rule by which an ask is refused. A refusal changes nothing but the time. Running out of memory
@@ -43,7 +44,7 @@ pub enum Refusal {
     PolicyRefused { code: PolicyCode, place: Text },
     /// The machine isn't live any more.
     NotLive,
-    /// There are as many rows of that kind as there may be.
+    /// There are as many rows of that kind as there may be, or no number is left for a session.
     Full(Scarce),
     /// No address of the family, 4 or 6, is free.
     AddressesSpent { family: u8 },

@@ -2,7 +2,7 @@
 use path_routes::Paths;
 use std::test::Fail;
 
-const NOWHERE: [&str; 14] = [
+const NOWHERE: [&str; 15] = [
     "",
     "/machine",
     "/machine/map/",
@@ -16,6 +16,7 @@ const NOWHERE: [&str; 14] = [
     "/api/v1/node/7/route",
     "/api/v1/node/x/tags",
     "/api/v1/node//tags",
+    "/api/v1/dns/1",
     "/api/v1/sweep/1",
 ];
 

@@ -1,14 +1,14 @@
 -- The peers of a map, gathered from the live machines.
-use Rattle.std.proofs.Common.{◌≡◌, ◌<◌, ◌++◌, ◌==◌, ℕ, true, List, [], ◌∷◌, inl, inr, refl, ap, get_or, length, subst, sym, ◌∙◌}
+use Rattle.std.proofs.Common.{◌≡◌, ◌<◌, ◌+◌, ◌++◌, ◌==◌, ℕ, true, List, [], ◌∷◌, inl, inr, refl, ap, get_or, length, subst, sym, take, ◌∙◌}
 use Rattle.std.specs.Prelude.{Contains, Some, filter, flat_map, map, slice_get}
 use Rattle.std.proofs.lemmas.Bool.{cases_Bool}
+use Rattle.std.proofs.lemmas.List.{map-append, take_more}
 use Rattle.net_rows.proofs.Members.{find_member, first_member, rest_member}
 use Rattle.net_rows.proofs.RowAt.{row_at_is}
 use Rattle.policy_sites.specs.declared.site.Site.{Site}
 use Rattle.std.proofs.lemmas.Option.{slice_get-get_or}
 use Rattle.policy_eval.proofs.CoverLemmas.{get_member}
 use Rattle.peer_view.specs.Seen.{IsSoundSeen, Node, Seen, node_with, sees, sites_seen, visible}
-use Rattle.peer_view.proofs.ListLemmas.{filter_member}
 use Rattle.fresh_maps.specs.Fresh.{node_seen}
 
 -- a live machine is that of its site's id
@@ -42,11 +42,15 @@ gathered_visible w v sound = gathered w v w.nodes (own_node w sound)
 pub seen_node : (w : Seen) (v p : Node) → sees w v p ≡ true → p ∷ [] ≡ node_seen w v (Some p)
 seen_node w v p is = rw is refl
 
--- who is visible is a live machine
-pub visible_inside : (w : Seen) (v : Node) (nodes : List Node) (p : Node) → nodes ≡ visible w v → Contains nodes p → Contains w.nodes p
-visible_inside w v nodes p same inside = filter_member (sees w v) w.nodes p (subst (λ (ns : List Node). Contains ns p) same inside)
-
-pub item_inside : (w : Seen) (v : Node) (made items : List Node) (i : ℕ) (p : Node) → made ≡ visible w v → items ≡ made → i < length items → p ≡ get_or items i p → Contains w.nodes p
-item_inside w v made items i p same all lt is =
+-- each of those that were gathered is visible
+pub item_visible : (w : Seen) (v : Node) (made items : List Node) (i : ℕ) (p : Node) → made ≡ visible w v → items ≡ made → i < length items → p ≡ get_or items i p → Contains (visible w v) p
+item_visible w v made items i p same all lt is =
     let there : slice_get items i ≡ Some p = slice_get-get_or items i p lt ∙ ap (λ (z : Node). Some z) (sym is) in
-    visible_inside w v items p (all ∙ same) (get_member items i p there)
+    subst (λ (ns : List Node). Contains ns p) (all ∙ same) (get_member items i p there)
+
+-- one more of a list whose elements are mapped
+pub mapped_more : {A B : Type 0} (f : A → B) (xs : List A) (i : ℕ) (out new : List B) (x : A) (y : B) → i < length xs → x ≡ get_or xs i x
+    → out ≡ map f (take i xs) → y ≡ f x → new ≡ out ++ y ∷ [] → new ≡ map f (take (i + 1) xs)
+mapped_more {A} f xs i out new x y lt is told made put =
+    let cut : take (i + 1) xs ≡ take i xs ++ x ∷ [] = take_more xs i x lt ∙ ap (λ (z : A). take i xs ++ z ∷ []) (sym is) in
+    put ∙ ((λ k. told k ++ made k ∷ []) ∙ (sym (map-append f (take i xs) (x ∷ [])) ∙ ap (map f) (sym cut)))

@@ -1,5 +1,6 @@
 -- The map of a machine, computed afresh (`tailcfg.MapResponse`).
 use Rattle.std.specs.Prelude.{List, [], ◌∷◌, Option, Some, None, map, if◌then◌else◌}
+use Rattle.tailcfg.specs.declared.dns.Dns.{Dns}
 use Rattle.tailcfg.specs.declared.node_row.NodeRow.{NodeRow}
 use Rattle.filter_compile.specs.Filters.{filter_of}
 use Rattle.peer_view.specs.Seen.{Node, Seen, sees, sites_seen, visible}
@@ -11,6 +12,10 @@ use Rattle.fresh_maps.specs.declared.view.View.{View}
 abbrev pub peers_of : Seen → Node → List NodeRow
 peers_of w m = map (shown w m (visible w m)) (visible w m)
 
+-- what DNS is told: by the settings, and the extra records
+abbrev pub dns_of : Seen → Dns
+dns_of w = record { settings = w.settings.dns; extras = w.extras }
+
 -- The map of a live machine: its own row, those that it sees, the filter that it applies, DNS, the tailnet's name, and
 -- whose machines these are.
 abbrev pub fresh : Seen → Node → View
@@ -18,7 +23,7 @@ fresh w m = record {
   node = own_row w m;
   peers = peers_of w m;
   filter = filter_of w.policy (sites_seen w) m.site;
-  dns = record { settings = w.settings.dns; extras = w.extras };
+  dns = dns_of w;
   domain = w.settings.base_domain;
   profiles = owners_of w.users (own_row w m ∷ peers_of w m);
 }

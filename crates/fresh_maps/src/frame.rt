@@ -24,12 +24,19 @@ fn put_length(bytes: &mut Vec<u8>, length: u32)
     bytes[3] = d;
 }
 
+/// Some four times the usual bytes of a frame of so many peers. What isn't written costs nothing, and a
+/// buffer that grows is moved.
+fn ample_size(peers: usize) -> usize {
+    peers.saturating_mul(2048).saturating_add(4096)
+}
+
 /// The frame of a response, in one buffer: room for the length, the text, and then the length. A
 /// text of 2^32 bytes or more has no frame.
 fn frame_of(alloc: Global, response: &ResponseParts<'_>) -> Result<Vec<u8>, NoMemory>
     ensures value { IfOk result (λ frame. frame.items ≡ frame_of response.now) }
 {
-    let room = Vec::from_slice(alloc, &[0, 0, 0, 0])?;
+    let mut room = Vec::with_capacity(alloc, ample_size(response.peers.len()))?;
+    room.extend_from_slice(&[0, 0, 0, 0])?;
     let mut frame = append_response(alloc, room, response)?;
     let Ok(length) = u32::try_from(frame.len() - 4) else {
         return Err(NoMemory);

@@ -3,7 +3,7 @@ ghost use Rattle.std.specs.Prelude.{◌≡◌, ◌++◌, ◌∷◌, Contains, If
 ghost use Rattle.peer_view.specs.Isolation.{only_seen};
 ghost use Rattle.peer_view.specs.Seen.{Node, node_with, sites_seen, visible};
 ghost use Rattle.peer_view.specs.Shown.{own_row};
-ghost use Rattle.fresh_maps.specs.Fresh.{fresh, node_seen, peers_of};
+ghost use Rattle.fresh_maps.specs.Fresh.{dns_of, fresh, node_seen, peers_of};
 ghost use Rattle.fresh_maps.specs.InOrder.{IsInOrder};
 ghost use Rattle.fresh_maps.specs.Granted.{MeetsPolicy};
 ghost use Rattle.fresh_maps.specs.Profiles.{owners_of};
@@ -11,7 +11,7 @@ ghost use Rattle.fresh_maps.specs.Profiles.{owners_of};
 use crate::profile::owners_of;
 use crate::view::View;
 use filter_compile::filter_for;
-use peer_view::{LiveMachine, World, own_row, sees_machine, shown};
+use peer_view::{LiveMachine, World, own_row, routers_of, sees_machine, shown};
 use policy_sites::Site;
 use std::alloc::Global;
 use tail_base::{Duplicate, Items, NoMemory};
@@ -69,17 +69,17 @@ fn peers_of(
 {
     let visible = visible_of(alloc, world, viewer)?;
     let visible = visible.as_slice();
+    let routers = routers_of(alloc, world, viewer, visible)?;
     let mut peers = Items::new(alloc);
     for peer in visible {
-        peers.push(shown(alloc, world, viewer, visible, peer)?)?;
+        peers.push(shown(alloc, world, viewer, &routers, peer)?)?;
     }
     Ok(peers)
 }
 
-/// What DNS is told, from the settings and the extra records.
-fn dns_of(alloc: Global, world: &World<'_>) -> Result<Dns, NoMemory>
-    ensures value { IfOk result (λ dns. dns
-        ≡ record { settings = world.now.settings.dns; extras = world.now.extras }) }
+/// What DNS is told, which is the same in all maps: by the settings, and the extra records.
+pub fn dns_of(alloc: Global, world: &World<'_>) -> Result<Dns, NoMemory>
+    ensures value { IfOk result (λ dns. dns ≡ dns_of world.now) }
 {
     Ok(Dns {
         settings: world.fields().dns.copy(alloc)?,

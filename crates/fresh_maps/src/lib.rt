@@ -10,7 +10,7 @@ mod response;
 mod view;
 
 pub use frame::{first_frame, frame_bytes};
-pub use fresh::fresh_map;
+pub use fresh::{dns_of, fresh_map};
 pub use laws::maps_of_sound_tables;
 pub use profile::profile_of;
 pub use response::first_response;

@@ -1,2 +1,3 @@
+pub mod Drains
 mod Lives
 pub mod Updates

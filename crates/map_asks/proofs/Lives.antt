@@ -12,6 +12,8 @@ use Rattle.settings.specs.declared.fields.SettingsFields.{SettingsFields}
 use Rattle.policy_sites.specs.Sites.{is_among}
 use Rattle.desk_state.specs.State.{State, is_live, live_ids}
 use Rattle.desk_state.specs.declared.presence.MachinePresence.{MachinePresence}
+use Rattle.desk_state.specs.declared.session.Attachment.{Attachment}
+use Rattle.desk_state.specs.declared.session.Session.{Session}
 use Rattle.peer_view.specs.Seen.{Node, Seen, live_node, node_with, seen_of}
 use Rattle.peer_view.proofs.ListLemmas.{filtered_member, map_member}
 use Rattle.peer_view.proofs.WorldLaws.{seen_sound}
@@ -32,22 +34,22 @@ live_found s m kept h =
     row_at_is (λ (n : Node). n.row.id) (world_of s).nodes (node_in s m) (seen_sound s.settings s.policy s.rows ids (online_ids s.presence) kept).nodes there
 
 -- the world of the state's parts is the state's
-world_is : (s : State) (settings : SettingsFields) (rows : Rows) (policy : Option Policy) (presence : List MachinePresence) (now : ℤ) (live online : List ℕ) (w : Seen)
-    → record { settings = settings; rows = rows; policy = policy; presence = presence; now = now } ≡ s → live ≡ live_ids s → online ≡ online_ids s.presence
+world_is : (s : State) (settings : SettingsFields) (rows : Rows) (policy : Option Policy) (presence : List MachinePresence) (sessions : List Session) (attached : List Attachment) (next : ℕ) (now : ℤ) (live online : List ℕ) (w : Seen)
+    → record { settings = settings; rows = rows; policy = policy; presence = presence; sessions = sessions; attached = attached; next_session = next; now = now } ≡ s → live ≡ live_ids s → online ≡ online_ids s.presence
     → w ≡ seen_of settings policy rows live online → w ≡ world_of s
-world_is s settings rows policy presence now live online w whole lives onlines is =
+world_is s settings rows policy presence sessions attached next now live online w whole lives onlines is =
     is ∙ (λ i. seen_of (whole i).settings (whole i).policy (whole i).rows (lives i) (onlines i))
 
-pub live_in : (s : State) (settings : SettingsFields) (rows : Rows) (policy : Option Policy) (presence : List MachinePresence) (now : ℤ) (live online : List ℕ) (w : Seen) (m : Machine)
-    → record { settings = settings; rows = rows; policy = policy; presence = presence; now = now } ≡ s → live ≡ live_ids s → online ≡ online_ids s.presence
+pub live_in : (s : State) (settings : SettingsFields) (rows : Rows) (policy : Option Policy) (presence : List MachinePresence) (sessions : List Session) (attached : List Attachment) (next : ℕ) (now : ℤ) (live online : List ℕ) (w : Seen) (m : Machine)
+    → record { settings = settings; rows = rows; policy = policy; presence = presence; sessions = sessions; attached = attached; next_session = next; now = now } ≡ s → live ≡ live_ids s → online ≡ online_ids s.presence
     → w ≡ seen_of settings policy rows live online → damage s.rows ≡ None → IsLiveRow s m → node_with w m.id ≡ Some (node_in s m)
-live_in s settings rows policy presence now live online w m whole lives onlines is kept h =
-    ap (λ (z : Seen). node_with z m.id) (world_is s settings rows policy presence now live online w whole lives onlines is) ∙ live_found s m kept h
+live_in s settings rows policy presence sessions attached next now live online w m whole lives onlines is kept h =
+    ap (λ (z : Seen). node_with z m.id) (world_is s settings rows policy presence sessions attached next now live online w whole lives onlines is) ∙ live_found s m kept h
 
-pub map_in_world : (s : State) (settings : SettingsFields) (rows : Rows) (policy : Option Policy) (presence : List MachinePresence) (now : ℤ) (live online : List ℕ) (w : Seen) (m : Machine) (view : View)
-    → record { settings = settings; rows = rows; policy = policy; presence = presence; now = now } ≡ s → live ≡ live_ids s → online ≡ online_ids s.presence
+pub map_in_world : (s : State) (settings : SettingsFields) (rows : Rows) (policy : Option Policy) (presence : List MachinePresence) (sessions : List Session) (attached : List Attachment) (next : ℕ) (now : ℤ) (live online : List ℕ) (w : Seen) (m : Machine) (view : View)
+    → record { settings = settings; rows = rows; policy = policy; presence = presence; sessions = sessions; attached = attached; next_session = next; now = now } ≡ s → live ≡ live_ids s → online ≡ online_ids s.presence
     → w ≡ seen_of settings policy rows live online → damage s.rows ≡ None → IsLiveRow s m
     → ((n : Node) → node_with w m.id ≡ Some n → view ≡ fresh w n) → view ≡ fresh_for s m
-map_in_world s settings rows policy presence now live online w m view whole lives onlines is kept h value =
-    value (node_in s m) (live_in s settings rows policy presence now live online w m whole lives onlines is kept h)
-    ∙ ap (λ (z : Seen). fresh z (node_in s m)) (world_is s settings rows policy presence now live online w whole lives onlines is)
+map_in_world s settings rows policy presence sessions attached next now live online w m view whole lives onlines is kept h value =
+    value (node_in s m) (live_in s settings rows policy presence sessions attached next now live online w m whole lives onlines is kept h)
+    ∙ ap (λ (z : Seen). fresh z (node_in s m)) (world_is s settings rows policy presence sessions attached next now live online w whole lives onlines is)

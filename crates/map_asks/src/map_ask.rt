@@ -91,13 +91,21 @@ fn map_among(
 }
 
 /// The whole map of a live machine, computed afresh.
+pub(crate) fn fresh_view(alloc: Global, at: &Snapshot<'_>, row: &Machine) -> Result<View, NoMemory>
+    requires live { IsLiveRow at.now row.now }
+    ensures value { IfOk result (λ view. view ≡ spec.fresh_for at.now row.now) }
+{
+    let live = live_ids(alloc, at)?;
+    let online = online_ids(alloc, at.presence.as_slice())?;
+    map_among(alloc, at, live.as_slice(), online.as_slice(), row)
+}
+
+/// The answer that is the whole map of a live machine.
 fn map_for(alloc: Global, at: &Snapshot<'_>, row: &Machine) -> Result<MachineAnswer, NoMemory>
     requires live { IsLiveRow at.now row.now }
     ensures value { IfOk result (λ a. a ≡ spec.map_for at.now row.now) }
 {
-    let live = live_ids(alloc, at)?;
-    let online = online_ids(alloc, at.presence.as_slice())?;
-    let view = map_among(alloc, at, live.as_slice(), online.as_slice(), row)?;
+    let view = fresh_view(alloc, at, row)?;
     Ok(MachineAnswer::Map(view))
 }
 
@@ -117,6 +125,7 @@ fn map_in(
         tables,
         policy: at.policy,
         presence: at.presence,
+        sessions: at.sessions,
         time: at.time,
     };
     map_for(alloc, &changed, row)

@@ -17,5 +17,6 @@ pub enum Route {
     NodeRoutes,
     Waiting,
     Policy,
+    Dns,
     Sweep,
 }

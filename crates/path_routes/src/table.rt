@@ -10,7 +10,7 @@ use tail_base::NoMemory;
 
 /// Each path, and what it leads to. A segment in braces stands for any segment that isn't empty, and
 /// `{id}` for an id.
-pub const PATHS: [(&str, Route); 15] = [
+pub const PATHS: [(&str, Route); 16] = [
     ("/machine/register", Route::Register),
     ("/machine/map", Route::Map),
     ("/api/v1/user", Route::Users),
@@ -25,6 +25,7 @@ pub const PATHS: [(&str, Route); 15] = [
     ("/api/v1/node/{id}/routes", Route::NodeRoutes),
     ("/api/v1/register", Route::Waiting),
     ("/api/v1/policy", Route::Policy),
+    ("/api/v1/dns", Route::Dns),
     ("/api/v1/sweep", Route::Sweep),
 ];
 

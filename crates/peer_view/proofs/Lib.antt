@@ -6,5 +6,6 @@ pub mod ListLemmas
 pub mod LiveLaws
 pub mod OpenLaws
 pub mod ReachLaws
+pub mod RouterLaws
 pub mod SightLaws
 pub mod WorldLaws

@@ -6,6 +6,7 @@ mod laws;
 mod machine;
 mod node;
 mod pair;
+mod routers;
 mod routes;
 mod shown_rows;
 mod steps;
@@ -18,6 +19,7 @@ pub use laws::{
 pub use machine::LiveMachine;
 pub use node::TAGGED_OWNER;
 pub use pair::{pair_test, sees, sees_machine};
+pub use routers::{Routers, routers_of};
 pub use shown_rows::{own_row, shown};
 pub use steps::Steps;
 pub use world::World;

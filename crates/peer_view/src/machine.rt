@@ -1,4 +1,6 @@
 //! Live machines.
+ghost use Rattle.std.specs.Prelude.{◌≡◌};
+
 use net_rows::Machine;
 use policy_sites::Site;
 use std::marker::Model;
@@ -17,4 +19,17 @@ impl<'a> Model for LiveMachine<'a> {
     ghost Value = { Node };
 
     ghost view = { λ a. record { row = a.row.now; site = a.site.now; online = a.online } };
+}
+
+impl<'a> LiveMachine<'a> {
+    /// The same machine.
+    pub(crate) fn again(&self) -> LiveMachine<'a>
+        ensures value { result ≡ self.now }
+    {
+        LiveMachine {
+            row: self.row,
+            site: self.site,
+            online: self.online,
+        }
+    }
 }

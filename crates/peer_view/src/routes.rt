@@ -90,21 +90,22 @@ fn is_choice(machines: &[LiveMachine<'_>], route: &Prefix, peer: &LiveMachine<'_
     }
 }
 
-/// Whether the viewer, which sees these machines, is shown the route at the peer, one of whose approved
-/// routes it is. The choice is looked at first: most routes have one router.
+/// Whether the viewer, for which routes go through these machines, is shown the route at the peer, one of
+/// whose approved routes it is. The choice is looked at first, so that the rules are asked of a route once,
+/// however many machines offer it.
 pub(crate) fn is_shown(
     world: &World<'_>,
     viewer: &LiveMachine<'_>,
-    visible: &[LiveMachine<'_>],
+    machines: &[LiveMachine<'_>],
     peer: &LiveMachine<'_>,
     route: &Prefix,
 ) -> bool
     requires viewer { Contains world.now.nodes viewer.now }
     requires peer { Contains world.now.nodes peer.now }
     requires route { Contains peer.now.site.approved route.now }
-    ensures value { result ≡ is_shown world.now viewer.now visible.now peer.now route.now }
+    ensures value { result ≡ is_shown world.now viewer.now machines.now peer.now route.now }
 {
     // For what it promises, that no machine has an address of a route.
     let _sites = world.expanded.sites();
-    is_granted(world, viewer, Some(route)) && is_choice(visible, route, peer)
+    is_choice(machines, route, peer) && is_granted(world, viewer, Some(route))
 }

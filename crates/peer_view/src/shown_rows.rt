@@ -1,13 +1,15 @@
 //! The rows of machines as viewers are shown them.
 ghost use Rattle.std.specs.Prelude.{◌≡◌, ◌&&◌, ◌++◌, ◌∷◌, [], Contains, IfOk, OnOk, if◌then◌else◌};
-ghost use Rattle.policy_rows.specs.Internet.{is_internet};
 ghost use Rattle.route_rules.specs.Serving.{exits_if};
 ghost use Rattle.peer_view.specs.Nodes.{own_addresses};
-ghost use Rattle.peer_view.specs.Shown.{granted_into, own_row, shown, shown_routes};
+ghost use Rattle.peer_view.specs.Routers.{routers_of};
+ghost use Rattle.peer_view.specs.Seen.{visible};
+ghost use Rattle.peer_view.specs.Shown.{own_row, shown, shown_routes};
 
 use crate::machine::LiveMachine;
 use crate::node::{node_of, own_addresses};
-use crate::routes::{is_granted, is_shown};
+use crate::routers::Routers;
+use crate::routes::is_shown;
 use crate::world::World;
 use net_addr::Prefix;
 use route_rules::exit_routes;
@@ -76,59 +78,55 @@ fn add_if(out: &mut Items<Prefix>, wanted: bool, route: Prefix) -> Result<(), No
     if wanted { out.push(route) } else { Ok(()) }
 }
 
-/// The routes of the peer that the viewer, which sees these machines, is shown at it.
+/// The routes of the peer that the viewer, for which routes go through these machines, is shown at it.
 fn shown_routes(
     alloc: Global,
     world: &World<'_>,
     viewer: &LiveMachine<'_>,
-    visible: &[LiveMachine<'_>],
+    machines: &[LiveMachine<'_>],
     peer: &LiveMachine<'_>,
 ) -> Result<Items<Prefix>, NoMemory>
     requires viewer { Contains world.now.nodes viewer.now }
     requires peer { Contains world.now.nodes peer.now }
     ensures value { IfOk result (λ made. made
-        ≡ shown_routes world.now viewer.now visible.now peer.now) }
+        ≡ shown_routes world.now viewer.now machines.now peer.now) }
 {
     let mut out = Items::new(alloc);
     for route in peer.site.approved.as_slice() {
         add_if(
             &mut out,
-            is_shown(world, viewer, visible, peer, route),
+            is_shown(world, viewer, machines, peer, route),
             *route,
         )?;
     }
     Ok(out)
 }
 
-/// Whether the viewer is shown the exit routes at the peer.
-fn is_shown_exit(world: &World<'_>, viewer: &LiveMachine<'_>, peer: &LiveMachine<'_>) -> bool
-    requires viewer { Contains world.now.nodes viewer.now }
-    requires peer { Contains world.now.nodes peer.now }
-    ensures value { result
-        ≡ (peer.now.site.exit && granted_into world.now viewer.now is_internet) }
+/// Whether the viewer, for which these are the routers, is shown the exit routes at the peer.
+fn is_shown_exit(routers: &Routers<'_>, peer: &LiveMachine<'_>) -> bool
+    ensures value { result ≡ (peer.now.site.exit && routers.now.exits) }
 {
-    // For what it promises, that no machine has an address of the internet that an exit node serves.
-    let _sites = world.expanded.sites();
-    peer.site.exit && is_granted(world, viewer, None)
+    peer.site.exit && routers.exits
 }
 
-/// The row of a live machine as another one is shown it, which sees these machines. Each route is shown at
-/// one of them, and only to who may send into it.
+/// The row of a live machine as another one is shown it, which sees it and for which these are the routers.
+/// Each route is shown at one of those that it sees, and only to who may send into it.
 pub fn shown(
     alloc: Global,
     world: &World<'_>,
     viewer: &LiveMachine<'_>,
-    visible: &[LiveMachine<'_>],
+    routers: &Routers<'_>,
     peer: &LiveMachine<'_>,
 ) -> Result<NodeRow, NoMemory>
     requires viewer { Contains world.now.nodes viewer.now }
-    requires peer { Contains world.now.nodes peer.now }
+    requires routers { routers.now ≡ routers_of world.now viewer.now }
+    requires peer { Contains (visible world.now viewer.now) peer.now }
     ensures value { IfOk result (λ row. row
-        ≡ shown world.now viewer.now visible.now peer.now) }
+        ≡ shown world.now viewer.now (visible world.now viewer.now) peer.now) }
 {
     let domain = world.fields().base_domain.as_str();
-    let routes = shown_routes(alloc, world, viewer, visible, peer)?;
-    let exit = is_shown_exit(world, viewer, peer);
+    let routes = shown_routes(alloc, world, viewer, routers.machines.as_slice(), peer)?;
+    let exit = is_shown_exit(routers, peer);
     let allowed = allowed_of(alloc, peer, routes.as_slice(), exit)?;
     node_of(alloc, domain, allowed, peer.online, peer.row)
 }

@@ -1,6 +1,8 @@
-//! Tests of whole runs of `pipe` in which policies are saved, opened and in force.
+//! Tests of whole runs of `pipe` in which operators save policies and extra records, and open kept ones.
 #![tactic(auto)]
 
+#[cfg(test)]
+mod extras;
 #[cfg(test)]
 mod filters;
 #[cfg(test)]

@@ -1,5 +1,5 @@
 -- The ends without the machines: each other end has one of them that stands for it.
-use Rattle.std.proofs.Common.{◌≡◌, Bool, true, List, [], ◌∷◌, ◌⊎◌, inl, inr, refl, sym, ap, ◌∙◌, subst, ℕ}
+use Rattle.std.proofs.Common.{◌≡◌, Bool, true, List, [], ◌∷◌, ◌⊎◌, inl, inr, refl, sym, subst, ℕ}
 use Rattle.std.specs.Prelude.{Contains, filter, flat_map}
 use Rattle.std.specs.List.{list_any}
 use Rattle.std.proofs.lemmas.Bool.{cases_Bool}
@@ -20,7 +20,7 @@ use Rattle.policy_tests.proofs.PhantomLemmas.{own_back}
 
 -- ---- elements
 
-flat_member : {X A : Type 0} (f : X → List A) (xs : List X) (a : A) → Contains (flat_map f xs) a → (x : X) × Contains xs x × Contains (f x) a
+pub flat_member : {X A : Type 0} (f : X → List A) (xs : List X) (a : A) → Contains (flat_map f xs) a → (x : X) × Contains xs x × Contains (f x) a
 flat_member f [] a m = absurd (no_member a m)
 flat_member f (x ∷ xs) a m =
     elim (Contains-append_cases (f x) (flat_map f xs) a m) [
@@ -28,7 +28,7 @@ flat_member f (x ∷ xs) a m =
       | inr more ↦ let rest = flat_member f xs a more in (rest.0, rest_member x xs rest.0 rest.1, rest.2)
     ]
 
-member_flat : {X A : Type 0} (f : X → List A) (xs : List X) (x : X) (a : A) → Contains xs x → Contains (f x) a → Contains (flat_map f xs) a
+pub member_flat : {X A : Type 0} (f : X → List A) (xs : List X) (x : X) (a : A) → Contains xs x → Contains (f x) a → Contains (flat_map f xs) a
 member_flat f [] x a m h = absurd (no_member x m)
 member_flat {X} {A} f (y ∷ ys) x a m h =
     elim (cut_member y ys x m) [
@@ -36,7 +36,7 @@ member_flat {X} {A} f (y ∷ ys) x a m h =
       | inr r ↦ Contains-append_right (f y) (flat_map f ys) a (member_flat f ys x a r h)
     ]
 
-kept_passes : {A : Type 0} (test : A → Bool) (xs : List A) (a : A) → Contains (filter test xs) a → test a ≡ true
+pub kept_passes : {A : Type 0} (test : A → Bool) (xs : List A) (a : A) → Contains (filter test xs) a → test a ≡ true
 kept_passes test [] a m = absurd (no_member a m)
 kept_passes {A} test (x ∷ xs) a m =
     elim (cases_Bool (test x)) [
@@ -123,9 +123,3 @@ own_by_core groups sites selector s =
       | inr stands ↦ own_back back.0 at.0 s stands at.2
     ] in
     list_any_is (joins_own s) (core_of groups sites selector) back.0 back.1 passes)
-
--- the same of what the code has at hand
-pub own_sides : (groups : List Group) (sites : List Site) (selector : Selector) (core dests : List End) → core ≡ core_of groups sites selector → dests ≡ ends_of groups sites selector
-    → (s : End) → list_any (joins_own s) core ≡ list_any (joins_own s) dests
-own_sides groups sites selector core dests first second s =
-    ap (list_any (joins_own s)) first ∙ (own_by_core groups sites selector s ∙ sym (ap (list_any (joins_own s)) second))

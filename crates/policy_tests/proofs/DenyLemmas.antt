@@ -19,7 +19,7 @@ use Rattle.policy_tests.specs.Trials.{is_met, is_open, lets_some, pair_passes, s
 
 -- ---- a destination is met
 
-any_same : {A : Type 0} (f g : A → Bool) (xs : List A) → ((x : A) → f x ≡ g x) → list_any f xs ≡ list_any g xs
+pub any_same : {A : Type 0} (f g : A → Bool) (xs : List A) → ((x : A) → f x ≡ g x) → list_any f xs ≡ list_any g xs
 any_same f g [] h = refl
 any_same f g (x ∷ xs) h = rw (h x, any_same f g xs h) refl
 
@@ -120,10 +120,3 @@ pub passes_by_rules : (groups : List Group) (rules : List Rule) (proto : Option 
 passes_by_rules groups rules proto port ss ds =
     same_tests (list_any (lets_some groups proto port ss ds) rules) (some_passes groups rules proto port ss ds)
     (lets_pair groups rules proto port ss ds) (pair_lets groups rules proto port ss ds)
-
--- the same of what the code has at hand
-pub rules_pass : (groups g : List Group) (rules r : List Rule) (proto : Option ℕ) (port : ℕ) (ss ds : List End) (passes : Bool) → passes ≡ list_any (lets_some g proto port ss ds) r → g ≡ groups → r ≡ rules
-    → passes ≡ some_passes groups rules proto port ss ds
-rules_pass groups g rules r proto port ss ds passes value same all =
-    let moved : list_any (lets_some g proto port ss ds) r ≡ list_any (lets_some groups proto port ss ds) rules = λ i. list_any (lets_some (same i) proto port ss ds) (all i) in
-    value ∙ (moved ∙ passes_by_rules groups rules proto port ss ds)

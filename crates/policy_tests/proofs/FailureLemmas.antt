@@ -53,8 +53,7 @@ accepts_last policy sites h others t e mt me lasting =
     ∙ (sym (by_phantoms policy sites t e lasting) ∙ accepts_pass (is_accepted policy sites) (is_denied policy sites) 0 policy.tests h t e mt me)
 
 -- the same of what the code has at hand
-pub first_is : (policy : Policy) (rows : Rows) (live : List ℕ) (x : Expansion) (sites slice : List Site) (tests : List Test) (failure : Option TestFailure) → x ≡ expansion_of (Some policy) rows []
-    → sites ≡ sites_of (Some policy) rows live → slice ≡ sites → tests ≡ policy.tests
-    → failure ≡ failure_from (accepted_by x.groups x.rules slice) (denied_by x.groups x.rules slice) 0 tests → failure ≡ first_failure policy (sites_of (Some policy) rows live)
-first_is policy rows live x sites slice tests failure whole are same all told =
-    told ∙ (λ i. failure_from (accepted_by (whole i).groups (whole i).rules ((same ∙ are) i)) (denied_by (whole i).groups (whole i).rules ((same ∙ are) i)) 0 (all i))
+pub first_is : (policy : Policy) (rows : Rows) (live : List ℕ) (x : Expansion) (tests : List Test) (failure : Option TestFailure) → x ≡ expansion_of (Some policy) rows live → tests ≡ policy.tests
+    → failure ≡ failure_from (accepted_by x.groups x.rules x.sites) (denied_by x.groups x.rules x.sites) 0 tests → failure ≡ first_failure policy (sites_of (Some policy) rows live)
+first_is policy rows live x tests failure whole all told =
+    told ∙ (λ i. failure_from (accepted_by (whole i).groups (whole i).rules (whole i).sites) (denied_by (whole i).groups (whole i).rules (whole i).sites) 0 (all i))

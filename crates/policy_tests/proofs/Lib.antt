@@ -4,3 +4,4 @@ pub mod DenyLemmas
 pub mod FailureLemmas
 pub mod LoopLemmas
 pub mod PhantomLemmas
+pub mod SideLemmas

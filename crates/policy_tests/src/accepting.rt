@@ -7,7 +7,7 @@ use crate::ends::core_of;
 use crate::opening::port_of;
 use policy_eval::Expanded;
 use policy_rows::{Dest, Test};
-use policy_sites::{End, Site};
+use policy_sites::End;
 use std::alloc::Global;
 use tail_base::NoMemory;
 
@@ -44,15 +44,14 @@ fn all_pass(x: &Expanded, proto: Option<u8>, port: u16, sources: &[End], dests: 
 pub(crate) fn is_accepted(
     alloc: Global,
     x: &Expanded,
-    sites: &[Site],
     test: &Test,
     sources: &[End],
     entry: &Dest,
 ) -> Result<bool, NoMemory>
-    requires sources { sources.now ≡ core_of x.now.groups sites.now test.now.subject }
-    ensures value { IfOk result (λ passes.
-        passes ≡ accepted_by x.now.groups x.now.rules sites.now test.now entry.now) }
+    requires sources { sources.now ≡ core_of x.now.groups x.now.sites test.now.subject }
+    ensures value { IfOk result (λ passes. passes
+        ≡ accepted_by x.now.groups x.now.rules x.now.sites test.now entry.now) }
 {
-    let dests = core_of(alloc, x.groups(), sites, &entry.to)?;
+    let dests = core_of(alloc, x.groups(), x.sites(), &entry.to)?;
     Ok(all_pass(x, test.proto, port_of(entry), sources, dests.as_slice()))
 }

@@ -8,6 +8,7 @@ mod ends;
 mod failure;
 mod laws;
 mod opening;
+mod side;
 mod testing;
 
 pub use failure::TestFailure;

@@ -2,28 +2,12 @@
 ghost use Rattle.std.specs.Prelude.{◌≡◌, ◌&&◌};
 ghost use Rattle.port_sets.specs.Protocols.{has_member};
 ghost use Rattle.policy_sites.specs.Grants.{ports_hold};
-ghost use Rattle.policy_tests.specs.Lasting.{is_lasting};
 ghost use Rattle.policy_tests.specs.Tests.{first_port, port_of};
 ghost use Rattle.policy_tests.specs.Trials.{is_open};
 
-use policy_rows::{Dest, Rule, Selector};
+use policy_rows::{Dest, Rule};
 use policy_sites::ports_hold;
 use port_sets::PortRange;
-
-/// Whether the selector is a user, a group or a tag.
-pub(crate) fn is_lasting(selector: &Selector) -> bool
-    ensures value { result ≡ is_lasting selector.now }
-{
-    match selector {
-        Selector::User(_) | Selector::Group(_) | Selector::Tagged(_) => true,
-        Selector::Net(_)
-        | Selector::All
-        | Selector::Member
-        | Selector::AllTagged
-        | Selector::Internet
-        | Selector::OwnDevices => false,
-    }
-}
 
 fn is_open_to(rule: &Rule, entry: &Dest, proto: u8, port: u16) -> bool
     ensures value { result

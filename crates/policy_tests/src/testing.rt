@@ -9,28 +9,23 @@ ghost use Rattle.policy_tests.specs.Trials.{accepted_by, denied_by};
 
 use crate::accepting::is_accepted;
 use crate::denying::is_denied;
-use crate::ends::{core_of, ends_of};
+use crate::ends::core_of;
 use crate::failure::TestFailure;
+use crate::side::side_of;
 use net_rows::Tables;
 use policy_eval::Expanded;
 use policy_rows::{Policy, PolicyCode, PolicyFault, Test, indexed, refused, under};
-use policy_sites::{Site, sites_of};
 use std::alloc::Global;
 use tail_base::{Failure, NoMemory, Text};
 
 /// The first accept entry that fails.
-fn first_refused(
-    alloc: Global,
-    x: &Expanded,
-    sites: &[Site],
-    test: &Test,
-) -> Result<Option<usize>, NoMemory>
+fn first_refused(alloc: Global, x: &Expanded, test: &Test) -> Result<Option<usize>, NoMemory>
     ensures value { IfOk result (λ at. at ≡ position_from (λ e. not
-        (accepted_by x.now.groups x.now.rules sites.now test.now e)) 0 test.now.accept) }
+        (accepted_by x.now.groups x.now.rules x.now.sites test.now e)) 0 test.now.accept) }
 {
-    let sources = core_of(alloc, x.groups(), sites, &test.subject)?;
+    let sources = core_of(alloc, x.groups(), x.sites(), &test.subject)?;
     for (at, entry) in test.accept.as_slice().iter().enumerate() {
-        if !is_accepted(alloc, x, sites, test, sources.as_slice(), entry)? {
+        if !is_accepted(alloc, x, test, sources.as_slice(), entry)? {
             return Ok(Some(at));
         }
     }
@@ -38,18 +33,13 @@ fn first_refused(
 }
 
 /// The first deny entry that fails.
-fn first_let_through(
-    alloc: Global,
-    x: &Expanded,
-    sites: &[Site],
-    test: &Test,
-) -> Result<Option<usize>, NoMemory>
+fn first_let_through(alloc: Global, x: &Expanded, test: &Test) -> Result<Option<usize>, NoMemory>
     ensures value { IfOk result (λ at. at ≡ position_from (λ e. not
-        (denied_by x.now.groups x.now.rules sites.now test.now e)) 0 test.now.deny) }
+        (denied_by x.now.groups x.now.rules x.now.sites test.now e)) 0 test.now.deny) }
 {
-    let sources = ends_of(alloc, x.groups(), sites, &test.subject)?;
+    let sources = side_of(alloc, x, &test.subject)?;
     for (at, entry) in test.deny.as_slice().iter().enumerate() {
-        if !is_denied(alloc, x, sites, test, sources.as_slice(), entry)? {
+        if !is_denied(alloc, x, test, &sources, entry)? {
             return Ok(Some(at));
         }
     }
@@ -60,22 +50,21 @@ fn first_let_through(
 fn test_failure(
     alloc: Global,
     x: &Expanded,
-    sites: &[Site],
     at: usize,
     test: &Test,
 ) -> Result<Option<TestFailure>, NoMemory>
     ensures value { IfOk result (λ failure. failure ≡ test_failure
-        (accepted_by x.now.groups x.now.rules sites.now)
-        (denied_by x.now.groups x.now.rules sites.now) at test.now) }
+        (accepted_by x.now.groups x.now.rules x.now.sites)
+        (denied_by x.now.groups x.now.rules x.now.sites) at test.now) }
 {
-    if let Some(index) = first_refused(alloc, x, sites, test)? {
+    if let Some(index) = first_refused(alloc, x, test)? {
         return Ok(Some(TestFailure {
             test: at,
             accept: true,
             index,
         }));
     }
-    match first_let_through(alloc, x, sites, test)? {
+    match first_let_through(alloc, x, test)? {
         Some(index) => Ok(Some(TestFailure {
             test: at,
             accept: false,
@@ -88,15 +77,14 @@ fn test_failure(
 fn first_of_tests(
     alloc: Global,
     x: &Expanded,
-    sites: &[Site],
     tests: &[Test],
 ) -> Result<Option<TestFailure>, NoMemory>
     ensures value { IfOk result (λ failure. failure ≡ failure_from
-        (accepted_by x.now.groups x.now.rules sites.now)
-        (denied_by x.now.groups x.now.rules sites.now) 0 tests.now) }
+        (accepted_by x.now.groups x.now.rules x.now.sites)
+        (denied_by x.now.groups x.now.rules x.now.sites) 0 tests.now) }
 {
     for (at, test) in tests.iter().enumerate() {
-        if let Some(failure) = test_failure(alloc, x, sites, at, test)? {
+        if let Some(failure) = test_failure(alloc, x, at, test)? {
             return Ok(Some(failure));
         }
     }
@@ -115,9 +103,8 @@ pub fn first_failure(
         failure ≡ first_failure policy.now (sites_of (Some policy.now) tables.now.rows live.now)) }
     ensures lasting { IfOk result (λ failure. failure ≡ None → AcceptsLast policy.now) }
 {
-    let x = Expanded::of(alloc, Some(policy), tables, &[])?;
-    let sites = sites_of(alloc, Some(policy), tables, live)?;
-    let failure = first_of_tests(alloc, &x, sites.as_slice(), policy.tests.as_slice())?;
+    let x = Expanded::of(alloc, Some(policy), tables, live)?;
+    let failure = first_of_tests(alloc, &x, policy.tests.as_slice())?;
     Ok(failure)
 }
 

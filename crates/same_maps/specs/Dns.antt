@@ -1,5 +1,5 @@
 -- Whether the DNS of two maps is the same.
-use Rattle.std.specs.Prelude.{ℕ, Bool, ◌&&◌}
+use Rattle.std.specs.Prelude.{ℕ, Bool, List, ◌&&◌}
 use Rattle.std.specs.Bool.{beq}
 use Rattle.std.specs.Cmp.Lexicographic.{pointwise}
 use Rattle.std.specs.Str.{bytes_eq}
@@ -22,5 +22,9 @@ same_dns_settings a b =
 abbrev pub same_extra : DnsExtra → DnsExtra → Bool
 same_extra a b = bytes_eq a.name b.name && address_eq a.addr b.addr
 
+-- record by record, in their order
+abbrev pub same_extras : List DnsExtra → List DnsExtra → Bool
+same_extras a b = pointwise same_extra a b
+
 abbrev pub same_dns : Dns → Dns → Bool
-same_dns a b = same_dns_settings a.settings b.settings && pointwise same_extra a.extras b.extras
+same_dns a b = same_dns_settings a.settings b.settings && same_extras a.extras b.extras

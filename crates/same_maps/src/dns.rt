@@ -44,10 +44,17 @@ fn same_dns_settings(a: &DnsSettings, b: &DnsSettings) -> bool
         && same_list(a.routes.as_slice(), b.routes.as_slice())
 }
 
+/// Whether the extra records are the same, in their order.
+pub fn same_extras(a: &[DnsExtra], b: &[DnsExtra]) -> bool
+    ensures value { result ≡ spec.same_extras a.now b.now }
+{
+    same_list(a, b)
+}
+
 /// Whether the DNS is the same.
 pub fn same_dns(a: &Dns, b: &Dns) -> bool
     ensures value { result ≡ spec.same_dns a.now b.now }
 {
     same_dns_settings(&a.settings, &b.settings)
-        && same_list(a.extras.as_slice(), b.extras.as_slice())
+        && same_extras(a.extras.as_slice(), b.extras.as_slice())
 }

@@ -7,7 +7,8 @@ use moments::Moment;
 use row_keeper::Keeper;
 use std::alloc::Global;
 use std::sync::Wait;
-use tailnet_desk::{Ask, Reply, Turns};
+use tail_base::{MachineKey, NodeKey, Text};
+use tailnet_desk::{Ask, Drained, Reply, Turns};
 
 /// A seat and its hub, so that one loop serves connections over a desk and over seats.
 #[derive(Drop)]
@@ -27,5 +28,35 @@ impl<'a, R: Wait, K: Keeper> Turns for HubTurns<'a, R, K> {
 
     fn ask(&mut self, alloc: Global, ask: &Ask, moment: Moment, words: Option<[u64; 4]>) -> Reply {
         self.seat.ask(self.rt, alloc, self.hub, ask, moment, words)
+    }
+
+    fn attach(
+        &mut self,
+        alloc: Global,
+        machine: &MachineKey,
+        node: &NodeKey,
+        handle: &Text,
+        seq: u64,
+        moment: Moment,
+        words: Option<[u64; 4]>,
+    ) -> Reply {
+        self.seat.attach(
+            self.rt, alloc, self.hub, machine, node, handle, seq, moment, words,
+        )
+    }
+
+    fn drain(
+        &mut self,
+        alloc: Global,
+        machine: &MachineKey,
+        handle: &Text,
+        moment: Moment,
+    ) -> Drained {
+        self.seat
+            .drain(self.rt, alloc, self.hub, machine, handle, moment)
+    }
+
+    fn detach(&mut self, machine: &MachineKey, handle: &Text, moment: Moment) {
+        self.seat.detach(self.rt, self.hub, machine, handle, moment);
     }
 }

@@ -1,9 +1,12 @@
 //! A seat at a hub.
 ghost use Rattle.std.specs.Prelude.{◌≡◌};
-ghost use Rattle.session_hub.specs.Calls.{event_of};
+ghost use Rattle.session_hub.specs.Calls.{IsReplyTo, event_of};
 ghost use Rattle.session_hub.specs.Seats.{IsJoin, IsSeatTurn, IsSplit};
 ghost use Rattle.tailnet_desk.specs.Asks.{IsShort, IsShortEvent};
+ghost use Rattle.tailnet_desk.specs.Step.{drain_reply};
+ghost use Rattle.tailnet_desk.specs.Turns.{IsAttachReply};
 ghost use Rattle.tailnet_desk.specs.declared.entry.Event.TheVariants as event;
+ghost use Rattle.tailnet_desk.specs.declared.reply.Reply.TheVariants as reply;
 
 use crate::call::Call;
 use crate::hub::Hub;
@@ -14,7 +17,8 @@ use std::alloc::Global;
 use std::marker::{Brand, Model};
 use std::snapshot::Snapshot;
 use std::sync::Wait;
-use tailnet_desk::{Ask, Reply};
+use tail_base::{MachineKey, NodeKey, Text};
+use tailnet_desk::{Ask, Drained, Reply};
 
 /// A seat at a hub, from which one caller asks the desk. Contracts see of which hub it is, its name, the
 /// names of those that were joined into it and its own, and the history as far as it has seen it.
@@ -52,15 +56,16 @@ impl<K: Keeper> Model for Seat<K> {
 
 impl<K: Keeper> Seat<K> {
     /// One call of the desk, in its turn.
-    fn take_turn<R: Wait>(&mut self, rt: &R, alloc: Global, hub: &Hub<K>, call: &Call<'_>) -> Reply
+    fn take_turn<R: Wait>(&mut self, rt: &R, hub: &Hub<K>, call: &Call<'_>) -> Reply
         requires hub { self.old.hub ≡ hub.now }
         requires short { IsShortEvent (event_of call.now) }
         ensures turn { IsSeatTurn self.old self.new (event_of call.now) result }
+        ensures kind { IsReplyTo (event_of call.now) result }
     {
         let ticket = hub.draw_ticket(rt, &mut self.place);
         let mut desk = hub.take_desk(rt, &mut self.place, ticket);
         let before = Snapshot::of(&desk);
-        let reply = call.run(alloc, &mut desk);
+        let reply = call.run(&mut desk);
         let name = self.name;
         hub.advance::<Brand>(&mut self.place, desk, &before, name, call, &reply);
         reply
@@ -80,7 +85,100 @@ impl<K: Keeper> Seat<K> {
         requires short { IsShort ask.now }
         ensures turn { IsSeatTurn self.old self.new (event.Ask ask.now moment words) result }
     {
-        self.take_turn(rt, alloc, hub, &Call::Ask { ask, moment, words })
+        self.take_turn(
+            rt,
+            hub,
+            &Call::Ask {
+                alloc,
+                ask,
+                moment,
+                words,
+            },
+        )
+    }
+
+    /// A poll begins, in its turn.
+    pub fn attach<R: Wait>(
+        &mut self,
+        rt: &R,
+        alloc: Global,
+        hub: &Hub<K>,
+        machine: &MachineKey,
+        node: &NodeKey,
+        handle: &Text,
+        seq: u64,
+        moment: Moment,
+        words: Option<[u64; 4]>,
+    ) -> Reply
+        requires hub { self.old.hub ≡ hub.now }
+        ensures turn { IsSeatTurn self.old self.new
+            (event.Attach machine.now node.now handle.now seq moment words) result }
+        ensures kind { IsAttachReply result }
+    {
+        self.take_turn(
+            rt,
+            hub,
+            &Call::Attach {
+                alloc,
+                machine,
+                node,
+                handle,
+                seq,
+                moment,
+                words,
+            },
+        )
+    }
+
+    /// A poll fetches what is new in its session, in its turn.
+    pub fn drain<R: Wait>(
+        &mut self,
+        rt: &R,
+        alloc: Global,
+        hub: &Hub<K>,
+        machine: &MachineKey,
+        handle: &Text,
+        moment: Moment,
+    ) -> Drained
+        requires hub { self.old.hub ≡ hub.now }
+        ensures turn { IsSeatTurn self.old self.new
+            (event.Drain machine.now handle.now moment) (drain_reply result) }
+    {
+        let reply = self.take_turn(
+            rt,
+            hub,
+            &Call::Drain {
+                alloc,
+                machine,
+                handle,
+                moment,
+            },
+        );
+        Drained::of_reply(reply)
+    }
+
+    /// A poll ends, in its turn. It takes no memory.
+    pub fn detach<R: Wait>(
+        &mut self,
+        rt: &R,
+        hub: &Hub<K>,
+        machine: &MachineKey,
+        handle: &Text,
+        moment: Moment,
+    )
+        requires hub { self.old.hub ≡ hub.now }
+        ensures turn { IsSeatTurn self.old self.new
+            (event.Detach machine.now handle.now moment) reply.Detached }
+    {
+        let _reply = self.take_turn(
+            rt,
+            hub,
+            &Call::Detach {
+                machine,
+                handle,
+                moment,
+            },
+        );
     }
 
     /// Another seat of the hub, which has seen as much and has a name of its own. It takes no memory.

@@ -2,6 +2,7 @@
 #![tactic(auto)]
 
 mod defaults;
+mod domain;
 mod fields;
 mod limits;
 mod settings;
@@ -11,6 +12,7 @@ pub use defaults::{
     LISTEN_DEFAULT, PENDING_SECONDS_DEFAULT, POLL_TURNS_DEFAULT, PROXIED_DEFAULT, REQUESTS_DEFAULT,
     WORKERS_DEFAULT,
 };
+pub use domain::is_domain;
 pub use fields::SettingsFields;
 pub use limits::{
     BASE_DOMAIN_LIMIT, COUNT_LIMIT, DNS_ROUTE_LIMIT, DOMAIN_LIMIT, PREFIX_V4_LEN_LIMIT,

@@ -14,7 +14,7 @@ use Rattle.settings.specs.Settings.{AreDnsSettings, AreSettings, IsFrom, is_base
 use Rattle.settings.specs.declared.defaults.TheConstants.{CONNECTIONS_DEFAULT, EPHEMERAL_SECONDS_DEFAULT, KEY_SECONDS_DEFAULT, PENDING_SECONDS_DEFAULT, POLL_TURNS_DEFAULT, REQUESTS_DEFAULT, WORKERS_DEFAULT}
 use Rattle.settings.specs.declared.limits.TheConstants.{BASE_DOMAIN_LIMIT, COUNT_LIMIT, DNS_ROUTE_LIMIT, PREFIX_V4_LEN_LIMIT, PREFIX_V6_LEN_LIMIT, RESOLVER_LIMIT, SEARCH_LIMIT, SECONDS_LIMIT, WORKER_LIMIT}
 use Rattle.tailcfg.specs.declared.dns.DnsRoute.{DnsRoute}
-use Rattle.tail_words.specs.SettingsText.{dns_at, dns_of, fields_of, number_at, number_by, prefix_at, prefix_by, required, rule_of, text_at, text_by}
+use Rattle.tail_words.specs.SettingsText.{dns_at, dns_settings_of, fields_of, number_at, number_by, prefix_at, prefix_by, required, rule_of, text_at, text_by}
 use Rattle.tail_words.specs.SettingsValues.{addresses, are_domains, before, each_address, each_route, number, number_within, passes, passing, prefix, prefix_fits, prefix_within, reading, resolvers, route, routes, routes_within, search_domains, table_texts, text, texts}
 use Rattle.tail_words.specs.declared.fault.SettingsFault.{SettingsFault}
 use Rattle.tail_words.specs.declared.fault.SettingsRule.{SettingsRule}
@@ -127,7 +127,7 @@ routes_fit (r ∷ rs) made h =
 small : (n most : ℕ) → nat_le n most ≡ true → n ≤ most
 small n most h = grind (arith, nat_tests)
 
-resolvers_in : (base : List ℕ) (table : Members) → length (dns_of base table).resolvers ≤ RESOLVER_LIMIT
+resolvers_in : (base : List ℕ) (table : Members) → length (dns_settings_of base table).resolvers ≤ RESOLVER_LIMIT
 resolvers_in base table =
     or_default (λ l. length l ≤ RESOLVER_LIMIT) (option_and_then (λ d. result_ok (resolvers d)) (dns_at (codes "resolvers") table)) [] (omega arith) (λ made at.
     let found = found_by (λ d. result_ok (resolvers d)) (dns_at (codes "resolvers") table) made at in
@@ -137,7 +137,7 @@ resolvers_in base table =
 abbrev FitRoutes : List DnsRoute → Type 0
 FitRoutes l = (length l ≤ DNS_ROUTE_LIMIT) × (list_all is_domain_route l ≡ true)
 
-routes_in : (base : List ℕ) (table : Members) → FitRoutes (dns_of base table).routes
+routes_in : (base : List ℕ) (table : Members) → FitRoutes (dns_settings_of base table).routes
 routes_in base table =
     or_default FitRoutes (option_and_then (λ d. result_ok (routes d)) (dns_at (codes "routes") table)) [] (omega arith, refl) (λ made at.
     let found = found_by (λ d. result_ok (routes d)) (dns_at (codes "routes") table) made at in
@@ -148,14 +148,14 @@ routes_in base table =
 abbrev FitSearch : List (List ℕ) → Type 0
 FitSearch l = are_domains l ≡ true
 
-search_in : (base : List ℕ) (table : Members) → is_domain base ≡ true → FitSearch (dns_of base table).domains
+search_in : (base : List ℕ) (table : Members) → is_domain base ≡ true → FitSearch (dns_settings_of base table).domains
 search_in base table good =
     or_default FitSearch (option_and_then (λ d. result_ok (search_domains d)) (dns_at (codes "search") table)) (base ∷ []) (rw good refl) (λ made at.
     let found = found_by (λ d. result_ok (search_domains d)) (dns_at (codes "search") table) made at in
     let read = read_by (passing are_domains) (texts found.0) made found.1 in
     passed are_domains read.0 made read.1)
 
-dns_fits : (base : List ℕ) (table : Members) → is_domain base ≡ true → AreDnsSettings (dns_of base table)
+dns_fits : (base : List ℕ) (table : Members) → is_domain base ≡ true → AreDnsSettings (dns_settings_of base table)
 dns_fits base table good =
     let found = and_parts _ _ (search_in base table good) in
     record {

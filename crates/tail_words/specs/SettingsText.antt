@@ -137,8 +137,8 @@ abbrev pub required : List ℕ → Members → Result (List ℕ) SettingsFault
 required key table = or_fault (Refused RequiredKey key) (text_at key table)
 
 -- the DNS settings, with their defaults
-abbrev pub dns_of : List ℕ → Members → DnsSettings
-dns_of base_domain table = record {
+abbrev pub dns_settings_of : List ℕ → Members → DnsSettings
+dns_settings_of base_domain table = record {
   domains = unwrap_or (option_and_then (λ d. result_ok (search_domains d)) (dns_at (codes "search") table)) (base_domain ∷ []);
   proxied = unwrap_or (option_and_then as_bool (dns_at (codes "magic") table)) PROXIED_DEFAULT;
   resolvers = unwrap_or (option_and_then (λ d. result_ok (resolvers d)) (dns_at (codes "resolvers") table)) [];
@@ -151,7 +151,7 @@ fields_of base_domain server_url token table = record {
   base_domain = base_domain;
   connections = unwrap_or (number_at (codes "connections") table) CONNECTIONS_DEFAULT;
   database = unwrap_or (text_at (codes "database") table) DATABASE_DEFAULT.now;
-  dns = dns_of base_domain table;
+  dns = dns_settings_of base_domain table;
   ephemeral_seconds = unwrap_or (number_at (codes "ephemeral_seconds") table) EPHEMERAL_SECONDS_DEFAULT;
   key_seconds = unwrap_or (number_at (codes "key_seconds") table) KEY_SECONDS_DEFAULT;
   listen = unwrap_or (text_at (codes "listen") table) LISTEN_DEFAULT.now;

@@ -3,7 +3,7 @@ ghost use Rattle.std.specs.Prelude.{◌≡◌, ◌++◌, List, ℕ, [], IfOk, co
 ghost use Rattle.std.specs.Result.{result_ok};
 ghost use Rattle.toml.specs.View.{table_view, view};
 ghost use Rattle.tail_words.specs.SettingsValues.{resolvers, routes, search_domains};
-ghost use Rattle.tail_words.specs.SettingsText.{Gives, IsFault, broken_in_dns, dns_at, dns_checked, dns_of};
+ghost use Rattle.tail_words.specs.SettingsText.{Gives, IsFault, broken_in_dns, dns_at, dns_checked, dns_settings_of};
 
 use crate::fault::{SettingsFault, SettingsRule, refused};
 use crate::lists::{resolvers, routes, search_domains};
@@ -77,7 +77,7 @@ fn dns_at<'a>(table: &'a Table, key: &str) -> Option<&'a Value>
 }
 
 fn proxied_of(table: &Table) -> bool
-    ensures value { result ≡ (dns_of [] (table_view table.now)).proxied }
+    ensures value { result ≡ (dns_settings_of [] (table_view table.now)).proxied }
 {
     match dns_at(table, "magic") {
         Some(value) => value.as_bool().unwrap_or(PROXIED_DEFAULT),
@@ -86,7 +86,8 @@ fn proxied_of(table: &Table) -> bool
 }
 
 fn resolvers_of(alloc: Global, table: &Table) -> Result<Items<Addr>, NoMemory>
-    ensures value { IfOk result (λ made. made ≡ (dns_of [] (table_view table.now)).resolvers) }
+    ensures value { IfOk result (λ made. made
+        ≡ (dns_settings_of [] (table_view table.now)).resolvers) }
 {
     match dns_at(table, "resolvers") {
         Some(value) => Ok(resolvers(alloc, value)?.unwrap_or(Items::new(alloc))),
@@ -95,7 +96,8 @@ fn resolvers_of(alloc: Global, table: &Table) -> Result<Items<Addr>, NoMemory>
 }
 
 fn routes_of(alloc: Global, table: &Table) -> Result<Items<DnsRoute>, NoMemory>
-    ensures value { IfOk result (λ made. made ≡ (dns_of [] (table_view table.now)).routes) }
+    ensures value { IfOk result (λ made. made
+        ≡ (dns_settings_of [] (table_view table.now)).routes) }
 {
     match dns_at(table, "routes") {
         Some(value) => Ok(routes(alloc, value)?.unwrap_or(Items::new(alloc))),
@@ -104,7 +106,8 @@ fn routes_of(alloc: Global, table: &Table) -> Result<Items<DnsRoute>, NoMemory>
 }
 
 fn domains_of(alloc: Global, base_domain: &Text, table: &Table) -> Result<Items<Text>, NoMemory>
-    ensures value { IfOk result (λ made. made ≡ (dns_of base_domain.now (table_view table.now)).domains) }
+    ensures value { IfOk result (λ made. made
+        ≡ (dns_settings_of base_domain.now (table_view table.now)).domains) }
 {
     if let Some(value) = dns_at(table, "search")
         && let Ok(made) = search_domains(alloc, value)?
@@ -117,12 +120,13 @@ fn domains_of(alloc: Global, base_domain: &Text, table: &Table) -> Result<Items<
 }
 
 /// The DNS settings of a table that was checked, with their defaults.
-pub(crate) fn dns_of(
+pub(crate) fn dns_settings_of(
     alloc: Global,
     base_domain: &Text,
     table: &Table,
 ) -> Result<DnsSettings, NoMemory>
-    ensures value { IfOk result (λ made. made ≡ dns_of base_domain.now (table_view table.now)) }
+    ensures value { IfOk result (λ made. made
+        ≡ dns_settings_of base_domain.now (table_view table.now)) }
 {
     Ok(DnsSettings {
         domains: domains_of(alloc, base_domain, table)?,

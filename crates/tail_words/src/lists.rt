@@ -7,9 +7,8 @@ ghost use Rattle.toml.specs.View.{items_view, table_view, view};
 ghost use Rattle.tail_words.specs.SettingsValues.{addresses, are_domains, each_address, each_route, item_texts, member_texts, resolvers, route, routes, routes_within, search_domains, table_texts, texts};
 
 use crate::fault::SettingsRule;
-use crate::rules::is_domain;
 use net_addr::Addr;
-use settings::{DNS_ROUTE_LIMIT, RESOLVER_LIMIT, SEARCH_LIMIT};
+use settings::{DNS_ROUTE_LIMIT, RESOLVER_LIMIT, SEARCH_LIMIT, is_domain};
 use std::alloc::Global;
 use tail_base::{Duplicate, Items, NoMemory, Text};
 use tailcfg::DnsRoute;

@@ -3,7 +3,7 @@ ghost use Rattle.std.specs.Prelude.{◌≡◌, IfOk, unwrap_or};
 ghost use Rattle.toml.specs.View.{table_view, view};
 ghost use Rattle.tail_words.specs.SettingsText.{Gives, IsRead, checked, entry_checked, fields_of, required, settings_at, settings_of, text_at};
 
-use crate::dns::{check_dns, dns_of};
+use crate::dns::{check_dns, dns_settings_of};
 use crate::fault::{SettingsFault, SettingsRule, refused};
 use crate::rule::rule_of;
 use crate::table::{broken_by, number_at, prefix_at, text_at};
@@ -56,7 +56,8 @@ fn required(alloc: Global, table: &Table, key: &str) -> Result<Text, SettingsFau
 
 /// The text at a key, or the default.
 fn text_or(alloc: Global, table: &Table, key: &str, default: &str) -> Result<Text, NoMemory>
-    ensures value { IfOk result (λ t. t ≡ unwrap_or (text_at key.now (table_view table.now)) default.now) }
+    ensures value { IfOk result (λ t. t
+        ≡ unwrap_or (text_at key.now (table_view table.now)) default.now) }
 {
     match text_at(table, key) {
         Some(text) => Text::from_str(alloc, text),
@@ -72,12 +73,13 @@ fn fields_of(
     token: Text,
     table: &Table,
 ) -> Result<SettingsFields, NoMemory>
-    ensures value { IfOk result (λ made. made ≡ fields_of base_domain server_url token (table_view table.now)) }
+    ensures value { IfOk result (λ made. made
+        ≡ fields_of base_domain server_url token (table_view table.now)) }
 {
     Ok(SettingsFields {
         connections: number_at(table, "connections").unwrap_or(CONNECTIONS_DEFAULT),
         database: text_or(alloc, table, "database", DATABASE_DEFAULT)?,
-        dns: dns_of(alloc, &base_domain, table)?,
+        dns: dns_settings_of(alloc, &base_domain, table)?,
         ephemeral_seconds: number_at(table, "ephemeral_seconds").unwrap_or(
             EPHEMERAL_SECONDS_DEFAULT,
         ),

@@ -18,11 +18,12 @@ use Rattle.tailnet_desk.specs.declared.desk.OpenFault.{OpenFault}
 use Rattle.tailnet_desk.specs.declared.desk.OpenFault.TheVariants as fault
 use Rattle.tailnet_desk.proofs.Histories.{Chain-append, history_of}
 use Rattle.tailnet_desk.proofs.SoundHistories.{legal_sound}
+use Rattle.tailnet_laws.proofs.Following.{opening_followed}
 use Rattle.desk_front.specs.Wanted.{front_settings}
 use Rattle.connections.specs.Connection.{IsConnection}
 use Rattle.connections.specs.Exchanges.{turns_of}
 use Rattle.connections.specs.Tellings.{from_number}
-use Rattle.tailnet_commands.specs.Run.{Conversation, IsAskedFor, IsUnserved, Ran, Untouched, IsFaultOf}
+use Rattle.tailnet_commands.specs.Run.{Conversation, IsAskedFor, IsUnopened, Ran, Untouched, IsFaultOf}
 use Rattle.tailnet_commands.specs.Outside.{Outside}
 use Rattle.tailnet_commands.specs.Seeding.{IsSeeded}
 use Rattle.connections.proofs.Seen.{serves_from, with_answers}
@@ -72,12 +73,12 @@ pub conversed : (closed : Closed) (settings : SettingsFields) (seed : Option (Li
     → IsWhereTold moment (option_map clamped (old.told.giving.answers 0)) → ((k : ℕ) → f k ≡ old.told.giving.answers (k + 1))
     → d ≡ opening settings d.rows moment → IsWhereTold d.rows old.rows
     → IsSeeded seed f g (record { state = d; keeping = keeping }) middle
-    → IsConnection IsTurn (front_settings settings) closed settings.requests [] (with_answers old.told g) new.told middle final
+    → IsConnection IsTurn (front_settings settings) 0 closed settings.requests [] (with_answers old.told g) new.told middle final
     → IsWhereTold final.state.rows new.rows → RoseBy final.keeping.faults old.keeper_faults new.keeper_faults → IsAskedFor settings old new → Conversation closed settings seed old new
 conversed closed settings seed moment old new f g d keeping middle final hold whole at shifted is rows_told seeded serves last rose asked =
     let n = length seeded.seeding in
     let turns = seeded.seeding ++ turns_of serves.exchanges in
-    let served = serves_from IsTurn (front_settings settings) closed settings.requests [] (with_answers old.told g) new.told middle final (from_number (1 + n) old.told.giving.answers)
+    let served = serves_from IsTurn (front_settings settings) 0 closed settings.requests [] (with_answers old.told g) new.told middle final (from_number (1 + n) old.told.giving.answers)
     (λ k. seeded.rest k ∙ shifted (k + n) ∙ ap old.told.giving.answers (omega arith)) serves in
     let start : Point = record { state = opening settings d.rows moment; keeping = keeping } in
     let opened : Point = record { state = d; keeping = keeping } in
@@ -101,6 +102,7 @@ conversed closed settings seed moment old new f g d keeping middle final hold wh
       seeding_leads = subst (λ (s : State). Chain IsTurn (record { state = s; keeping = keeping }) seeded.seeding middle) is seeded.chain;
       serves = served;
       history = history;
+      followed = opening_followed settings d.rows moment keeping.faults history.entries hold whole history.legal;
       final_sound = sound_at_end start turns final hold sound history;
       final_rows = last;
       rose = rose;
@@ -108,7 +110,7 @@ conversed closed settings seed moment old new f g d keeping middle final hold wh
 
 -- a desk that didn't open
 pub faulted : (f : OpenFault) (e : Ended) (settings : SettingsFields) (seed : Option (List ℕ)) (old new : Outside) → IsFaultOf f e → Untouched old new → IsAskedFor settings old new → (f ≡ fault.KeeperFault → Rose old.keeper_faults new.keeper_faults)
-    → ((kind : _) (id : ℕ) → f ≡ fault.Damaged kind id → IsUnserved kind id old.rows) → Ran e settings seed old new
+    → ((kind : _) (id : ℕ) → f ≡ fault.Damaged kind id → IsUnopened kind id old.rows) → Ran e settings seed old new
 faulted fault.KeeperFault e settings seed old new is quiet asked rose damaged = rw is (quiet, asked, rose refl)
 faulted (fault.Damaged kind id) e settings seed old new is quiet asked rose damaged = rw is (quiet, asked, damaged kind id refl)
 faulted fault.NoMemory e settings seed old new is quiet asked rose damaged = rw is (quiet, inr asked)

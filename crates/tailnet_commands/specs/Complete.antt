@@ -10,7 +10,7 @@ use Rattle.desk_front.specs.declared.want.Wanted.TheVariants as wants
 use Rattle.net_rows.specs.declared.rows.Rows.{Rows}
 use Rattle.settings.specs.declared.fields.SettingsFields.{SettingsFields}
 use Rattle.tail_words.specs.SettingsText.{settings_of}
-use Rattle.tailnet_desk.specs.Opening.{unserved}
+use Rattle.tailnet_desk.specs.Opening.{unread_policy}
 use Rattle.tailnet_commands.specs.Pipe.{Outcome}
 use Rattle.tailnet_commands.specs.Outside.{Outside}
 use Rattle.tailnet_commands.specs.declared.limits.TheConstants.{FILE_LIMIT}
@@ -22,8 +22,9 @@ abbrev pub IsAccepted : Wanted → Type 0
 IsAccepted (wants.Fault body) = ⊥
 IsAccepted (wants.Answer status body) = Unit {0}
 IsAccepted (wants.Ask ask) = Unit {0}
+IsAccepted (wants.Poll p) = Unit {0}
 
--- Nothing stands in the way of a run: the settings file is there and keeps its rules, the tables are served, the
+-- Nothing stands in the way of a run: the settings file is there and keeps its rules, the tables are opened, the
 -- input is whole requests that are accepted, and no count of faults rises.
 pub record IsClear (name : List ℕ) (old new : Outside) : Type 0 where
   pub text : List ℕ
@@ -33,7 +34,7 @@ pub record IsClear (name : List ℕ) (old new : Outside) : Type 0 where
   pub settings_are : settings_of text ≡ Ok settings
   pub rows : Rows
   pub rows_are : old.rows ≡ Some rows
-  pub served : unserved rows ≡ None
+  pub opened : unread_policy rows ≡ None
   pub input : List ℕ
   pub input_is : old.told.left ≡ Some input
   pub requests : List Request

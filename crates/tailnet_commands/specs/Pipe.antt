@@ -8,7 +8,7 @@ use Rattle.tail_words.specs.declared.fault.SettingsRule.{SettingsRule}
 use Rattle.run_ends.specs.Lines.{Noted, is_made, ended_line}
 use Rattle.run_ends.specs.Statuses.{status_of}
 use Rattle.tailnet_commands.specs.Outside.{Outside}
-use Rattle.tailnet_commands.specs.Run.{Conversation, IsAskedFor, IsUnasked, IsUnbegun, IsUnserved, Untouched}
+use Rattle.tailnet_commands.specs.Run.{Conversation, IsAskedFor, IsUnasked, IsUnbegun, IsUnopened, Untouched}
 use Rattle.run_ends.specs.declared.closed.Closed.{Closed}
 use Rattle.run_ends.specs.declared.ended.Ended.{Ended}
 use Rattle.run_ends.specs.declared.ended.Ended.TheVariants as ended
@@ -61,7 +61,7 @@ Piped ended.FileFault name seed old new = IsUnbegun old new × Rose old.file_fau
 Piped ended.KeeperFault name seed old new =
     Untouched old new × IsUnder (old.files name) (λ settings. IsAskedFor settings old new) × Rose old.keeper_faults new.keeper_faults
 Piped (ended.Damaged kind id) name seed old new =
-    Untouched old new × IsUnder (old.files name) (λ settings. IsAskedFor settings old new) × IsUnserved kind id old.rows
+    Untouched old new × IsUnder (old.files name) (λ settings. IsAskedFor settings old new) × IsUnopened kind id old.rows
 Piped ended.NoMemory name seed old new =
     Untouched old new × (IsUnasked old new ⊎ IsUnder (old.files name) (λ settings. IsAskedFor settings old new))
 

@@ -1,5 +1,5 @@
 -- A run of `pipe`.
-use Rattle.std.specs.Prelude.{◌≡◌, ◌+◌, ◌⊎◌, ℕ, ℤ, Option, Some, List, [], ◌++◌, length, IfSome}
+use Rattle.std.specs.Prelude.{◌≡◌, ◌+◌, ◌⊎◌, ℕ, ℤ, Option, None, Some, List, [], ◌++◌, length, IfSome}
 use Rattle.std.specs.Option.{option_map}
 use Rattle.moments.specs.Moments.{clamped}
 use Rattle.io_edge.specs.Asked.{and_asked}
@@ -9,11 +9,12 @@ use Rattle.net_rows.specs.declared.change.Kind.{Kind}
 use Rattle.net_rows.specs.declared.rows.Rows.{Rows}
 use Rattle.settings.specs.declared.fields.SettingsFields.{SettingsFields}
 use Rattle.tailnet_desk.specs.Chains.{Chain, Turned, IsHistory}
-use Rattle.tailnet_desk.specs.Opening.{opening, unserved}
+use Rattle.tailnet_desk.specs.Opening.{opening, unread_policy}
 use Rattle.tailnet_desk.specs.Seated.{Keeping, Point}
 use Rattle.tailnet_desk.specs.Turns.{IsTurn}
 use Rattle.tailnet_desk.specs.declared.desk.OpenFault.{OpenFault}
 use Rattle.tailnet_desk.specs.declared.desk.OpenFault.TheVariants as fault
+use Rattle.tailnet_laws.specs.Followed.{AreFollowed}
 use Rattle.desk_front.specs.Wanted.{front_settings}
 use Rattle.connections.specs.Exchanges.{turns_of}
 use Rattle.connections.specs.Tellings.{MomentsTold, from_number}
@@ -49,9 +50,9 @@ IsUnasked old new = new.asked ≡ old.asked
 abbrev pub IsAskedFor : SettingsFields → Outside → Outside → Type 0
 IsAskedFor settings old new = new.asked ≡ and_asked old.asked settings.database
 
--- rows, where they are told, aren't served, and this one is the cause
-abbrev pub IsUnserved : Kind → ℕ → Option Rows → Type 0
-IsUnserved kind id told = IfSome told (λ rows. unserved rows ≡ Some (record { kind = kind; id = id }))
+-- rows, where they are told, aren't opened, and this damage is the cause
+abbrev pub IsUnopened : Kind → ℕ → Option Rows → Type 0
+IsUnopened kind id told = IfSome told (λ rows. unread_policy rows ≡ Some (record { kind = kind; id = id }))
 
 -- A connection over a desk that was opened at the clock's first answer. Its tables keep their rules, at the beginning
 -- and at the end.
@@ -70,9 +71,13 @@ pub record Conversation (closed : Closed) (settings : SettingsFields) (seed : Op
   pub seeding_moments : MomentsTold (from_number 1 old.told.giving.answers) seeding
   pub seeded : Point
   pub seeding_leads : Chain IsTurn (record { state = opening settings rows moment; keeping = keeping }) seeding seeded
-  pub serves : IsConnection IsTurn (front_settings settings) closed settings.requests [] (after_answers (1 + length seeding) old.told) new.told seeded final
+  -- no poll waits
+  pub serves : IsConnection IsTurn (front_settings settings) 0 closed settings.requests [] (after_answers (1 + length seeding) old.told) new.told seeded final
   -- a legal history from the opening state: the seed, and the turns of the served requests
   pub history : IsHistory (record { state = opening settings rows moment; keeping = keeping }) (seeding ++ turns_of serves.exchanges) final
+  -- what the client of each session has folded after a drain is its machine's map, computed afresh, and the filter in it
+  -- admits exactly what the policy in force grants
+  pub followed : AreFollowed (opening settings rows moment) (λ handle. None) history.entries
   pub final_sound : AreSound final.state.rows
   pub final_rows : IsWhereTold final.state.rows new.rows
   pub rose : RoseBy final.keeping.faults old.keeper_faults new.keeper_faults
@@ -85,7 +90,7 @@ Ran ended.TooLarge settings seed old new = ⊥
 Ran ended.FileFault settings seed old new = ⊥
 Ran ended.KeeperFault settings seed old new = Untouched old new × IsAskedFor settings old new × Rose old.keeper_faults new.keeper_faults
 Ran (ended.Damaged kind id) settings seed old new =
-    Untouched old new × IsAskedFor settings old new × IsUnserved kind id old.rows
+    Untouched old new × IsAskedFor settings old new × IsUnopened kind id old.rows
 Ran ended.NoMemory settings seed old new = Untouched old new × (IsUnasked old new ⊎ IsAskedFor settings old new)
 
 -- how a run ends whose desk didn't open

@@ -1,5 +1,5 @@
 -- Legal histories keep the rules of the tables, and their policy in force.
-use Rattle.std.proofs.Common.{◌≡◌, ◌++◌, ℕ, List, [], ◌∷◌, Option, Some, None, Result, Ok, Err, refl, sym, subst, arith}
+use Rattle.std.proofs.Common.{◌≡◌, ◌++◌, ◌∙◌, ℕ, List, [], ◌∷◌, Option, Some, None, Result, Ok, Err, refl, sym, ap, subst, arith}
 use Rattle.net_rows.specs.Damage.{damage}
 use Rattle.net_rows.specs.Sound.{AreSound}
 use Rattle.net_rows.specs.declared.change.Change.{Change}
@@ -12,16 +12,22 @@ use Rattle.desk_state.specs.State.{State, at_moment}
 use Rattle.desk_state.specs.declared.decision.Decision.{Decision}
 use Rattle.desk_state.specs.declared.refusal.Refusal.{Refusal}
 use Rattle.desk_state.proofs.Proper.{same_counters}
-use Rattle.tailnet_desk.specs.Asks.{IsShortEvent}
+use Rattle.policy_asks.specs.Kept.{policy_in}
+use Rattle.map_asks.specs.Attach.{attach}
+use Rattle.map_asks.specs.Detach.{detach}
+use Rattle.map_asks.specs.Drain.{drain}
+use Rattle.map_asks.specs.declared.attaching.AttachDecision.{AttachDecision}
+use Rattle.map_asks.specs.declared.draining.DrainDecision.{DrainDecision}
+use Rattle.tailnet_desk.specs.Asks.{IsPollEvent, IsShortEvent}
 use Rattle.tailnet_desk.specs.History.{Legal, replay, state_after}
 use Rattle.tailnet_desk.specs.Seated.{IsInForce}
-use Rattle.tailnet_desk.specs.Step.{decision, outcome}
+use Rattle.tailnet_desk.specs.Step.{attach_turn, decision, detach_turn, drain_turn, moment_of, outcome, step}
 use Rattle.tailnet_desk.specs.declared.entry.Entry.{Entry}
 use Rattle.tailnet_desk.specs.declared.entry.Event.{Event}
 use Rattle.tailnet_desk.specs.declared.entry.Event.TheVariants as event
 use Rattle.tailnet_desk.specs.declared.reply.Answer.{Answer}
 use Rattle.tailnet_desk.specs.declared.reply.Reply.{Reply}
-use Rattle.tailnet_desk.specs.declared.reply.Reply.TheVariants.{Done, Refused, Lost}
+use Rattle.tailnet_desk.specs.declared.reply.Reply.TheVariants.{Done, Attached, Frames, Ended, Detached, Refused, Lost}
 use Rattle.tailnet_desk.proofs.Decisions.{KeepsPolicy, decision_in_force, decision_sound}
 use Rattle.tailnet_desk.proofs.TurnLemmas.{EachSound}
 
@@ -45,12 +51,60 @@ pub outcome_better : (s : State) (r : Result (Decision Answer) Refusal) → dama
 outcome_better s (Err e) h sound = (h, same_counters s.rows.next)
 outcome_better s (Ok d) h sound = rows_better s.rows d.change h (sound d refl).change
 
+-- What holds after the step and when its moment has come, holds after each reply.
+pub after_any : (P : State → Type 0) (s : State) (e : Event) (reply : Reply) → P (step s e).state → P (at_moment s (moment_of e)) → P (state_after s e reply)
+after_any P s e (Done a) stepped still = stepped
+after_any P s e (Attached handle seq resumed may_wait) stepped still = stepped
+after_any P s e (Frames responses) stepped still = stepped
+after_any P s e Ended stepped still = stepped
+after_any P s e Detached stepped still = stepped
+after_any P s e (Refused r) stepped still = stepped
+after_any P s e (Lost loss) stepped still = still
+
+-- Settings, rows and the policy in force are as they were.
+pub record KeepsTables (s t : State) : Type 0 where
+  pub settings : t.settings ≡ s.settings
+  pub rows : t.rows ≡ s.rows
+  pub policy : t.policy ≡ s.policy
+
+attach_keeps : (s : State) (r : Result AttachDecision Refusal) → KeepsTables s (attach_turn s r).state
+attach_keeps s (Ok d) = record { settings = refl; rows = refl; policy = refl }
+attach_keeps s (Err e) = record { settings = refl; rows = refl; policy = refl }
+
+drain_keeps : (s : State) (o : Option DrainDecision) → KeepsTables s (drain_turn s o).state
+drain_keeps s (Some d) = record { settings = refl; rows = refl; policy = refl }
+drain_keeps s None = record { settings = refl; rows = refl; policy = refl }
+
+detach_keeps : (s : State) (o : Option ℕ) → KeepsTables s (detach_turn s o).state
+detach_keeps s (Some id) = record { settings = refl; rows = refl; policy = refl }
+detach_keeps s None = record { settings = refl; rows = refl; policy = refl }
+
+-- a poll's event leaves the tables
+pub poll_keeps : (s : State) (e : Event) → IsPollEvent e → KeepsTables s (step s e).state
+poll_keeps s (event.Ask x m words) poll = absurd poll
+poll_keeps s (event.Attach mk node handle seq m words) poll =
+    let k = attach_keeps (at_moment s m) (attach (at_moment s m) mk node handle seq words) in record { settings = k.settings; rows = k.rows; policy = k.policy }
+poll_keeps s (event.Drain mk handle m) poll =
+    let k = drain_keeps (at_moment s m) (drain (at_moment s m) mk handle) in record { settings = k.settings; rows = k.rows; policy = k.policy }
+poll_keeps s (event.Detach mk handle m) poll =
+    let k = detach_keeps (at_moment s m) (detach (at_moment s m) mk handle) in record { settings = k.settings; rows = k.rows; policy = k.policy }
+
+kept_better : (s t : State) → KeepsTables s t → damage s.rows ≡ None → Better s.rows t.rows
+kept_better s t keeps h = subst (λ (r : Rows). Better s.rows r) (sym keeps.rows) (h, same_counters s.rows.next)
+
+pub step_better : (s : State) (e : Event) → AreSettings s.settings → damage s.rows ≡ None → IsShortEvent e → Better s.rows (step s e).state.rows
+step_better s (event.Ask x m words) hold h short =
+    outcome_better (at_moment s m) (decision (at_moment s m) x words) h (decision_sound (at_moment s m) x words hold h short)
+step_better s (event.Attach mk node handle seq m words) hold h short =
+    let e = event.Attach mk node handle seq m words in kept_better s (step s e).state (poll_keeps s e tt) h
+step_better s (event.Drain mk handle m) hold h short =
+    let e = event.Drain mk handle m in kept_better s (step s e).state (poll_keeps s e tt) h
+step_better s (event.Detach mk handle m) hold h short =
+    let e = event.Detach mk handle m in kept_better s (step s e).state (poll_keeps s e tt) h
+
 pub after_better : (s : State) (e : Event) (reply : Reply) → AreSettings s.settings → damage s.rows ≡ None → IsShortEvent e → Better s.rows (state_after s e reply).rows
-after_better s (event.Ask x m words) (Done a) hold h short =
-    outcome_better (at_moment s m) (decision (at_moment s m) x words) h (decision_sound (at_moment s m) x words hold h short)
-after_better s (event.Ask x m words) (Refused r) hold h short =
-    outcome_better (at_moment s m) (decision (at_moment s m) x words) h (decision_sound (at_moment s m) x words hold h short)
-after_better s (event.Ask x m words) (Lost loss) hold h short = (h, same_counters s.rows.next)
+after_better s e reply hold h short =
+    after_any (λ t. Better s.rows t.rows) s e reply (step_better s e hold h short) (h, same_counters s.rows.next)
 
 outcome_in_force : (s : State) (r : Result (Decision Answer) Refusal) → ((d : Decision Answer) → r ≡ Ok d → KeepsPolicy s d) → IsInForce s.rows s.policy
     → IsInForce (outcome s r).state.rows (outcome s r).state.policy
@@ -61,10 +115,14 @@ pub outcome_settings : (s : State) (r : Result (Decision Answer) Refusal) → (o
 outcome_settings s (Err e) = refl
 outcome_settings s (Ok d) = refl
 
+step_settings : (s : State) (e : Event) → (step s e).state.settings ≡ s.settings
+step_settings s (event.Ask x m words) = outcome_settings (at_moment s m) (decision (at_moment s m) x words)
+step_settings s (event.Attach mk node handle seq m words) = (poll_keeps s (event.Attach mk node handle seq m words) tt).settings
+step_settings s (event.Drain mk handle m) = (poll_keeps s (event.Drain mk handle m) tt).settings
+step_settings s (event.Detach mk handle m) = (poll_keeps s (event.Detach mk handle m) tt).settings
+
 pub after_settings : (s : State) (e : Event) (reply : Reply) → (state_after s e reply).settings ≡ s.settings
-after_settings s (event.Ask x m words) (Done a) = outcome_settings (at_moment s m) (decision (at_moment s m) x words)
-after_settings s (event.Ask x m words) (Refused r) = outcome_settings (at_moment s m) (decision (at_moment s m) x words)
-after_settings s (event.Ask x m words) (Lost loss) = refl
+after_settings s e reply = after_any (λ t. t.settings ≡ s.settings) s e reply (step_settings s e) refl
 
 pub legal_better : (s : State) (count : ℕ) (es : List Entry) → AreSettings s.settings → damage s.rows ≡ None → Legal s count es → Better s.rows (replay s es).rows
 legal_better s count [] hold h legal = (h, same_counters s.rows.next)
@@ -80,14 +138,25 @@ legal_sound s count es hold h legal = sound_of (replay s es).rows (legal_better 
 pub legal_rises : (s : State) (count : ℕ) (es : List Entry) → AreSettings s.settings → AreSound s.rows → Legal s count es → IsNoLess s.rows.next (replay s es).rows.next
 legal_rises s count es hold h legal = (legal_better s count es hold (no_damage s.rows h) legal).1
 
+kept_in_force : (s t : State) → KeepsTables s t → IsInForce s.rows s.policy → IsInForce t.rows t.policy
+kept_in_force s t keeps held = keeps.policy ∙ held ∙ ap (λ (r : Rows). policy_in r) (sym keeps.rows)
+
+step_in_force : (s : State) (e : Event) → AreSettings s.settings → damage s.rows ≡ None → IsShortEvent e → IsInForce s.rows s.policy
+    → IsInForce (step s e).state.rows (step s e).state.policy
+step_in_force s (event.Ask x m words) hold h short held =
+    outcome_in_force (at_moment s m) (decision (at_moment s m) x words) (λ d is. decision_in_force (at_moment s m) x words d hold h short is) held
+step_in_force s (event.Attach mk node handle seq m words) hold h short held =
+    let e = event.Attach mk node handle seq m words in kept_in_force s (step s e).state (poll_keeps s e tt) held
+step_in_force s (event.Drain mk handle m) hold h short held =
+    let e = event.Drain mk handle m in kept_in_force s (step s e).state (poll_keeps s e tt) held
+step_in_force s (event.Detach mk handle m) hold h short held =
+    let e = event.Detach mk handle m in kept_in_force s (step s e).state (poll_keeps s e tt) held
+
 -- the policy in force stays that of the tables
 pub after_in_force : (s : State) (e : Event) (reply : Reply) → AreSettings s.settings → damage s.rows ≡ None → IsShortEvent e → IsInForce s.rows s.policy
     → IsInForce (state_after s e reply).rows (state_after s e reply).policy
-after_in_force s (event.Ask x m words) (Done a) hold h short held =
-    outcome_in_force (at_moment s m) (decision (at_moment s m) x words) (λ d is. decision_in_force (at_moment s m) x words d hold h short is) held
-after_in_force s (event.Ask x m words) (Refused r) hold h short held =
-    outcome_in_force (at_moment s m) (decision (at_moment s m) x words) (λ d is. decision_in_force (at_moment s m) x words d hold h short is) held
-after_in_force s (event.Ask x m words) (Lost loss) hold h short held = held
+after_in_force s e reply hold h short held =
+    after_any (λ t. IsInForce t.rows t.policy) s e reply (step_in_force s e hold h short held) held
 
 pub legal_in_force : (s : State) (count : ℕ) (es : List Entry) → AreSettings s.settings → damage s.rows ≡ None → IsInForce s.rows s.policy → Legal s count es
     → IsInForce (replay s es).rows (replay s es).policy

@@ -15,6 +15,8 @@ use Rattle.desk_state.specs.State.{State, at_moment}
 use Rattle.desk_state.specs.declared.decision.Decision.{Decision}
 use Rattle.desk_state.specs.declared.presence.MachinePresence.{MachinePresence}
 use Rattle.desk_state.specs.declared.refusal.Refusal.{Refusal}
+use Rattle.desk_state.specs.declared.session.Attachment.{Attachment}
+use Rattle.desk_state.specs.declared.session.Session.{Session}
 use Rattle.tailnet_desk.specs.Asks.{IsShort}
 use Rattle.tailnet_desk.specs.Carried.{Carried, Committed, Failed, Perhaps}
 use Rattle.tailnet_desk.specs.Seated.{Keeping, Point, Seated, keeping_of, point_of}
@@ -25,7 +27,7 @@ use Rattle.tailnet_desk.specs.declared.entry.Event.TheVariants as event
 use Rattle.tailnet_desk.specs.declared.reply.Answer.{Answer}
 use Rattle.tailnet_desk.specs.declared.reply.Loss.TheVariants.{NoMemory, KeeperFault}
 use Rattle.tailnet_desk.specs.declared.reply.Reply.{Reply}
-use Rattle.tailnet_desk.specs.declared.reply.Reply.TheVariants.{Done, Refused, Lost}
+use Rattle.tailnet_desk.specs.declared.reply.Reply.TheVariants.{Done, Attached, Frames, Ended, Detached, Refused, Lost}
 
 -- each change that is decided is a sound one
 abbrev pub EachSound : Rows → Option Change → Type 0
@@ -60,13 +62,13 @@ each_holds rows None each = tt
 each_holds rows (Some c) each = (each c refl).sound
 
 -- a state in its parts
-abbrev pub state_with : SettingsFields → Rows → Option Policy → List MachinePresence → ℤ → State
-state_with f t policy p n = record { settings = f; rows = t; policy = policy; presence = p; now = n }
+abbrev pub state_with : SettingsFields → Rows → Option Policy → List MachinePresence → List Session → List Attachment → ℕ → ℤ → State
+state_with f t policy p x a k n = record { settings = f; rows = t; policy = policy; presence = p; sessions = x; attached = a; next_session = k; now = n }
 
 -- its time is brought forward
-pub at_later : (f : SettingsFields) (t : Rows) (policy : Option Policy) (p : List MachinePresence) (was now m : ℤ) (s : State)
-    → now ≡ later_of was m → state_with f t policy p was ≡ s → state_with f t policy p now ≡ at_moment s m
-at_later f t policy p was now m s later same = ap (λ n. state_with f t policy p n) later ∙ ap (λ (u : State). at_moment u m) same
+pub at_later : (f : SettingsFields) (t : Rows) (policy : Option Policy) (p : List MachinePresence) (x : List Session) (a : List Attachment) (k : ℕ) (was now m : ℤ) (s : State)
+    → now ≡ later_of was m → state_with f t policy p x a k was ≡ s → state_with f t policy p x a k now ≡ at_moment s m
+at_later f t policy p x a k was now m s later same = ap (λ n. state_with f t policy p x a k n) later ∙ ap (λ (u : State). at_moment u m) same
 
 pub carried_turn : (p q : Point) (x : Ask) (m : ℤ) (words : Option (List ℕ)) (d : Decision Answer) (reply : Reply)
     → IsShort x → decision (at_moment p.state m) x words ≡ Ok d → EachSound p.state.rows d.change
@@ -83,6 +85,10 @@ carried_turn p q x m words d (Done a) short is sound c later kept =
       calls = λ changes. committed_calls d.change p.state.rows p.keeping q.keeping c.2 (λ same. changes (rows_are ∙ same));
       idle = λ same. committed_idle d.change p.state.rows p.keeping q.keeping sound c.2 (sym rows_are ∙ same);
     }
+carried_turn p q x m words d (Attached handle seq resumed may_wait) short is sound c later kept = absurd c
+carried_turn p q x m words d (Frames responses) short is sound c later kept = absurd c
+carried_turn p q x m words d Ended short is sound c later kept = absurd c
+carried_turn p q x m words d Detached short is sound c later kept = absurd c
 carried_turn p q x m words d (Refused r) short is sound c later kept = absurd c
 carried_turn p q x m words d (Lost NoMemory) short is sound c later kept =
     let state_is : (step p.state (event.Ask x m words)).state ≡ settled (at_moment p.state m) d.change d.policy d.ended d.offline =

@@ -1,4 +1,4 @@
--- A decision is carried out, or not.
+-- A decision is carried out, or not, and so is an attach.
 use Rattle.std.specs.Prelude.{◌≡◌, ◌⊎◌, ℕ, List, None, Some, Option, Result, Ok, Err}
 use Rattle.io_edge.specs.Edge.{Rose}
 use Rattle.io_edge.specs.declared.faults.EdgeFault.{EdgeFault}
@@ -9,11 +9,13 @@ use Rattle.row_keeper.specs.Calls.{one_more}
 use Rattle.desk_state.specs.State.{State}
 use Rattle.desk_state.specs.declared.decision.Decision.{Decision}
 use Rattle.tailnet_desk.specs.Seated.{Keeping}
-use Rattle.tailnet_desk.specs.Step.{settled}
+use Rattle.map_asks.specs.Attach.{attached_state}
+use Rattle.map_asks.specs.declared.attaching.AttachDecision.{AttachDecision}
+use Rattle.tailnet_desk.specs.Step.{attached_reply, settled}
 use Rattle.tailnet_desk.specs.declared.reply.Answer.{Answer}
 use Rattle.tailnet_desk.specs.declared.reply.Loss.TheVariants.{NoMemory, KeeperFault}
 use Rattle.tailnet_desk.specs.declared.reply.Reply.{Reply}
-use Rattle.tailnet_desk.specs.declared.reply.Reply.TheVariants.{Done, Refused, Lost}
+use Rattle.tailnet_desk.specs.declared.reply.Reply.TheVariants.{Done, Attached, Frames, Ended, Detached, Refused, Lost}
 
 -- a change is committed once, and without one the keeper stays as it was
 abbrev pub Committed : Option Change → Keeping → Keeping → Type 0
@@ -45,6 +47,21 @@ reply_of (Err edge.Failed) answer = Lost KeeperFault
 -- the same by what is replied
 abbrev pub Carried : State → Decision Answer → Reply → State → Keeping → Keeping → Type 0
 Carried s d (Done answer) t k l = (answer ≡ d.answer) × (t ≡ settled s d.change d.policy d.ended d.offline) × Committed d.change k l
+Carried s d (Attached handle seq resumed may_wait) t k l = ⊥
+Carried s d (Frames responses) t k l = ⊥
+Carried s d Ended t k l = ⊥
+Carried s d Detached t k l = ⊥
 Carried s d (Refused refusal) t k l = ⊥
 Carried s d (Lost NoMemory) t k l = (t ≡ s) × Perhaps d.change k l
 Carried s d (Lost KeeperFault) t k l = (t ≡ s) × Failed d.change k l
+
+-- an attach is carried out, or memory runs out, by what is replied
+abbrev pub AttachCarried : State → AttachDecision → Reply → State → Type 0
+AttachCarried s d (Done answer) t = ⊥
+AttachCarried s d (Attached handle seq resumed may_wait) t = (Attached handle seq resumed may_wait ≡ attached_reply d) × (t ≡ attached_state s d)
+AttachCarried s d (Frames responses) t = ⊥
+AttachCarried s d Ended t = ⊥
+AttachCarried s d Detached t = ⊥
+AttachCarried s d (Refused refusal) t = ⊥
+AttachCarried s d (Lost NoMemory) t = t ≡ s
+AttachCarried s d (Lost KeeperFault) t = ⊥

@@ -8,7 +8,7 @@ use Rattle.tailnet_desk.specs.declared.entry.Event.{Event}
 use Rattle.tailnet_desk.specs.declared.entry.Entry.{Entry}
 use Rattle.tailnet_desk.specs.declared.reply.Loss.TheVariants.{NoMemory, KeeperFault}
 use Rattle.tailnet_desk.specs.declared.reply.Reply.{Reply}
-use Rattle.tailnet_desk.specs.declared.reply.Reply.TheVariants.{Done, Refused, Lost}
+use Rattle.tailnet_desk.specs.declared.reply.Reply.TheVariants.{Done, Attached, Frames, Ended, Detached, Refused, Lost}
 
 -- the step of an event changes rows
 abbrev pub ChangesRows : State → Event → Type 0
@@ -17,12 +17,20 @@ ChangesRows s e = (step s e).state.rows ≢ s.rows
 -- The state after a reply: what was not carried out leaves all but the time.
 abbrev pub state_after : State → Event → Reply → State
 state_after s e (Done answer) = (step s e).state
+state_after s e (Attached handle seq resumed may_wait) = (step s e).state
+state_after s e (Frames responses) = (step s e).state
+state_after s e Ended = (step s e).state
+state_after s e Detached = (step s e).state
 state_after s e (Refused refusal) = (step s e).state
 state_after s e (Lost loss) = at_moment s (moment_of e)
 
 -- The reply is the step's, or out of memory, or a fault of the keeper if rows change and its count rose.
 abbrev pub IsReply : State → Event → ℕ → ℕ → Reply → Type 0
 IsReply s e before after (Done answer) = Done answer ≡ (step s e).reply
+IsReply s e before after (Attached handle seq resumed may_wait) = Attached handle seq resumed may_wait ≡ (step s e).reply
+IsReply s e before after (Frames responses) = Frames responses ≡ (step s e).reply
+IsReply s e before after Ended = Ended ≡ (step s e).reply
+IsReply s e before after Detached = Detached ≡ (step s e).reply
 IsReply s e before after (Refused refusal) = Refused refusal ≡ (step s e).reply
 IsReply s e before after (Lost NoMemory) = Unit {0}
 IsReply s e before after (Lost KeeperFault) = ChangesRows s e × Rose before after

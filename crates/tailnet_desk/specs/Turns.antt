@@ -9,11 +9,15 @@ use Rattle.tailnet_desk.specs.Step.{step}
 use Rattle.tailnet_desk.specs.declared.entry.Event.{Event}
 use Rattle.tailnet_desk.specs.declared.reply.Loss.TheVariants.{NoMemory, KeeperFault}
 use Rattle.tailnet_desk.specs.declared.reply.Reply.{Reply}
-use Rattle.tailnet_desk.specs.declared.reply.Reply.TheVariants.{Done, Refused, Lost}
+use Rattle.tailnet_desk.specs.declared.reply.Reply.TheVariants.{Done, Attached, Frames, Ended, Detached, Refused, Lost}
 
 -- how often the keeper was called: once where rows change, at most once where memory ran out, else not at all
 abbrev pub AreCalls : State → Event → Reply → ℕ → ℕ → Type 0
 AreCalls s e (Done answer) before after = ChangesRows s e → after ≡ one_more before
+AreCalls s e (Attached handle seq resumed may_wait) before after = after ≡ before
+AreCalls s e (Frames responses) before after = after ≡ before
+AreCalls s e Ended before after = after ≡ before
+AreCalls s e Detached before after = after ≡ before
 AreCalls s e (Refused refusal) before after = after ≡ before
 AreCalls s e (Lost NoMemory) before after = (after ≡ before) ⊎ (after ≡ one_more before)
 AreCalls s e (Lost KeeperFault) before after = after ≡ one_more before
@@ -25,3 +29,24 @@ pub record IsTurn (p : Point) (e : Event) (reply : Reply) (q : Point) : Type 0 w
   pub kept : IsWhereTold q.state.rows q.keeping.told
   pub calls : AreCalls p.state e reply p.keeping.calls q.keeping.calls
   pub idle : (step p.state e).state.rows ≡ p.state.rows → q.keeping ≡ p.keeping
+
+-- what an attach is replied
+abbrev pub IsAttachReply : Reply → Type 0
+IsAttachReply (Done answer) = ⊥
+IsAttachReply (Attached handle seq resumed may_wait) = Unit {0}
+IsAttachReply (Frames responses) = ⊥
+IsAttachReply Ended = ⊥
+IsAttachReply Detached = ⊥
+IsAttachReply (Refused refusal) = Unit {0}
+IsAttachReply (Lost loss) = Unit {0}
+
+-- what a drain is replied
+abbrev pub IsDrainReply : Reply → Type 0
+IsDrainReply (Done answer) = ⊥
+IsDrainReply (Attached handle seq resumed may_wait) = ⊥
+IsDrainReply (Frames responses) = Unit {0}
+IsDrainReply Ended = Unit {0}
+IsDrainReply Detached = ⊥
+IsDrainReply (Refused refusal) = ⊥
+IsDrainReply (Lost NoMemory) = Unit {0}
+IsDrainReply (Lost KeeperFault) = ⊥

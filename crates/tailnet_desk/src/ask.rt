@@ -1,6 +1,6 @@
 //! What the desk is asked, by who asks it.
 ghost use Rattle.std.specs.Prelude.{◌≡◌};
-ghost use Rattle.tailnet_desk.specs.Asks.{draws};
+ghost use Rattle.tailnet_desk.specs.Asks.{ask_draws};
 
 use admin_asks::OperatorAsk;
 use machine_asks::MachineAsk;
@@ -22,7 +22,7 @@ pub enum Ask {
 impl Ask {
     /// Whether fresh random words are drawn for it.
     pub fn draws(&self) -> bool
-        ensures value { result ≡ draws self.now }
+        ensures value { result ≡ ask_draws self.now }
     {
         match self {
             Ask::Seed { .. } | Ask::Policy(_) => false,

@@ -8,39 +8,41 @@ ghost use Rattle.std.specs.Option.{option_or};
 ghost use Rattle.desk_state.specs.Decisions.{rows_after};
 ghost use Rattle.tailnet_desk.specs.Asks.{IsShort};
 ghost use Rattle.tailnet_desk.specs.Carried.{Carried, Kept, reply_of};
-ghost use Rattle.tailnet_desk.specs.Opening.{opening, unserved};
+ghost use Rattle.tailnet_desk.specs.Opening.{opening, unread_policy};
 ghost use Rattle.tailnet_desk.specs.Seated.{IsInForce, keeping_of, point_of};
 ghost use Rattle.tailnet_desk.specs.Turns.{IsTurn};
 ghost use Rattle.tailnet_desk.specs.declared.entry.Event.TheVariants as event;
 
 use crate::ask::Ask;
 use crate::deciding::decide;
-use crate::opening::{Beginning, beginning_of};
+use crate::kept::{apply_change, let_rest};
+use crate::opening::{Beginning, load_beginning};
 use crate::reply::{Answer, Loss, Reply};
-use crate::settling::{end_presence, forget, go_offline, put_in_force};
-use desk_state::{Decision, MachinePresence, Snapshot, keep_rules, live_ids};
+use crate::settling::put_in_force;
+use desk_state::{Decision, MachinePresence, Sessions, Snapshot, keep_rules, live_ids};
 use io_edge::EdgeFault;
 use machine_asks::MachineAsk;
 use moments::Moment;
 use net_rows::{Change, Kind, Shelf, Tables};
 use policy_eval::InForce;
 use policy_rows::Policy;
-use row_keeper::{Keeper, LoadFault};
+use row_keeper::Keeper;
 use settings::Settings;
 use std::alloc::Global;
 use std::marker::Model;
-use tail_base::{Failure, Items, NoMemory};
+use tail_base::{Failure, NoMemory};
 
 /// The Tailnet machine over a keeper. Contracts see it as its state and its keeper, which has the
 /// state's rows, where it tells them. The policy in force is that of the rows.
 #[derive(Drop)]
 pub struct Desk<K: Keeper> {
-    settings: Settings,
-    tables: Tables,
-    policy: InForce,
-    presence: Shelf<MachinePresence>,
-    time: Moment,
-    keeper: K,
+    pub(crate) settings: Settings,
+    pub(crate) tables: Tables,
+    pub(crate) policy: InForce,
+    pub(crate) presence: Shelf<MachinePresence>,
+    pub(crate) sessions: Sessions,
+    pub(crate) time: Moment,
+    pub(crate) keeper: K,
 }
 
 impl<K: Keeper> Model for Desk<K> {
@@ -49,7 +51,19 @@ impl<K: Keeper> Model for Desk<K> {
 
     ghost Value = { Seated K };
 
-    ghost view = { λ d. record { state = record { settings = d.settings; rows = d.tables.rows; policy = d.policy; presence = d.presence.0; now = d.time }; keeper = d.keeper } };
+    ghost view = { λ d. record {
+      state = record {
+        settings = d.settings;
+        rows = d.tables.rows;
+        policy = d.policy;
+        presence = d.presence.0;
+        sessions = d.sessions.rows.0;
+        attached = d.sessions.attached.0;
+        next_session = d.sessions.next;
+        now = d.time;
+      };
+      keeper = d.keeper;
+    } };
 
     ghost invariant = { λ d. IsHeld d.tables.rows d.policy (K.told d.keeper) };
 }
@@ -59,8 +73,7 @@ impl<K: Keeper> Model for Desk<K> {
 pub enum OpenFault {
     /// The keeper failed.
     KeeperFault,
-    /// The tables break a rule, have a form that isn't served yet, which are extra records, or keep a
-    /// policy whose text has a fault.
+    /// The tables break a rule, or keep a policy whose text has a fault.
     Damaged { kind: Kind, id: u32 },
     /// Memory was refused.
     NoMemory,
@@ -128,7 +141,7 @@ impl<K: Keeper> Desk<K> {
     ) -> Result<Desk<K>, (OpenFault, K)>
         ensures state { IfOk result (λ d. d.state ≡ opening settings d.state.rows moment) }
         ensures rows { IfOk result (λ d. IsWhereTold d.state.rows (K.told keeper)) }
-        ensures served { IfOk result (λ d. unserved d.state.rows ≡ None) }
+        ensures read { IfOk result (λ d. unread_policy d.state.rows ≡ None) }
         ensures still { IfOk result (λ d. StillTells (K.told keeper) (K.told d.keeper)) }
         ensures later { IfOk result (λ d. K.faults keeper ≤ K.faults d.keeper) }
         ensures kept { IfErr result (λ e. StillTells (K.told keeper) (K.told e.1)) }
@@ -137,22 +150,15 @@ impl<K: Keeper> Desk<K> {
             → Rose (K.faults keeper) (K.faults e.1)) }
         ensures damaged { IfErr result (λ e. (kind : _) (id : ℕ) → e.0 ≡ OpenFault.Damaged kind id
             → IfSome (K.told keeper)
-            (λ rows. unserved rows ≡ Some (record { kind = kind; id = id }))) }
+            (λ rows. unread_policy rows ≡ Some (record { kind = kind; id = id }))) }
     {
-        let tables = match keeper.load(alloc) {
-            Ok(tables) => tables,
-            Err(LoadFault::Failed) => return Err((OpenFault::KeeperFault, keeper)),
-            Err(LoadFault::Damaged { kind, id }) => {
-                return Err((OpenFault::Damaged { kind, id }, keeper));
-            }
-            Err(LoadFault::NoMemory) => return Err((OpenFault::NoMemory, keeper)),
-        };
-        match beginning_of(alloc, &tables, moment) {
-            Ok(Beginning { policy, presence }) => Ok(Desk {
+        match load_beginning(alloc, &mut keeper, moment) {
+            Ok((tables, Beginning { policy, presence })) => Ok(Desk {
                 settings,
                 tables,
                 policy: InForce::new(policy),
                 presence,
+                sessions: Sessions::new(alloc),
                 time: moment,
                 keeper,
             }),
@@ -187,14 +193,32 @@ impl<K: Keeper> Desk<K> {
         if room.is_err() {
             return Err(EdgeFault::NoMemory);
         }
-        if let Some(change) = change {
-            self.keeper.commit(alloc, &change)?;
-            forget(&mut self.presence, change.gone.as_slice());
-            self.tables.apply(change);
-        }
+        let Some(change) = change else {
+            put_in_force(&mut self.policy, policy);
+            let_rest(
+                &mut self.presence,
+                &mut self.sessions,
+                ended,
+                offline,
+                self.time,
+            );
+            return Ok(());
+        };
+        self.keeper.commit(alloc, &change)?;
+        apply_change(
+            &mut self.tables,
+            &mut self.presence,
+            &mut self.sessions,
+            change,
+        );
         put_in_force(&mut self.policy, policy);
-        end_presence(&mut self.presence, ended, self.time);
-        go_offline(&mut self.presence, offline, self.time);
+        let_rest(
+            &mut self.presence,
+            &mut self.sessions,
+            ended,
+            offline,
+            self.time,
+        );
         Ok(())
     }
 
@@ -220,9 +244,23 @@ impl<K: Keeper> Desk<K> {
         reply_of(kept, answer)
     }
 
+    /// What decisions look at.
+    pub(crate) fn snapshot(&self) -> Snapshot<'_>
+        ensures value { result ≡ self.now.state }
+    {
+        Snapshot {
+            settings: &self.settings,
+            tables: &self.tables,
+            policy: &self.policy,
+            presence: &self.presence,
+            sessions: &self.sessions,
+            time: self.time,
+        }
+    }
+
     /// Expands the policy over the machines that are live at the moment, unless it is so already.
     /// Contracts see no change. Out of memory is told by what needs it.
-    fn expand(&mut self, alloc: Global, moment: Moment)
+    pub(crate) fn expand(&mut self, alloc: Global, moment: Moment)
         ensures same { self.new ≡ self.old }
     {
         let at = Snapshot {
@@ -230,6 +268,7 @@ impl<K: Keeper> Desk<K> {
             tables: &self.tables,
             policy: &self.policy,
             presence: &self.presence,
+            sessions: &self.sessions,
             time: self.time.or_later(moment),
         };
         if let Ok(live) = live_ids(alloc, &at) {
@@ -252,13 +291,7 @@ impl<K: Keeper> Desk<K> {
             (event.Ask ask.now moment words) result (point_of K.told K.faults K.calls self.new) }
     {
         self.time = self.time.or_later(moment);
-        let at = Snapshot {
-            settings: &self.settings,
-            tables: &self.tables,
-            policy: &self.policy,
-            presence: &self.presence,
-            time: self.time,
-        };
+        let at = self.snapshot();
         keep_rules(&at);
         match decide(alloc, &at, ask, words) {
             Ok(decision) => self.carry(alloc, decision),
@@ -303,6 +336,7 @@ impl<K: Keeper> Desk<K> {
             tables: _,
             policy: _,
             presence: _,
+            sessions: _,
             time: _,
             keeper,
         } = self;

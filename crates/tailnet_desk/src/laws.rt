@@ -7,12 +7,13 @@ ghost use Rattle.settings.specs.Settings.{AreSettings};
 ghost use Rattle.desk_state.specs.Decisions.{IsNoLess, IsSound, rows_after};
 ghost use Rattle.desk_state.specs.State.{State};
 ghost use Rattle.desk_state.specs.declared.decision.Decision.{Decision};
-ghost use Rattle.tailnet_desk.specs.Asks.{IsShort};
+ghost use Rattle.tailnet_desk.specs.Asks.{IsPollEvent, IsShort};
 ghost use Rattle.tailnet_desk.specs.History.{Legal, replay};
 ghost use Rattle.tailnet_desk.specs.Seated.{IsInForce};
-ghost use Rattle.tailnet_desk.specs.Step.{decision};
+ghost use Rattle.tailnet_desk.specs.Step.{decision, step};
 ghost use Rattle.tailnet_desk.specs.declared.ask.Ask.{Ask};
 ghost use Rattle.tailnet_desk.specs.declared.entry.Entry.{Entry};
+ghost use Rattle.tailnet_desk.specs.declared.entry.Event.{Event};
 ghost use Rattle.tailnet_desk.specs.declared.reply.Answer.{Answer};
 
 /// From settings and tables that keep their rules, and an ask that is short, a decided change keeps the
@@ -20,7 +21,8 @@ ghost use Rattle.tailnet_desk.specs.declared.reply.Answer.{Answer};
 /// the text of the policy stays.
 pub fn decisions_are_sound()
     ensures sound { (s : State) (x : Ask) (words : Option (List ℕ))
-        → AreSettings s.settings → damage s.rows ≡ None → IsShort x → IsSound s.rows (decision s x words) }
+        → AreSettings s.settings → damage s.rows ≡ None → IsShort x
+        → IsSound s.rows (decision s x words) }
 {}
 
 /// From such a state, where the policy in force is that of the tables, it is so after the decision, too.
@@ -36,9 +38,11 @@ pub fn decisions_keep_the_policy()
 /// each entry.
 pub fn legal_histories_keep_rules()
     ensures sound { (s : State) (count : ℕ) (es : List Entry)
-        → AreSettings s.settings → AreSound s.rows → Legal s count es → AreSound (replay s es).rows }
+        → AreSettings s.settings → AreSound s.rows → Legal s count es
+        → AreSound (replay s es).rows }
     ensures rises { (s : State) (count : ℕ) (es : List Entry)
-        → AreSettings s.settings → AreSound s.rows → Legal s count es → IsNoLess s.rows.next (replay s es).rows.next }
+        → AreSettings s.settings → AreSound s.rows → Legal s count es
+        → IsNoLess s.rows.next (replay s es).rows.next }
     ensures beginnings { (s : State) (count : ℕ) (es more : List Entry)
         → Legal s count (es ++ more) → Legal s count es }
 {}
@@ -48,4 +52,10 @@ pub fn legal_histories_keep_the_policy()
     ensures policy { (s : State) (count : ℕ) (es : List Entry)
         → AreSettings s.settings → AreSound s.rows → IsInForce s.rows s.policy → Legal s count es
         → IsInForce (replay s es).rows (replay s es).policy }
+{}
+
+/// Polls change neither rows nor the policy in force.
+pub fn polls_leave_tables()
+    ensures rows { (s : State) (e : Event) → IsPollEvent e → (step s e).state.rows ≡ s.rows }
+    ensures policy { (s : State) (e : Event) → IsPollEvent e → (step s e).state.policy ≡ s.policy }
 {}

@@ -5,9 +5,12 @@ mod ask;
 mod deciding;
 mod desk;
 mod entry;
+mod kept;
 mod laws;
 mod opening;
+mod polls;
 mod reply;
+mod sessions;
 mod settling;
 mod turns;
 
@@ -16,7 +19,7 @@ pub use desk::{Desk, OpenFault};
 pub use entry::{Entry, Event};
 pub use laws::{
     decisions_are_sound, decisions_keep_the_policy, legal_histories_keep_rules,
-    legal_histories_keep_the_policy,
+    legal_histories_keep_the_policy, polls_leave_tables,
 };
-pub use reply::{Answer, Loss, Reply};
+pub use reply::{Answer, Drained, Loss, Reply};
 pub use turns::Turns;

@@ -1,15 +1,17 @@
 //! What a desk looks at when it opens.
-ghost use Rattle.std.specs.Prelude.{◌≡◌, IfOk, IfErr, OnOk, map, None};
+ghost use Rattle.std.specs.Prelude.{◌≡◌, ◌≤◌, ℕ, IfOk, IfErr, IfSome, OnOk, map, None, Some};
+ghost use Rattle.io_edge.specs.Edge.{IsWhereTold, Rose, StillTells};
 ghost use Rattle.desk_state.specs.State.{offline_at};
 ghost use Rattle.policy_asks.specs.Kept.{policy_in};
-ghost use Rattle.tailnet_desk.specs.Opening.{IsOpenFault, damage_if, unserved, unserved_extras};
+ghost use Rattle.tailnet_desk.specs.Opening.{IsOpenFault, unread_policy};
 
 use crate::desk::OpenFault;
 use desk_state::{MachinePresence, Presence};
 use moments::Moment;
-use net_rows::{Damage, Kind, Machine, Shelf, Tables};
+use net_rows::{Kind, Machine, Shelf, Tables};
 use policy_asks::policy_in;
 use policy_rows::Policy;
+use row_keeper::{Keeper, LoadFault};
 use std::alloc::Global;
 use tail_base::{Failure, Items, NoMemory};
 
@@ -43,32 +45,12 @@ fn offline_since(
     Ok(Items::from_vec(made))
 }
 
-fn damage_if(broken: bool, damage: Damage) -> Option<Damage>
-    ensures value { result ≡ damage_if broken damage }
-{
-    if broken { Some(damage) } else { None }
-}
-
-/// The form of rows that isn't served yet: extra records.
-fn unserved_extras(tables: &Tables) -> Option<Damage>
-    ensures value { result ≡ unserved_extras tables.now.rows }
-{
-    let extras = Damage {
-        kind: Kind::Extras,
-        id: 0,
-    };
-    damage_if(tables.extras().len() > 0, extras)
-}
-
 /// The policy of tables, or why they aren't opened.
-fn served_policy_in(alloc: Global, tables: &Tables) -> Result<Option<Policy>, OpenFault>
+fn read_policy_in(alloc: Global, tables: &Tables) -> Result<Option<Policy>, OpenFault>
     ensures value { IfOk result (λ policy. policy ≡ policy_in tables.now.rows) }
-    ensures served { OnOk result (unserved tables.now.rows ≡ None) }
+    ensures read { OnOk result (unread_policy tables.now.rows ≡ None) }
     ensures fault { IfErr result (IsOpenFault tables.now.rows) }
 {
-    if let Some(Damage { kind, id }) = unserved_extras(tables) {
-        return Err(OpenFault::Damaged { kind, id });
-    }
     match policy_in(alloc, tables) {
         Ok(policy) => Ok(policy),
         Err(Failure::NoMemory) => Err(OpenFault::NoMemory),
@@ -95,12 +77,54 @@ pub(crate) fn beginning_of(
     ensures policy { IfOk result (λ made. made.policy ≡ policy_in tables.now.rows) }
     ensures presence { IfOk result (λ made. made.presence.0
         ≡ map (λ m. offline_at now m.id) tables.now.rows.machines) }
-    ensures served { OnOk result (unserved tables.now.rows ≡ None) }
+    ensures read { OnOk result (unread_policy tables.now.rows ≡ None) }
     ensures fault { IfErr result (IsOpenFault tables.now.rows) }
 {
-    let policy = served_policy_in(alloc, tables)?;
+    let policy = read_policy_in(alloc, tables)?;
     match all_offline_of(alloc, tables, now) {
         Ok(presence) => Ok(Beginning { policy, presence }),
         Err(NoMemory) => Err(OpenFault::NoMemory),
     }
+}
+
+/// The tables that the keeper has.
+fn load_tables<K: Keeper>(alloc: Global, keeper: &mut K) -> Result<Tables, OpenFault>
+    ensures rows { IfOk result (λ tables. IsWhereTold tables.rows (K.told keeper.old)) }
+    ensures still { StillTells (K.told keeper.old) (K.told keeper.new) }
+    ensures later { K.faults keeper.old ≤ K.faults keeper.new }
+    ensures fault { IfErr result (λ e. e ≡ OpenFault.KeeperFault
+        → Rose (K.faults keeper.old) (K.faults keeper.new)) }
+    ensures damaged { IfErr result (λ e. (kind : _) (id : ℕ) → e ≡ OpenFault.Damaged kind id
+        → K.told keeper.old ≡ None) }
+{
+    match keeper.load(alloc) {
+        Ok(tables) => Ok(tables),
+        Err(LoadFault::Failed) => Err(OpenFault::KeeperFault),
+        Err(LoadFault::Damaged { kind, id }) => Err(OpenFault::Damaged { kind, id }),
+        Err(LoadFault::NoMemory) => Err(OpenFault::NoMemory),
+    }
+}
+
+/// The tables that the keeper has, and what a desk over them holds beside them, or why they aren't opened.
+pub(crate) fn load_beginning<K: Keeper>(
+    alloc: Global,
+    keeper: &mut K,
+    now: Moment,
+) -> Result<(Tables, Beginning), OpenFault>
+    ensures policy { IfOk result (λ made. made.1.policy ≡ policy_in made.0.rows) }
+    ensures presence { IfOk result (λ made. made.1.presence.0
+        ≡ map (λ m. offline_at now m.id) made.0.rows.machines) }
+    ensures rows { IfOk result (λ made. IsWhereTold made.0.rows (K.told keeper.old)) }
+    ensures read { IfOk result (λ made. unread_policy made.0.rows ≡ None) }
+    ensures still { StillTells (K.told keeper.old) (K.told keeper.new) }
+    ensures later { K.faults keeper.old ≤ K.faults keeper.new }
+    ensures fault { IfErr result (λ e. e ≡ OpenFault.KeeperFault
+        → Rose (K.faults keeper.old) (K.faults keeper.new)) }
+    ensures damaged { IfErr result (λ e. (kind : _) (id : ℕ) → e ≡ OpenFault.Damaged kind id
+        → IfSome (K.told keeper.old)
+        (λ rows. unread_policy rows ≡ Some (record { kind = kind; id = id }))) }
+{
+    let tables = load_tables(alloc, keeper)?;
+    let beginning = beginning_of(alloc, &tables, now)?;
+    Ok((tables, beginning))
 }

@@ -5,7 +5,7 @@ ghost use Rattle.desk_state.specs.State.{all_ended, all_offline, forgotten, offl
 
 use desk_state::{MachinePresence, Presence, is_online, presence_of};
 use moments::Moment;
-use net_rows::{RowKey, Shelf};
+use net_rows::{HasId, RowKey, Shelf};
 use policy_eval::InForce;
 use policy_rows::Policy;
 
@@ -27,14 +27,14 @@ pub(crate) fn put_in_force(held: &mut InForce, policy: Option<Policy>)
     }
 }
 
-/// The machines whose rows go have no presence any more. It takes no memory.
-pub(crate) fn forget(presence: &mut Shelf<MachinePresence>, gone: &[RowKey])
-    ensures presence { presence.new.0 ≡ forgotten presence.old.0 gone.now }
-    ensures spare { presence.old.1 ≤ presence.new.1 }
+/// What is kept of the machines whose rows go isn't any more. It takes no memory.
+pub(crate) fn forget<T: HasId>(rows: &mut Shelf<T>, gone: &[RowKey])
+    ensures rows { rows.new.0 ≡ forgotten T.id rows.old.0 gone.now }
+    ensures spare { rows.old.1 ≤ rows.new.1 }
 {
     for key in gone {
         match key {
-            RowKey::Machine(id) => presence.remove(*id),
+            RowKey::Machine(id) => rows.remove(*id),
             RowKey::User(_) | RowKey::Key(_) | RowKey::Pending(_) => {}
         }
     }

@@ -8,18 +8,20 @@ use Rattle.net_rows.specs.declared.key.AuthKey.{AuthKey}
 use Rattle.net_rows.specs.declared.machine.Machine.{Machine}
 use Rattle.net_rows.specs.declared.rows.Rows.{Rows}
 use Rattle.net_rows.proofs.Members.{find_none}
-use Rattle.desk_state.specs.State.{State}
+use Rattle.desk_state.specs.State.{State, at_moment}
 use Rattle.desk_state.specs.declared.decision.Decision.{Decision}
 use Rattle.desk_state.specs.declared.refusal.Refusal.{Refusal}
 use Rattle.machine_rows.proofs.RowLemmas.{machine_found}
 use Rattle.tailnet_desk.specs.History.{IsReply, Legal, replay, state_after}
-use Rattle.tailnet_desk.specs.Step.{decided, outcome, step}
+use Rattle.tailnet_desk.specs.Asks.{IsPollEvent}
+use Rattle.tailnet_desk.specs.Step.{decision, outcome, step}
 use Rattle.tailnet_desk.specs.declared.entry.Entry.{Entry}
 use Rattle.tailnet_desk.specs.declared.entry.Event.{Event}
 use Rattle.tailnet_desk.specs.declared.entry.Event.TheVariants as event
 use Rattle.tailnet_desk.specs.declared.reply.Answer.{Answer}
 use Rattle.tailnet_desk.specs.declared.reply.Reply.{Reply}
-use Rattle.tailnet_desk.specs.declared.reply.Reply.TheVariants.{Done, Lost, Refused}
+use Rattle.tailnet_desk.specs.declared.reply.Reply.TheVariants.{Attached, Detached, Done, Ended, Frames, Lost, Refused}
+use Rattle.tailnet_desk.proofs.SoundHistories.{poll_keeps}
 use Rattle.tailnet_laws.specs.Entrances.{HasMachine, IsDone, IsEntered, IsEntrance}
 use Rattle.tailnet_laws.proofs.Growth.{Grown}
 use Rattle.tailnet_laws.proofs.Puts.{IsKeyPut, one_key}
@@ -44,12 +46,26 @@ refused_rows : (s : State) (r : Result (Decision Answer) Refusal) (refusal : Ref
 refused_rows s (Err e) refusal is = refl
 refused_rows s (Ok d) refusal is = absurd (cc)
 
+-- a poll lets nobody in
+poll_enters : (s : State) (e : Event) (mk : MachineKey) → IsPollEvent e → (HasMachine s.rows mk → ⊥) → HasMachine (step s e).state.rows mk → ⊥
+poll_enters s e mk poll none row = none (subst (λ (t : Rows). HasMachine t mk) (poll_keeps s e poll).rows row)
+
 reply_enters : (s : State) (e : Event) (before after : ℕ) (reply : Reply) (mk : MachineKey) → IsReply s e before after reply
     → (HasMachine s.rows mk → ⊥) → HasMachine (state_after s e reply).rows mk → IsEntrance s e mk × IsDone reply
 reply_enters s e before after (Done a) mk is none row = (step_enters s e mk none row, tt)
+reply_enters s e before after (Attached handle seq resumed may_wait) mk is none row = (step_enters s e mk none row, tt)
+reply_enters s e before after (Frames responses) mk is none row = (step_enters s e mk none row, tt)
+reply_enters s e before after Ended mk is none row = (step_enters s e mk none row, tt)
+reply_enters s e before after Detached mk is none row = (step_enters s e mk none row, tt)
 reply_enters s (event.Ask x moment words) before after (Refused r) mk is none row =
-    let same = refused_rows _ (decided s (event.Ask x moment words)) r is in
+    let same = refused_rows (at_moment s moment) (decision (at_moment s moment) x words) r is in
     absurd (none (subst (λ (t : Rows). HasMachine t mk) same row))
+reply_enters s (event.Attach key node handle seq moment words) before after (Refused r) mk is none row =
+    absurd (poll_enters s (event.Attach key node handle seq moment words) mk tt none row)
+reply_enters s (event.Drain key handle moment) before after (Refused r) mk is none row =
+    absurd (poll_enters s (event.Drain key handle moment) mk tt none row)
+reply_enters s (event.Detach key handle moment) before after (Refused r) mk is none row =
+    absurd (poll_enters s (event.Detach key handle moment) mk tt none row)
 reply_enters s e before after (Lost loss) mk is none row = absurd (none row)
 
 -- a search by the key tells whether there is a row

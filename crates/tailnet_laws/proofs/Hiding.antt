@@ -23,6 +23,9 @@ use Rattle.machine_rows.specs.Rows.{is_taken, machine_row, place_for, row_replac
 use Rattle.machine_rows.specs.declared.place.Place.{Place}
 use Rattle.machine_rows.specs.Same.{same_told}
 use Rattle.map_asks.specs.Asking.{asking}
+use Rattle.map_asks.specs.Drain.{drain}
+use Rattle.map_asks.specs.declared.draining.DrainDecision.{DrainDecision}
+use Rattle.map_asks.proofs.Drains.{sent_fresh}
 use Rattle.machine_asks.specs.Decision.{decision}
 use Rattle.machine_asks.specs.ByKey.{admitted_by_key, by_key, entrant_of_key, usable_key}
 use Rattle.machine_asks.specs.Logout.{is_logout, logout, logout_again, logout_now, machine_removed, node_key_replaced, rotates}
@@ -142,3 +145,13 @@ answers_hide s m (ask.OneMap mk node told) words sound h = map_answer_hides s m 
 pub expired_hidden : (s : State) (m : Machine) (x : MachineAsk) (words : Option (List ℕ)) (d : Decision MachineAnswer) (map : View)
     → AreSound s.rows → IsExpired s m → decision s x words ≡ Ok d → d.answer ≡ Map map → Hides map m.id
 expired_hidden s m x words d map sound h is answer = answers_hide s m x words sound h d is map answer
+
+-- what a drain sends shows no such machine either
+pub drained_hidden : (s : State) (m : Machine) (mk : MachineKey) (handle : List ℕ) (d : DrainDecision) (map : View)
+    → AreSound s.rows → IsExpired s m → drain s mk handle ≡ Some d → d.session.sent ≡ Some map → Hides map m.id
+drained_hidden s m mk handle d map sound h is sent =
+    let from = sent_fresh s mk handle d is in
+    let both : Some (fresh_for s from.0) ≡ Some map = sym from.2 ∙ sent in
+    let same : fresh_for s from.0 ≡ map = cc in
+    let none = none_live s m sound h in
+    subst (λ (r : View). Hides r m.id) same (map_hides s from.0 m.id none (none from.0 from.1.inside from.1.live))

@@ -1,14 +1,20 @@
+mod Attaches
 mod Entered
 mod Every
+pub mod Following
 mod GoneIds
 mod Growth
+mod Handles
 mod Hiding
 mod LiveMachines
 mod MachinePuts
+mod Online
 mod OperatorPuts
 mod PolicyPuts
 mod Puts
 mod Replied
+pub mod SessionRules
+mod SoundRules
 mod SpentKeys
 mod Steps
 mod Taken

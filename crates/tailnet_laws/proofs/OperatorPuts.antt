@@ -8,6 +8,7 @@ use Rattle.tail_base.specs.Labels.{label_of}
 use Rattle.tail_base.specs.Logins.{login_of}
 use Rattle.tail_base.specs.Sorted.{sorted_once}
 use Rattle.net_addr.specs.Bits.{Block}
+use Rattle.tailcfg.specs.declared.dns.DnsExtra.{DnsExtra}
 use Rattle.net_rows.specs.Room.{has_room}
 use Rattle.net_rows.specs.Rows.{key_with, machine_of, machine_with, pending_with}
 use Rattle.net_rows.specs.declared.change.Kind.TheVariants as kind
@@ -17,6 +18,7 @@ use Rattle.net_rows.specs.declared.machine.Machine.{Machine}
 use Rattle.net_rows.specs.declared.pending.Pending.{Pending}
 use Rattle.net_rows.specs.declared.user.User.{User}
 use Rattle.net_rows.proofs.Members.{find_member}
+use Rattle.same_maps.specs.Dns.{same_extras}
 use Rattle.desk_state.specs.Changes.{machine_gone}
 use Rattle.desk_state.specs.Decisions.{changing, only}
 use Rattle.desk_state.specs.Lines.{node_line}
@@ -32,6 +34,7 @@ use Rattle.machine_rows.specs.Same.{prefix_eq}
 use Rattle.machine_rows.specs.declared.place.Place.{Place}
 use Rattle.admin_asks.specs.Admit.{admission, admit, entrant_of_entry, timely_entry}
 use Rattle.admin_asks.specs.Decision.{decision}
+use Rattle.admin_asks.specs.Extras.{extras_change, extras_set, set_extras}
 use Rattle.admin_asks.specs.Keys.{add_key, added_key, expire_key, expired_key, expiry_change, key_change, key_lines, new_key}
 use Rattle.admin_asks.specs.Nodes.{changed_node, drop_node, ends_at, expire_node, expired_node, is_name_taken, node_lines, rename, renamed_node, same_node, set_tags, tagged_node}
 use Rattle.admin_asks.specs.Routes.{kept_routes, routed_node, routes_approvable, set_routes}
@@ -134,6 +137,14 @@ module _ (s : State) (x : OperatorAsk) where
       every_ok Operates (changing (machine_gone s.rows m.id) answer.Gone)
       (puts_some s.rows (IsKeyPut s.rows) (IsAdmission s x) (changing (machine_gone s.rows m.id) answer.Gone) (machine_gone s.rows m.id) refl tt))
 
+  set_extras_puts : (given : List DnsExtra) → Every Operates (set_extras s given)
+  set_extras_puts given =
+      let change = extras_change s.rows given in
+      let kept = answer.Extras given in
+      every_ok Operates (extras_set s.rows given)
+      (either_of Operates (same_extras s.rows.extras given) (only kept) (changing change kept) (λ _. quiet kept)
+      (λ _. puts_some s.rows (IsKeyPut s.rows) (IsAdmission s x) (changing change kept) change refl (tt, tt)))
+
   sweep_puts : (machines pending : List RowKey) → Operates (sweep_decision s.rows machines pending)
   sweep_puts machines pending =
       let change = sweep_change s.rows machines pending in
@@ -178,6 +189,8 @@ operator_puts s (ask.Rename id name) words = rename_puts s (ask.Rename id name) 
 operator_puts s (ask.SetTags id tags) words = set_tags_puts s (ask.SetTags id tags) id tags
 operator_puts s (ask.SetRoutes id routes) words = set_routes_puts s (ask.SetRoutes id routes) id routes
 operator_puts s (ask.DropNode id) words = drop_node_puts s (ask.DropNode id) id
+operator_puts s ask.Extras words = every_ok (Operates s ask.Extras) (only (answer.Extras s.rows.extras)) (quiet s ask.Extras (answer.Extras s.rows.extras))
+operator_puts s (ask.SetExtras given) words = set_extras_puts s (ask.SetExtras given) given
 operator_puts s ask.Sweep words =
     every_ok (Operates s ask.Sweep) (sweep_decision s.rows (lost_machines s s.rows.machines) (overdue_entries s s.rows.pending))
     (sweep_puts s ask.Sweep (lost_machines s s.rows.machines) (overdue_entries s s.rows.pending))

@@ -1,5 +1,5 @@
 -- A map that is replied in a step shows no machine whose node key has expired by then.
-use Rattle.std.proofs.Common.{◌≡◌, Result, Ok, Err, refl}
+use Rattle.std.proofs.Common.{◌≡◌, ℕ, Option, Some, None, Result, Ok, Err, refl}
 use Rattle.tail_base.specs.Steps.{◌>>=◌}
 use Rattle.net_rows.specs.Sound.{AreSound}
 use Rattle.net_rows.specs.declared.machine.Machine.{Machine}
@@ -16,7 +16,12 @@ use Rattle.map_asks.specs.declared.answer.MachineAnswer.{MachineAnswer}
 use Rattle.map_asks.specs.declared.answer.MachineAnswer.TheVariants.{Map}
 use Rattle.policy_asks.specs.Decision.{policy_decision}
 use Rattle.policy_asks.specs.declared.answer.PolicyAnswer.{PolicyAnswer}
-use Rattle.tailnet_desk.specs.Step.{moment_of, outcome, step}
+use Rattle.map_asks.specs.Attach.{attach}
+use Rattle.map_asks.specs.Detach.{detach}
+use Rattle.map_asks.specs.Drain.{drain}
+use Rattle.map_asks.specs.declared.attaching.AttachDecision.{AttachDecision}
+use Rattle.map_asks.specs.declared.draining.DrainDecision.{DrainDecision}
+use Rattle.tailnet_desk.specs.Step.{attach_turn, detach_turn, drain_turn, moment_of, outcome, step}
 use Rattle.tailnet_desk.specs.declared.ask.Ask.TheVariants as ask
 use Rattle.tailnet_desk.specs.declared.entry.Event.{Event}
 use Rattle.tailnet_desk.specs.declared.entry.Event.TheVariants as event
@@ -44,6 +49,18 @@ seed_reply : (s : State) (r : Result (Decision (Unit {0})) Refusal) (map : View)
 seed_reply s (Err e) map is = absurd (cc)
 seed_reply s (Ok d) map is = absurd (cc)
 
+-- polls are answered no map: they are told by frames
+attach_apart : (s : State) (r : Result AttachDecision Refusal) (map : View) → (attach_turn s r).reply ≡ Done (answer.Machine (Map map)) → ⊥
+attach_apart s (Err e) map is = absurd (cc)
+attach_apart s (Ok d) map is = absurd (cc)
+
+drain_apart : (s : State) (o : Option DrainDecision) (map : View) → (drain_turn s o).reply ≡ Done (answer.Machine (Map map)) → ⊥
+drain_apart s None map is = absurd (cc)
+drain_apart s (Some d) map is = absurd (cc)
+
+detach_apart : (s : State) (o : Option ℕ) (map : View) → (detach_turn s o).reply ≡ Done (answer.Machine (Map map)) → ⊥
+detach_apart s o map is = absurd (cc)
+
 pub reply_hides : (s : State) (m : Machine) (e : Event) (map : View) → AreSound s.rows → IsExpired (at_moment s (moment_of e)) m
     → (step s e).reply ≡ Done (answer.Machine (Map map)) → Hides map m.id
 reply_hides s m (event.Ask (ask.Seed text) moment words) map sound h is = absurd (seed_reply (at_moment s moment) (seed (at_moment s moment) text) map is)
@@ -53,3 +70,7 @@ reply_hides s m (event.Ask (ask.Policy x) moment words) map sound h is = absurd 
 reply_hides s m (event.Ask (ask.Machine x) moment words) map sound h is =
     let d = machine_reply (at_moment s moment) (machine.decision (at_moment s moment) x words) map is in
     expired_hidden (at_moment s moment) m x words d.0 map sound h d.1 d.2
+reply_hides s m (event.Attach mk node handle seq moment words) map sound h is =
+    absurd (attach_apart (at_moment s moment) (attach (at_moment s moment) mk node handle seq words) map is)
+reply_hides s m (event.Drain mk handle moment) map sound h is = absurd (drain_apart (at_moment s moment) (drain (at_moment s moment) mk handle) map is)
+reply_hides s m (event.Detach mk handle moment) map sound h is = absurd (detach_apart (at_moment s moment) (detach (at_moment s moment) mk handle) map is)

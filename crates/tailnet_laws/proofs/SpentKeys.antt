@@ -20,15 +20,15 @@ use Rattle.map_asks.specs.declared.answer.MachineAnswer.{MachineAnswer}
 use Rattle.machine_asks.specs.declared.ask.MachineAsk.{MachineAsk}
 use Rattle.tailnet_desk.specs.Asks.{IsShortEvent}
 use Rattle.tailnet_desk.specs.History.{Legal, replay, state_after}
-use Rattle.tailnet_desk.specs.Step.{outcome}
+use Rattle.tailnet_desk.specs.Step.{outcome, step}
 use Rattle.tailnet_desk.specs.declared.ask.Ask.TheVariants as ask
 use Rattle.tailnet_desk.specs.declared.entry.Entry.{Entry}
 use Rattle.tailnet_desk.specs.declared.entry.Event.{Event}
 use Rattle.tailnet_desk.specs.declared.entry.Event.TheVariants as event
 use Rattle.tailnet_desk.specs.declared.reply.Answer.TheVariants as answer
 use Rattle.tailnet_desk.specs.declared.reply.Reply.{Reply}
-use Rattle.tailnet_desk.specs.declared.reply.Reply.TheVariants.{Done, Lost, Refused}
-use Rattle.tailnet_desk.proofs.SoundHistories.{after_better, after_settings, legal_beginning}
+use Rattle.tailnet_desk.specs.declared.reply.Reply.TheVariants.{Attached, Detached, Done, Ended, Frames, Lost, Refused}
+use Rattle.tailnet_desk.proofs.SoundHistories.{after_better, after_settings, legal_beginning, step_better}
 use Rattle.tailnet_laws.specs.Entrances.{IsDone}
 use Rattle.tailnet_laws.specs.KeyUse.{EventTakesKey, IsByKey, TakesKey}
 use Rattle.tailnet_laws.proofs.MachinePuts.{machine_puts}
@@ -102,15 +102,25 @@ taken_spent s x words id u h sound later rises is =
       single = λ k inside id_is. ap (λ (r : AuthKey). r.reusable) (one k inside id_is) ∙ h.single;
     }
 
-event_spent : (s : State) (e : Event) (reply : Reply) (id : ℕ) → AreSettings s.settings → AreSound s.rows → IsShortEvent e → EventTakesKey s e id → IsDone reply → IsSpent (state_after s e reply).rows id
-event_spent s (event.Ask (ask.Seed text) moment words) (Done a) id hold sound short h done = absurd h
-event_spent s (event.Ask (ask.Operator x) moment words) (Done a) id hold sound short h done = absurd h
-event_spent s (event.Ask (ask.Policy x) moment words) (Done a) id hold sound short h done = absurd h
-event_spent s (event.Ask (ask.Machine x) moment words) (Done a) id hold sound short h done =
+step_spent : (s : State) (e : Event) (id : ℕ) → AreSettings s.settings → AreSound s.rows → IsShortEvent e → EventTakesKey s e id → IsSpent (step s e).state.rows id
+step_spent s (event.Ask (ask.Seed text) moment words) id hold sound short h = absurd h
+step_spent s (event.Ask (ask.Operator x) moment words) id hold sound short h = absurd h
+step_spent s (event.Ask (ask.Policy x) moment words) id hold sound short h = absurd h
+step_spent s (event.Ask (ask.Machine x) moment words) id hold sound short h =
     let e = event.Ask (ask.Machine x) moment words in
-    let better = after_better s e (Done a) hold (no_damage s.rows sound) short in
-    taken_spent (at_moment s moment) x words id (state_after s e (Done a)).rows h sound (sound_of (state_after s e (Done a)).rows better.0) better.1.key
+    let better = step_better s e hold (no_damage s.rows sound) short in
+    taken_spent (at_moment s moment) x words id (step s e).state.rows h sound (sound_of (step s e).state.rows better.0) better.1.key
     (taken_rows (at_moment s moment) x words id h)
+step_spent s (event.Attach mk node handle seq moment words) id hold sound short h = absurd h
+step_spent s (event.Drain mk handle moment) id hold sound short h = absurd h
+step_spent s (event.Detach mk handle moment) id hold sound short h = absurd h
+
+event_spent : (s : State) (e : Event) (reply : Reply) (id : ℕ) → AreSettings s.settings → AreSound s.rows → IsShortEvent e → EventTakesKey s e id → IsDone reply → IsSpent (state_after s e reply).rows id
+event_spent s e (Done a) id hold sound short h done = step_spent s e id hold sound short h
+event_spent s e (Attached handle seq resumed may_wait) id hold sound short h done = step_spent s e id hold sound short h
+event_spent s e (Frames responses) id hold sound short h done = step_spent s e id hold sound short h
+event_spent s e Ended id hold sound short h done = step_spent s e id hold sound short h
+event_spent s e Detached id hold sound short h done = step_spent s e id hold sound short h
 event_spent s e (Refused r) id hold sound short h done = absurd done
 event_spent s e (Lost loss) id hold sound short h done = absurd done
 
@@ -119,6 +129,9 @@ event_untaken s (event.Ask (ask.Seed text) moment words) id spent h = h
 event_untaken s (event.Ask (ask.Operator x) moment words) id spent h = h
 event_untaken s (event.Ask (ask.Policy x) moment words) id spent h = h
 event_untaken s (event.Ask (ask.Machine x) moment words) id spent h = spent_untaken (at_moment s moment) x words id spent h
+event_untaken s (event.Attach mk node handle seq moment words) id spent h = h
+event_untaken s (event.Drain mk handle moment) id spent h = h
+event_untaken s (event.Detach mk handle moment) id spent h = h
 
 -- after an entry that takes the key no entry takes it
 taken_once : (s : State) (count : ℕ) (e : Entry) (between : List Entry) (f : Entry) (later : List Entry) (id : ℕ)

@@ -15,6 +15,7 @@ use Rattle.machine_asks.specs.Decision as machine
 use Rattle.machine_asks.specs.Seed.{seed}
 use Rattle.machine_asks.specs.declared.ask.MachineAsk.{MachineAsk}
 use Rattle.policy_asks.specs.Decision.{policy_decision}
+use Rattle.tailnet_desk.specs.Asks.{IsPollEvent}
 use Rattle.tailnet_desk.specs.History.{Legal, replay, state_after}
 use Rattle.tailnet_desk.specs.Step.{decision, outcome, step}
 use Rattle.tailnet_desk.specs.declared.ask.Ask.{Ask}
@@ -25,8 +26,7 @@ use Rattle.tailnet_desk.specs.declared.entry.Event.TheVariants as event
 use Rattle.tailnet_desk.specs.declared.reply.Answer.{Answer}
 use Rattle.tailnet_desk.specs.declared.reply.Answer.TheVariants as answer
 use Rattle.tailnet_desk.specs.declared.reply.Reply.{Reply}
-use Rattle.tailnet_desk.specs.declared.reply.Reply.TheVariants.{Done, Lost, Refused}
-use Rattle.tailnet_desk.proofs.SoundHistories.{after_better, after_settings}
+use Rattle.tailnet_desk.proofs.SoundHistories.{after_any, after_better, after_settings, poll_keeps}
 use Rattle.tailnet_laws.specs.Entering.{IsAdmission, IsKeyed}
 use Rattle.tailnet_laws.specs.Entrances.{IsEntrance, LetsIn}
 use Rattle.tailnet_laws.proofs.Every.{Every, every_bind, every_ok}
@@ -66,13 +66,20 @@ ask_grown s (ask.Policy x) words =
     outcome_grown s (IsKeyPut s.rows) NoneEnters (decision s (ask.Policy x) words)
     (answered_puts answer.Policy s.rows (IsKeyPut s.rows) NoneEnters (policy_decision s x) (policy_puts s x))
 
+-- a poll changes no row
+poll_grown : (s : State) (e : Event) → IsPollEvent e → Grown s.rows (IsKeyPut s.rows) (IsEntrance s e) (step s e).state.rows
+poll_grown s e poll =
+    subst (λ (t : Rows). Grown s.rows (IsKeyPut s.rows) (IsEntrance s e) t) (sym (poll_keeps s e poll).rows) (same_grown s.rows (IsKeyPut s.rows) (IsEntrance s e))
+
 pub step_grown : (s : State) (e : Event) → Grown s.rows (IsKeyPut s.rows) (IsEntrance s e) (step s e).state.rows
 step_grown s (event.Ask x moment words) = ask_grown (at_moment s moment) x words
+step_grown s (event.Attach mk node handle seq moment words) = poll_grown s (event.Attach mk node handle seq moment words) tt
+step_grown s (event.Drain mk handle moment) = poll_grown s (event.Drain mk handle moment) tt
+step_grown s (event.Detach mk handle moment) = poll_grown s (event.Detach mk handle moment) tt
 
 pub state_grown : (s : State) (e : Event) (reply : Reply) → Grown s.rows (IsKeyPut s.rows) (IsEntrance s e) (state_after s e reply).rows
-state_grown s e (Done a) = step_grown s e
-state_grown s e (Refused r) = step_grown s e
-state_grown s e (Lost loss) = same_grown s.rows (IsKeyPut s.rows) (IsEntrance s e)
+state_grown s e reply =
+    after_any (λ t. Grown s.rows (IsKeyPut s.rows) (IsEntrance s e) t.rows) s e reply (step_grown s e) (same_grown s.rows (IsKeyPut s.rows) (IsEntrance s e))
 
 -- what tables keep while they grow so and no counter falls
 abbrev pub Lasts : (Rows → Type 0) → Type 1

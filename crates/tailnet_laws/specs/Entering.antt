@@ -35,4 +35,6 @@ IsAdmission s (operator.Rename id name) mk = ⊥
 IsAdmission s (operator.SetTags id tags) mk = ⊥
 IsAdmission s (operator.SetRoutes id routes) mk = ⊥
 IsAdmission s (operator.DropNode id) mk = ⊥
+IsAdmission s operator.Extras mk = ⊥
+IsAdmission s (operator.SetExtras given) mk = ⊥
 IsAdmission s operator.Sweep mk = ⊥

@@ -11,7 +11,7 @@ use Rattle.tailnet_desk.specs.declared.entry.Entry.{Entry}
 use Rattle.tailnet_desk.specs.declared.entry.Event.{Event}
 use Rattle.tailnet_desk.specs.declared.entry.Event.TheVariants as event
 use Rattle.tailnet_desk.specs.declared.reply.Reply.{Reply}
-use Rattle.tailnet_desk.specs.declared.reply.Reply.TheVariants.{Done, Lost, Refused}
+use Rattle.tailnet_desk.specs.declared.reply.Reply.TheVariants.{Attached, Detached, Done, Ended, Frames, Lost, Refused}
 use Rattle.tailnet_laws.specs.Entering.{IsAdmission, IsKeyed}
 
 -- a row has this machine key
@@ -27,10 +27,17 @@ LetsIn s (ask.Policy x) mk = ⊥
 
 abbrev pub IsEntrance : State → Event → MachineKey → Type 0
 IsEntrance s (event.Ask x moment words) mk = LetsIn s x mk
+IsEntrance s (event.Attach key node handle seq moment words) mk = ⊥
+IsEntrance s (event.Drain key handle moment) mk = ⊥
+IsEntrance s (event.Detach key handle moment) mk = ⊥
 
 -- it was carried out
 abbrev pub IsDone : Reply → Type 0
 IsDone (Done answer) = Unit {0}
+IsDone (Attached handle seq resumed may_wait) = Unit {0}
+IsDone (Frames responses) = Unit {0}
+IsDone Ended = Unit {0}
+IsDone Detached = Unit {0}
 IsDone (Refused refusal) = ⊥
 IsDone (Lost loss) = ⊥
 

@@ -49,6 +49,9 @@ AskTakesKey s (ask.Policy x) words id = ⊥
 
 abbrev pub EventTakesKey : State → Event → ℕ → Type 0
 EventTakesKey s (event.Ask x moment words) id = AskTakesKey (at_moment s moment) x words id
+EventTakesKey s (event.Attach mk node handle seq moment words) id = ⊥
+EventTakesKey s (event.Drain mk handle moment) id = ⊥
+EventTakesKey s (event.Detach mk handle moment) id = ⊥
 
 -- The entry admits a machine by the single-use key of this id, and is carried out.
 abbrev pub IsByKey : State → Entry → ℕ → Type 0

@@ -1,5 +1,6 @@
 //! Who is in a map.
-ghost use Rattle.std.specs.Prelude.{◌≡◌, ◌≢◌, ℕ, List, Option, Ok, Err, Contains};
+ghost use Rattle.std.specs.Prelude.{◌≡◌, ◌≢◌, ℕ, List, Option, Some, Ok, Err, Contains};
+ghost use Rattle.tail_base.specs.declared.key.MachineKey as key;
 ghost use Rattle.net_rows.specs.Sound.{AreSound};
 ghost use Rattle.net_rows.specs.declared.machine.Machine.{Machine};
 ghost use Rattle.tailcfg.specs.declared.node_row.NodeRow.{NodeRow};
@@ -11,9 +12,11 @@ ghost use Rattle.desk_state.specs.State.{State, at_moment};
 ghost use Rattle.desk_state.specs.declared.decision.Decision.{Decision};
 ghost use Rattle.desk_state.specs.declared.refusal.Refusal.TheVariants.{NotLive};
 ghost use Rattle.machine_asks.specs.Decision.{decision};
+ghost use Rattle.map_asks.specs.Drain.{drain};
 ghost use Rattle.map_asks.specs.OneMap.{world_of};
 ghost use Rattle.map_asks.specs.declared.answer.MachineAnswer.{MachineAnswer};
 ghost use Rattle.map_asks.specs.declared.answer.MachineAnswer.TheVariants.{Map};
+ghost use Rattle.map_asks.specs.declared.draining.DrainDecision.{DrainDecision};
 ghost use Rattle.machine_asks.specs.declared.ask.MachineAsk.{MachineAsk};
 ghost use Rattle.machine_asks.specs.declared.ask.MachineAsk.TheVariants.{OneMap, Update};
 ghost use Rattle.tailnet_desk.specs.Step.{moment_of, step};
@@ -23,7 +26,7 @@ ghost use Rattle.tailnet_desk.specs.declared.reply.Reply.TheVariants.{Done};
 ghost use Rattle.tailnet_laws.specs.Shown.{Hides, IsExpired};
 
 /// A machine whose node key has expired is in no map that is decided on for a machine, and so in
-/// none that a step replies.
+/// none that a step replies, nor in one that a poll's drain brings its client to.
 pub fn expired_machines_are_in_no_map()
     ensures hides { (s : State) (m : Machine) (x : MachineAsk) (words : Option (List ℕ))
         (d : Decision MachineAnswer) (map : View) → AreSound s.rows → IsExpired s m
@@ -31,6 +34,9 @@ pub fn expired_machines_are_in_no_map()
     ensures replies { (s : State) (m : Machine) (e : Event) (map : View) → AreSound s.rows
         → IsExpired (at_moment s (moment_of e)) m
         → (step s e).reply ≡ Done (answer.Machine (Map map)) → Hides map m.id }
+    ensures drains { (s : State) (m : Machine) (mk : key.MachineKey) (handle : List ℕ)
+        (d : DrainDecision) (map : View) → AreSound s.rows → IsExpired s m
+        → drain s mk handle ≡ Some d → d.session.sent ≡ Some map → Hides map m.id }
 {}
 
 /// It is no peer in a map that is computed afresh, whoever the viewer is.

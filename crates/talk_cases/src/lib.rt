@@ -10,6 +10,8 @@ mod limits;
 #[cfg(test)]
 mod lives;
 #[cfg(test)]
+mod polls;
+#[cfg(test)]
 mod refusals;
 #[cfg(test)]
 mod registrations;

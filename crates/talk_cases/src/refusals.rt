@@ -233,7 +233,7 @@ const REFUSALS: &str = r#"= logins
 > POST /machine/register mkey:%1 {"NodeKey":"nodekey:%a"}
 < 200 {"AuthURL":"http://tail.example/register/reg-1-00000000000000010000000000000002","Error":"","Login":{"ID":0,"LoginName":""},"MachineAuthorized":false,"NodeKeyExpired":false,"User":{"DisplayName":"","ID":0}}
 = path-then-method-then-token-then-body
-> GET /api/v1/dns Bearer/secret
+> GET /api/v1/dns/ Bearer/secret
 < 404 {"error":"NoPath"}
 > POST /api/v1/node/1/route Bearer/secret {"routes":[]}
 < 404 {"error":"NoPath"}
@@ -313,9 +313,9 @@ const BODIES: &str = r#"= no-machine-key
 = compressed
 > POST /machine/map mkey:%1 {"Compress":1}
 < 400 {"error":"Compressed"}
-= poll
-> POST /machine/map mkey:%1 {"NodeKey":"nodekey:%a","Stream":true,"Hostinfo":{"NetInfo":{"PreferredDERP":65535}}}
-< 400 {"error":"BadField","field":"Stream"}
+= field-of-a-poll
+> POST /machine/map mkey:%1 {"NodeKey":"nodekey:%a","Stream":true,"Hostinfo":{"NetInfo":{"PreferredDERP":65536}}}
+< 400 {"error":"BadField","field":"PreferredDERP"}
 = omit-peers
 > POST /machine/map mkey:%1 {"NodeKey":"nodekey:%a","OmitPeers":0,"ReadOnly":0}
 < 400 {"error":"BadField","field":"OmitPeers"}

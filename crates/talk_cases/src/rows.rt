@@ -196,6 +196,10 @@ const WORKED: &str = r#"= first-registration
 < 200 {}
 > DELETE /api/v1/user/ann@ Bearer/secret
 < 200 {}
+> PUT /api/v1/dns Bearer/secret [{"Name":"nas.tail.example","Type":"A","Value":"192.168.5.9"}]
+< 200 [{"Name":"nas.tail.example","Type":"A","Value":"192.168.5.9"}]
+> GET /api/v1/dns Bearer/secret
+< 200 [{"Name":"nas.tail.example","Type":"A","Value":"192.168.5.9"}]
 > POST /api/v1/sweep Bearer/secret {}
 < 200 {"machines":0,"pending":0}"#;
 

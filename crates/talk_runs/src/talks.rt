@@ -7,6 +7,9 @@
 //! A caller is `Bearer/TOKEN`, a machine key, or `-` for none. `%x` stands for 64 times `x` and `^` for a line feed, a
 //! request's body `*7` for a length without a body, an answer's body `#…` for a framed one, and `< registered` for the
 //! answer to a registration of the seed's user.
+//!
+//! The answer to a poll is `< stream`, the head of a stream, then a line `+ TEXT` for each chunk with the frame of a text,
+//! and `.`, the last chunk. A line `x` behind any of these says that the next write fails, which ends the run.
 use crate::runs::{CALM, Plan, SETTINGS, piped_at, tables_with};
 use io_edge::MemoryClock;
 use net_rows::Tables;
@@ -25,6 +28,8 @@ struct Talk {
     output: Vec<u8>,
     /// Whether the last answer ends the connection.
     early: bool,
+    /// Whether a write fails behind what is answered.
+    is_cut: bool,
 }
 
 /// The end of the answer to a registration of the seed's user.
@@ -40,6 +45,7 @@ fn new_talk(alloc: Global) -> Result<Talk, NoMemory> {
         input: Vec::new(alloc),
         output: Vec::new(alloc),
         early: false,
+        is_cut: false,
     })
 }
 
@@ -135,24 +141,45 @@ fn phrase(status: &str) -> &'static str {
     }
 }
 
+/// The frame of a text.
+fn framed(alloc: Global, text: &str) -> Result<Vec<u8>, NoMemory> {
+    let text = wide(alloc, text)?;
+    let Ok(length) = u32::try_from(text.len()) else {
+        return Err(NoMemory);
+    };
+    let mut bytes = Vec::from_slice(alloc, &length.to_le_bytes())?;
+    bytes.extend_from_slice(&text)?;
+    Ok(bytes)
+}
+
 /// The body of an answer: framed, where it begins with `#`.
 fn answer_body(alloc: Global, text: &str) -> Result<Vec<u8>, NoMemory> {
     match text.strip_prefix("#") {
         None => wide(alloc, text),
-        Some(map) => {
-            let map = wide(alloc, map)?;
-            let Ok(length) = u32::try_from(map.len()) else {
-                return Err(NoMemory);
-            };
-            let mut bytes = Vec::from_slice(alloc, &length.to_le_bytes())?;
-            bytes.extend_from_slice(&map)?;
-            Ok(bytes)
-        }
+        Some(map) => framed(alloc, map),
     }
 }
 
-/// The bytes of an answer, and whether it ends the connection.
+/// The head of a stream.
+const STREAM: &[u8] =
+    b"HTTP/1.1 200 OK\r\nContent-Type: application/json\r\nTransfer-Encoding: chunked\r\n\r\n";
+
+/// A chunk with the frame of a text.
+fn add_chunk(alloc: Global, output: &mut Vec<u8>, text: &str) -> Result<(), NoMemory> {
+    let frame = framed(alloc, text)?;
+    let size = format!(in alloc; "{:x}\r\n", frame.len())?;
+    output.extend_from_slice(size.as_bytes())?;
+    output.extend_from_slice(&frame)?;
+    output.extend_from_slice(b"\r\n")?;
+    Ok(())
+}
+
+/// The bytes of an answer, or of the head of a stream, and whether the answer ends the connection.
 fn add_answer(alloc: Global, output: &mut Vec<u8>, line: &str) -> Result<bool, NoMemory> {
+    if line == "stream" {
+        output.extend_from_slice(STREAM)?;
+        return Ok(false);
+    }
     let (status, text) = cut(if line == "registered" {
         REGISTERED
     } else {
@@ -194,9 +221,32 @@ fn add_line(alloc: Global, talk: &mut Talk, line: &str) -> Result<(), NoMemory> 
         }
         "~" => talk.tables = tables_with(alloc, rest)?,
         ">" => add_request(alloc, &mut talk.input, rest)?,
+        "+" => add_chunk(alloc, &mut talk.output, rest)?,
+        "." => talk.output.extend_from_slice(b"0\r\n\r\n")?,
+        "x" => talk.is_cut = true,
         _ => talk.early = add_answer(alloc, &mut talk.output, rest)?,
     }
     Ok(())
+}
+
+/// The bytes of the requests and of the answers in the lines of one conversation.
+pub fn talk_bytes(alloc: Global, lines: &str) -> Result<(Vec<u8>, Vec<u8>), NoMemory> {
+    let mut talk = new_talk(alloc)?;
+    for line in lines.lines() {
+        add_line(alloc, &mut talk, line)?;
+    }
+    Ok((talk.input, talk.output))
+}
+
+/// The status of the run that holds a conversation, and its line on errors.
+fn end_of(talk: &Talk) -> (Status, &'static [u8]) {
+    if talk.is_cut {
+        (Status::WriteFault, b"tailnetd: write fault\n")
+    } else if talk.early {
+        (Status::Early, b"tailnetd: closed early\n")
+    } else {
+        (Status::Ok, b"")
+    }
 }
 
 /// Whether `pipe tailnet.toml --seed k1` holds the conversation.
@@ -204,6 +254,7 @@ fn is_held(alloc: Global, mut talk: Talk) -> Result<bool, NoMemory> {
     if talk.moments.is_empty() {
         talk.moments.push(1_000_000_000)?;
     }
+    let (status, line) = end_of(&talk);
     let clock = MemoryClock::new(talk.moments);
     let ran = piped_at(
         alloc,
@@ -213,11 +264,6 @@ fn is_held(alloc: Global, mut talk: Talk) -> Result<bool, NoMemory> {
         &talk.input,
         &talk.plan,
     )?;
-    let (status, line) = if talk.early {
-        (Status::Early, b"tailnetd: closed early\n".as_slice())
-    } else {
-        (Status::Ok, b"".as_slice())
-    };
     Ok(
         ran.status == status
             && ran.errors.bytes() == line

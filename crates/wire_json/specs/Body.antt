@@ -3,7 +3,7 @@ use Rattle.std.specs.Prelude.{◌≡◌, ℕ, List, if◌then◌else◌, Option,
 use Rattle.std.specs.Str.{is_utf8}
 use Rattle.serde_json.specs.Data.{Data}
 use Rattle.serde_json.specs.Read.{read}
-use Rattle.serde_json.specs.Find.{get, as_null, as_object}
+use Rattle.serde_json.specs.Find.{get, as_array, as_null, as_object}
 use Rattle.wire_json.specs.Fields.{field_name}
 use Rattle.wire_json.specs.declared.field.Field.{Field}
 use Rattle.wire_json.specs.declared.fault.WireFault.{WireFault}
@@ -48,6 +48,10 @@ field_of f object = option_and_then (member_of (field_name f)) object
 -- the object that a read text is, if it is one
 unfoldable pub object_at : Option Data → Result Data WireFault
 object_at read = or_fault fault.NotJson (option_and_then (λ d. if is_some (as_object d) then Some d else None) read)
+
+-- the list that a read text is, if it is one
+unfoldable pub list_at : Option Data → Result Data WireFault
+list_at read = or_fault fault.NotJson (option_and_then (λ d. if is_some (as_array d) then Some d else None) read)
 
 -- the value that a body is, if it is UTF-8 and a JSON text (RFC 8259)
 abbrev pub body_value : List ℕ → Option Data

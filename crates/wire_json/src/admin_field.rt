@@ -12,6 +12,10 @@ pub enum AdminField {
     Tags,
     Routes,
     Id,
+    /// The name of an extra DNS record.
+    RecordName,
+    RecordType,
+    RecordValue,
 }
 
 impl AdminField {
@@ -30,6 +34,9 @@ impl AdminField {
             AdminField::Tags => "tags",
             AdminField::Routes => "routes",
             AdminField::Id => "id",
+            AdminField::RecordName => "Name",
+            AdminField::RecordType => "Type",
+            AdminField::RecordValue => "Value",
         }
     }
 }

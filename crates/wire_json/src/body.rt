@@ -1,7 +1,7 @@
 //! Bodies and their fields.
 ghost use Rattle.std.specs.Prelude.{◌≡◌, option_map};
 ghost use Rattle.serde_json.specs.View.{view};
-ghost use Rattle.wire_json.specs.Body.{Gives, body_value, field_of, object_at};
+ghost use Rattle.wire_json.specs.Body.{Gives, body_value, field_of, list_at, object_at};
 ghost use Rattle.wire_json.specs.Readers.{object_of};
 
 use crate::fault::WireFault;
@@ -9,8 +9,8 @@ use crate::field::Field;
 use serde_json::Value;
 use std::alloc::Global;
 
-/// The object that a body is: a JSON text in UTF-8 (RFC 8259) whose value is an object. Of members of one
-/// name the last counts.
+/// The object that a body is: a JSON text in UTF-8 (RFC 8259) whose value is an object. Of members of
+/// one name the last counts.
 #[tactic(auto, unfolding(crate::specs::Body::object_at))]
 pub fn object_of_body(alloc: Global, body: &[u8]) -> Result<Value, WireFault>
     ensures value { Gives (λ v. view v) result (object_at (body_value body.now)) }
@@ -23,9 +23,23 @@ pub fn object_of_body(alloc: Global, body: &[u8]) -> Result<Value, WireFault>
     }
 }
 
+/// The list that a body is: a JSON text in UTF-8 (RFC 8259) whose value is a list.
+#[tactic(auto, unfolding(crate::specs::Body::list_at))]
+pub fn list_of_body(alloc: Global, body: &[u8]) -> Result<Value, WireFault>
+    ensures value { Gives (λ v. view v) result (list_at (body_value body.now)) }
+{
+    match Value::from_slice(alloc, body) {
+        Ok(value) if value.is_array() => Ok(value),
+        Ok(_) => Err(WireFault::NotJson),
+        Err(error) if error.is_memory() => Err(WireFault::NoMemory),
+        Err(_) => Err(WireFault::NotJson),
+    }
+}
+
 /// The value of a field that is there and not null, in an object that may itself be absent.
 pub fn field_of<'a>(object: Option<&'a Value>, field: Field) -> Option<&'a Value>
-    ensures value { option_map (λ v. view v.now) result ≡ field_of field (option_map (λ v. view v.now) object.entry) }
+    ensures value { option_map (λ v. view v.now) result
+        ≡ field_of field (option_map (λ v. view v.now) object.entry) }
 {
     match object?.get(field.name()) {
         Some(value) if !value.is_null() => Some(value),
@@ -38,7 +52,8 @@ pub(crate) fn object_of<'a>(
     object: Option<&'a Value>,
     field: Field,
 ) -> Result<Option<&'a Value>, WireFault>
-    ensures value { Gives (option_map (λ v. view v.now)) result (object_of field (option_map (λ v. view v.now) object.entry)) }
+    ensures value { Gives (option_map (λ v. view v.now)) result
+        (object_of field (option_map (λ v. view v.now) object.entry)) }
 {
     match field_of(object, field) {
         Some(value) if value.is_object() => Ok(Some(value)),

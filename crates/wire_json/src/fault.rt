@@ -8,7 +8,7 @@ use tail_base::NoMemory;
 /// The first fault of a body.
 #[derive(Clone, Copy, Debug, PartialEq, Eq, Drop)]
 pub enum WireFault {
-    /// It is no JSON text, or its value is no object.
+    /// It is no JSON text, or its value is no object, or no list where a list is read.
     NotJson,
     /// A map request asks for compressed answers.
     Compressed,

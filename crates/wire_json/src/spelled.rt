@@ -53,7 +53,8 @@ impl Spelled for Tag {
 
 /// The element that a value of a list is.
 fn element_of<T: Spelled>(alloc: Global, field: Field, value: &Value) -> Result<T, WireFault>
-    ensures value { Gives (λ x. x) result (or_fault (BadField field) (option_and_then T.spelled (as_str (view value.now)))) }
+    ensures value { Gives (λ x. x) result
+        (or_fault (BadField field) (option_and_then T.spelled (as_str (view value.now)))) }
 {
     let Some(text) = value.as_str() else {
         return Err(WireFault::BadField(field));
@@ -66,7 +67,8 @@ fn elements_of<T: Spelled>(
     field: Field,
     values: &[Value],
 ) -> Result<Items<T>, WireFault>
-    ensures value { Gives (λ made. made) result (or_fault (BadField field) (all_spelled T.spelled (items_view values.now))) }
+    ensures value { Gives (λ made. made) result
+        (or_fault (BadField field) (all_spelled T.spelled (items_view values.now))) }
     ensures count { IfOk result (λ made. length made ≡ length values.now) }
 {
     let mut made = Items::new(alloc);
@@ -78,8 +80,9 @@ fn elements_of<T: Spelled>(
 
 /// The values of a list, if there are at most so many.
 #[tactic(auto, using(crate::proofs::Counts::items_count))]
-fn short_array(value: &Value, limit: usize) -> Option<&[Value]>
-    ensures value { option_map (λ vs. items_view vs.now) result ≡ short_array limit (view value.now) }
+pub fn short_array(value: &Value, limit: usize) -> Option<&[Value]>
+    ensures value { option_map (λ vs. items_view vs.now) result
+        ≡ short_array limit (view value.now) }
     ensures short { IfSome result (λ vs. length vs.now ≤ limit) }
 {
     let values = value.as_array()?;
@@ -97,7 +100,8 @@ pub fn list_of<T: Spelled>(
     field: Field,
     limit: usize,
 ) -> Result<Items<T>, WireFault>
-    ensures value { Gives (λ xs. xs) result (optional field [] (short_list limit T.spelled) (option_map (λ v. view v.now) object.entry)) }
+    ensures value { Gives (λ xs. xs) result (optional field [] (short_list limit T.spelled)
+        (option_map (λ v. view v.now) object.entry)) }
     ensures short { IfOk result (λ xs. length xs ≤ limit) }
 {
     let Some(value) = field_of(object, field) else {

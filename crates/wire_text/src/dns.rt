@@ -17,8 +17,8 @@ use net_addr::Addr;
 use tail_base::{Items, NoMemory};
 use tailcfg::{Dns, DnsExtra};
 
-/// `AAAA` for an IPv6 address, else `A`.
-fn record_type(addr: &Addr) -> &'static str
+/// The type of an address's record: `AAAA` for an IPv6 address, else `A`.
+pub fn record_type(addr: &Addr) -> &'static str
     ensures value { result.now ≡ record_type addr.now }
 {
     if addr.is_v6() { "AAAA" } else { "A" }

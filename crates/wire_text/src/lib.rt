@@ -24,6 +24,7 @@ mod routes;
 mod token_form;
 mod values;
 
+pub use dns::record_type;
 pub use json_form::JsonForm;
 pub use members::put_form;
 pub use parts::text_value;

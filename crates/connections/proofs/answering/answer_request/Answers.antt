@@ -1,34 +1,10 @@
-use Rattle.std.proofs.Common.{refl, sym, true, Some, arith}
-use Rattle.http_front.specs.AnswerBytes.{answer}
-use Rattle.connections.specs.Exchanges.{ended_by}
-use Rattle.run_ends.specs.declared.closed.Closed.TheVariants.{Early}
-use Rattle.connections.proofs.AnswerLemmas.{answered_fixed, answered_ask, exchange_unanswered, exchange_fixed, exchange_faulty}
+use Rattle.std.proofs.Common.{refl, arith}
+use Rattle.connections.specs.Exchanges.{breaks, ended_by}
+use Rattle.connections.proofs.AnswerLemmas.{answered_fixed, exchange_unanswered}
 use Rattle.connections.proofs.answering.answer_request.Goals as goal
 
 pub returns-in_default-clause-answered : goal.returns-in_default-clause-answered
 returns-in_default-clause-answered g c =
-    answered_fixed _ c.args.front.now c.send.result c.finish.result c.args.request.now c.args.last c.no_memory_answer.result.now (ended_by c.closes-close.result) _ _ _
-    (exchange_unanswered c.args.front.now c.args.request.now c.args.last c.closes-close.result _ c.closes-close.ensures.value c.no_memory_answer.ensures.value)
+    answered_fixed _ c.args.front.now c.args.more c.send.result c.finish.result c.args.request.now c.args.last c.no_memory_answer.result.now (ended_by c.closes-close.result) _ _ _
+    (exchange_unanswered c.args.front.now c.args.more c.args.request.now c.args.last c.closes-close.result (breaks c.finish.result) _ c.closes-close.ensures.value c.no_memory_answer.ensures.value)
     (λ k. refl) (λ k. refl) (omega arith) c.send.ensures.sent c.finish.ensures.follows
-
-pub returns-in-Fault-clause-answered : goal.returns-in-Fault-clause-answered
-returns-in-Fault-clause-answered g c =
-    let w = rw c.in-Fault.is at c.in-Ok.ensures.value in
-    let sent = rw c.as_slice.ensures.value at c.answer_fixed.ensures.sent in
-    answered_fixed _ c.args.front.now c.answer_fixed.result c.finish_early.result c.args.request.now c.args.last (answer 400 c.in-Fault.body true) (Some Early) _ _ _
-    (exchange_faulty c.args.front.now c.args.request.now c.args.last c.in-Fault.body w)
-    (λ k. refl) (λ k. refl) (omega arith) sent c.finish_early.ensures.follows
-
-pub returns-in-Answer-clause-answered : goal.returns-in-Answer-clause-answered
-returns-in-Answer-clause-answered g c =
-    let w = rw c.in-Answer.is at c.in-Ok.ensures.value in
-    let sent = rw c.as_slice-in-Answer.ensures.value at c.answer_fixed-in-Answer.ensures.sent in
-    answered_fixed _ c.args.front.now c.answer_fixed-in-Answer.result c.finish-in-Answer.result c.args.request.now c.args.last (answer c.in-Answer.status c.in-Answer.body c.closes-close.result) (ended_by c.closes-close.result) _ _ _
-    (exchange_fixed c.args.front.now c.args.request.now c.args.last c.closes-close.result c.in-Answer.status c.in-Answer.body c.closes-close.ensures.value w)
-    (λ k. refl) (λ k. refl) (omega arith) sent c.finish-in-Answer.ensures.follows
-
-pub returns-clause-answered : goal.returns-clause-answered
-returns-clause-answered g c =
-    let w = rw c.in-Ask.is at c.in-Ok.ensures.value in
-    answered_ask _ c.args.front.now c.answer_ask.result c.finish-in-Ask.result c.args.request.now c.args.last c.in-Ask.ask _ _ _ _
-    (sym w) (rw c.closes-close.ensures.value at c.answer_ask.ensures.asked) (rw c.closes-close.ensures.value at c.finish-in-Ask.ensures.follows)

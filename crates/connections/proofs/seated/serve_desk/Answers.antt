@@ -4,4 +4,4 @@ use Rattle.connections.proofs.Seen.{serves_map}
 use Rattle.connections.proofs.seated.serve_desk.Goals as goal
 
 pub returns : goal.returns
-returns g c = record { serves = serves_map _ IsTurn c.args.front.now (point_of g.K.Keeper.told g.K.Keeper.faults g.K.Keeper.calls) (λ s e reply t h. h) _ _ _ _ _ _ _ c.serve.ensures.serves }
+returns g c = record { serves = serves_map _ IsTurn c.args.front.now 0 (point_of g.K.Keeper.told g.K.Keeper.faults g.K.Keeper.calls) (λ s e reply t h. h) _ _ _ _ _ _ _ c.serve.ensures.serves }

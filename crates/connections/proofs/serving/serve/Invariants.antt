@@ -11,7 +11,7 @@ invariant-loop-left g l =
     let first = at l.fn.input l.fn.output l.fn.clock l.fn.entropy in
     record {
       some : 0 < l.left;
-      rest : (closed : Closed) (new : Told) (t : _) → IsConnection g.T.Turns.turn l.front closed l.left l.buffer now new l.turns t → IsConnection g.T.Turns.turn l.front closed l.fn.requests [] first new l.fn.turns t;
+      rest : (closed : Closed) (new : Told) (t : _) → IsConnection g.T.Turns.turn l.front l.more closed l.left l.buffer now new l.turns t → IsConnection g.T.Turns.turn l.front l.more closed l.fn.requests [] first new l.fn.turns t;
     }
 
 abbrev pub decreases-loop-left : goal.decreases-loop-left

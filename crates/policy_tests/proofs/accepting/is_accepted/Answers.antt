@@ -1,13 +1,12 @@
-use Rattle.std.proofs.Common.{List, ◌∙◌, ap}
-use Rattle.policy_rows.specs.declared.group.Group.{Group}
+use Rattle.std.proofs.Common.{◌∙◌}
 use Rattle.policy_tests.specs.Trials.{core_of}
 use Rattle.policy_tests.proofs.AcceptLemmas.{accepted_is}
 use Rattle.policy_tests.proofs.accepting.is_accepted.Goals as goal
 
 pub returns : goal.returns
 returns c =
-    let dests = c.as_slice.ensures.value ∙ (c.in_ok-dests.ensures.value ∙ ap (λ (g : List Group). core_of g c.args.sites.now c.args.entry.now.to) c.groups.ensures.value) in
+    let dests = c.as_slice.ensures.value ∙ (c.in_ok-dests.ensures.value ∙ (λ i. core_of (c.groups.ensures.value i) (c.sites.ensures.value i) c.args.entry.now.to)) in
     record {
-      value = accepted_is c.args.x.now.groups c.args.x.now.rules c.args.sites.now c.args.test.now c.args.entry.now c.port_of.result c.args.sources.now c.as_slice.result.now c.all_pass.result
+      value = accepted_is c.args.x.now.groups c.args.x.now.rules c.args.x.now.sites c.args.test.now c.args.entry.now c.port_of.result c.args.sources.now c.as_slice.result.now c.all_pass.result
           c.all_pass.ensures.value c.port_of.ensures.value c.requires.sources dests;
     }

@@ -1,22 +1,13 @@
-use Rattle.std.proofs.Common.{◌≡◌, ℕ, true, false, List, Some, None, refl, sym, ap, ◌∙◌, cond, rules}
-use Rattle.std.specs.Prelude.{IsUtf8}
-use Rattle.std.specs.Str.{is_utf8}
-use Rattle.std.proofs.lemmas.Str.{IsUtf8-from_is_utf8, is_utf8-from_IsUtf8}
+use Rattle.std.proofs.Common.{◌≡◌, ℕ, true, List, Some, None, sym, ap, ◌∙◌, cond, rules}
+use Rattle.std.specs.Prelude.{IsUtf8, is_some, Ok}
+use Rattle.std.proofs.lemmas.Bool.{false≢true}
 use Rattle.serde_json.specs.Data.{Data}
+use Rattle.serde_json.specs.Find.{as_object}
 use Rattle.serde_json.specs.Read.{read}
 use Rattle.wire_json.specs.Body.{body_value, object_at, or_fault}
-use Rattle.serde_json.specs.Find.{as_object}
-use Rattle.std.specs.Prelude.{is_some, Ok}
-use Rattle.std.proofs.lemmas.Bool.{false≢true}
 use Rattle.wire_json.specs.declared.fault.WireFault.TheVariants as fault
+use Rattle.wire_json.proofs.BodyLemmas.{body_none, body_some}
 use Rattle.wire_json.proofs.body.object_of_body.Goals as goal
-
-body_some : (body : List ℕ) (d : Data) → IsUtf8 body → read body ≡ Some d → body_value body ≡ Some d
-body_some body d text same = ap (λ b. cond b (read body) None) (is_utf8-from_IsUtf8 body text) ∙ same
-
-body_none : (body : List ℕ) → (IsUtf8 body → read body ≡ None) → body_value body ≡ None
-body_none body unread =
-    elim (is_utf8 body) as (λ b. is_utf8 body ≡ b → cond b (read body) None ≡ None) [ true ↦ λ e. unread (IsUtf8-from_is_utf8 body e) | false ↦ λ _. refl ] refl
 
 -- an object is taken as it is
 taken : (body : List ℕ) (d : Data) → IsUtf8 body → read body ≡ Some d → true ≡ is_some (as_object d) → object_at (body_value body) ≡ Ok d

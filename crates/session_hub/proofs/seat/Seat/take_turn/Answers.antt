@@ -29,6 +29,7 @@ returns g c =
           (λ ls s. replay_more (at r.0) (at c.take_desk-desk.result) (at c.run-reply.new.desk) ls _ (ap (λ z. (at z).keeping.faults) c.of-before.ensures) refl c.run-reply.ensures.turn.call s)
           at (λ ls h. h.legal) c.advance.new.place.me c.self.inside.place.table_id c.advance.new.place.table_id _ _ c.advance.ensures.entered (c.advance.ensures.same.0 ∙ c.take_desk-desk.ensures.same.0 ∙ c.draw_ticket-ticket.ensures.same.0)
           refl refl);
+      kind = c.run-reply.ensures.kind;
     }
 
 pub invariant_of-self : goal.invariant_of-self

@@ -1,0 +1,14 @@
+use Rattle.std.proofs.Common.{◌∙◌, ap, arith, refl, rules, w64}
+use mir.Val.{SFits}
+use Rattle.std.proofs.lemmas.Int.{to_z-of_z}
+use Rattle.moments.specs.Moments.{clamped}
+use Rattle.connections.proofs.PollLemmas.{detached_once}
+use Rattle.connections.proofs.polling.detach_poll.Goals as goal
+
+pub returns : goal.returns
+returns g c = record {
+  detached = λ rest.
+      let fits : SFits w64 c.seconds.result = search rules in
+      detached_once _ c.args.machine.now c.args.handle.now c.seconds.result c.clamp-moment.result _ _ _ _
+      (c.clamp-moment.ensures.value ∙ ap clamped (to_z-of_z w64 c.seconds.result fits)) (λ k. refl) (omega arith) c.seconds.ensures.took c.detach.ensures.turn;
+}

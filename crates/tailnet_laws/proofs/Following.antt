@@ -1,0 +1,296 @@
+-- Clients have the maps computed afresh after each drain that sends something.
+use Rattle.std.proofs.Common.{◌≡◌, ◌^◌, ◌==◌, ℕ, ℤ, Bool, true, false, List, [], ◌∷◌, Option, Some, None, Result, Ok, Err, inl, inr, refl, sym, ap, subst, ltb, if◌then◌else◌}
+use Rattle.std.specs.Prelude.{Contains, filter}
+use Rattle.std.specs.Result.{result_ok}
+use Rattle.std.specs.Str.{bytes_eq}
+use Rattle.std.proofs.lemmas.Bool.{and_parts, eq-eqb}
+use Rattle.tail_base.specs.declared.key.MachineKey.{MachineKey}
+use Rattle.tail_base.proofs.Bools.{bytes_eq-true}
+use Rattle.net_rows.specs.Damage.{damage}
+use Rattle.net_rows.specs.Rows.{machine_of}
+use Rattle.net_rows.specs.declared.machine.Machine.{Machine}
+use Rattle.net_rows.specs.declared.rows.Rows.{Rows}
+use Rattle.net_rows.proofs.Members.{list_any_is}
+use Rattle.policy_rows.specs.declared.fault.PolicyFault.{PolicyFault}
+use Rattle.policy_rows.specs.declared.policy.Policy.{Policy}
+use Rattle.policy_doc.specs.Document.{policy_of_text}
+use Rattle.policy_sites.specs.Grants.{rules_of}
+use Rattle.policy_sites.specs.Reach.{AreSoundRules}
+use Rattle.settings.specs.Settings.{AreSettings}
+use Rattle.settings.specs.declared.fields.SettingsFields.{SettingsFields}
+use Rattle.peer_view.specs.Seen.{live_node}
+use Rattle.peer_view.proofs.ListLemmas.{filtered_member, map_member}
+use Rattle.policy_sites.specs.Sites.{is_among}
+use Rattle.fresh_maps.specs.Granted.{MeetsPolicy}
+use Rattle.fresh_maps.specs.InOrder.{IsInOrder}
+use Rattle.fresh_maps.specs.declared.view.View.{View}
+use Rattle.fresh_maps.proofs.FilterLemmas.{map_admits}
+use Rattle.fresh_maps.proofs.OrderLemmas.{map_in_order}
+use Rattle.map_delta.specs.Delta.{responses_for}
+use Rattle.map_delta.specs.Fold.{fold_all}
+use Rattle.policy_asks.specs.Kept.{policy_of_kept}
+use Rattle.desk_state.specs.Sessions.{session_of}
+use Rattle.desk_state.specs.State.{State, at_moment, is_live, live_ids}
+use Rattle.desk_state.specs.declared.decision.Decision.{Decision}
+use Rattle.desk_state.specs.declared.refusal.Refusal.{Refusal}
+use Rattle.desk_state.specs.declared.session.Session.{Session}
+use Rattle.map_asks.specs.Attach.{attach, attached_state}
+use Rattle.map_asks.specs.Detach.{detach, is_held_under}
+use Rattle.map_asks.specs.Drain.{drain, drain_machine, drain_session, drained_state, if_live, is_drained, session_at, session_drained}
+use Rattle.map_asks.specs.OneMap.{IsLiveRow, fresh_for, node_in, online_ids, world_of}
+use Rattle.map_asks.specs.declared.attaching.AttachDecision.{AttachDecision}
+use Rattle.map_asks.specs.declared.draining.DrainDecision.{DrainDecision}
+use Rattle.map_asks.proofs.Drains.{live_row}
+use Rattle.tailnet_desk.specs.Asks.{IsShortEvent}
+use Rattle.tailnet_desk.specs.History.{IsReply, Legal, replay, state_after}
+use Rattle.tailnet_desk.specs.Opening.{opening}
+use Rattle.tailnet_desk.specs.Seated.{IsInForce}
+use Rattle.tailnet_desk.specs.Step.{attach_turn, decision, detach_turn, drain_turn, moment_of, outcome, step}
+use Rattle.tailnet_desk.specs.declared.entry.Entry.{Entry}
+use Rattle.tailnet_desk.specs.declared.entry.Event.{Event}
+use Rattle.tailnet_desk.specs.declared.entry.Event.TheVariants as event
+use Rattle.tailnet_desk.specs.declared.reply.Answer.{Answer}
+use Rattle.tailnet_desk.specs.declared.reply.Reply.{Reply}
+use Rattle.tailnet_desk.specs.declared.reply.Reply.TheVariants.{Attached, Detached, Done, Ended, Frames, Lost, Refused}
+use Rattle.tailnet_desk.proofs.SoundHistories.{after_any, after_better, after_in_force, after_settings}
+use Rattle.tailnet_laws.specs.Followed.{AreFollowed, IsFreshAt, IsFreshIf, frames_in, sent_under, views_after, views_at}
+use Rattle.tailnet_laws.proofs.Attaches.{IsEither, attach_either}
+use Rattle.tailnet_laws.proofs.SessionRules.{AreKept, begun_kept, drained_kept, drained_map, folded_under, same_kept, settled_kept, taken_kept}
+use Rattle.tailnet_laws.proofs.SoundRules.{open_sound, policy_rules}
+
+-- ---- the policy in force
+
+read_sound : (text : List ℕ) (r : Result Policy PolicyFault) → policy_of_text text ≡ r → AreSoundRules (rules_of (result_ok r))
+read_sound text (Ok p) e = policy_rules text p e
+read_sound text (Err fault) e = open_sound
+
+kept_sound : (kept : Option (List ℕ)) → AreSoundRules (rules_of (policy_of_kept kept))
+kept_sound None = open_sound
+kept_sound (Some text) = read_sound text (policy_of_text text) refl
+
+-- its rules are sound
+force_sound : (rows : Rows) (policy : Option Policy) → IsInForce rows policy → AreSoundRules (rules_of policy)
+force_sound rows policy e = subst (λ (p : Option Policy). AreSoundRules (rules_of p)) (sym e) (kept_sound rows.policy)
+
+-- ---- fresh maps
+
+-- a live machine is seen
+live_inside : (s : State) (m : Machine) → IsLiveRow s m → Contains (world_of s).nodes (node_in s m)
+live_inside s m h =
+    let ids = live_ids s in
+    let machines = s.rows.machines in
+    let alive : Contains (filter (is_live s) machines) m = filtered_member (is_live s) machines m h.inside h.live in
+    let inside : Contains ids m.id = map_member (λ (r : Machine). r.id) (filter (is_live s) machines) m alive in
+    let listed : is_among ids m ≡ true = list_any_is (λ (other : ℕ). other == m.id) ids m.id inside (eq-eqb m.id m.id refl) in
+    let here : Contains (filter (is_among ids) machines) m = filtered_member (is_among ids) machines m h.inside listed in
+    map_member (live_node s.policy s.rows.users (online_ids s.presence)) (filter (is_among ids) machines) m here
+
+fresh_order : (s : State) (m : Machine) → damage s.rows ≡ None → IsLiveRow s m → IsInOrder (fresh_for s m)
+fresh_order s m kept h = map_in_order s.settings s.policy s.rows (live_ids s) (online_ids s.presence) (node_in s m) kept (live_inside s m h)
+
+fresh_filter : (s : State) (m : Machine) → damage s.rows ≡ None → AreSoundRules (rules_of s.policy) → IsLiveRow s m → MeetsPolicy (world_of s) (node_in s m) (fresh_for s m).filter
+fresh_filter s m kept sound h = map_admits s.settings s.policy s.rows (live_ids s) (online_ids s.presence) (node_in s m) kept sound (live_inside s m h)
+
+-- ---- decisions and attaches
+
+outcome_kept : (s : State) (r : Result (Decision Answer) Refusal) (maps : List ℕ → Option View) → AreKept s maps → AreKept (outcome s r).state maps
+outcome_kept s (Err e) maps h = h
+outcome_kept s (Ok d) maps h = settled_kept s d.change d.policy d.ended d.offline maps h
+
+either_kept : (s : State) (d : AttachDecision) (maps : List ℕ → Option View) → IsEither s d → AreKept s maps → AreKept (attached_state s d) maps
+either_kept s d maps (inl on) h = subst (λ (x : AttachDecision). AreKept (attached_state s x) maps) on.2 (taken_kept s on.0 maps h)
+either_kept s d maps (inr begins) h = subst (λ (x : AttachDecision). AreKept (attached_state s x) maps) begins.3 (begun_kept s begins.0 begins.1 begins.2 maps h)
+
+attach_kept : (s : State) (r : Result AttachDecision Refusal) (maps : List ℕ → Option View) → ((d : AttachDecision) → r ≡ Ok d → IsEither s d) → AreKept s maps → AreKept (attach_turn s r).state maps
+attach_kept s (Err e) maps either h = h
+attach_kept s (Ok d) maps either h = either_kept s d maps (either d refl) h
+
+detach_kept : (s : State) (o : Option ℕ) (maps : List ℕ → Option View) → AreKept s maps → AreKept (detach_turn s o).state maps
+detach_kept s None maps h = h
+detach_kept s (Some id) maps h = record {
+  sessions = record { rise = h.sessions.rise; given = h.sessions.given; apart = h.sessions.apart; order = h.sessions.order; domain = h.sessions.domain };
+  held = record { sent = h.held.sent; coming = h.held.coming };
+}
+
+moment_kept : (s : State) (m : ℤ) (maps : List ℕ → Option View) → AreKept s maps → AreKept (at_moment s m) maps
+moment_kept s m maps h = record {
+  sessions = record { rise = h.sessions.rise; given = h.sessions.given; apart = h.sessions.apart; order = h.sessions.order; domain = h.sessions.domain };
+  held = record { sent = h.held.sent; coming = h.held.coming };
+}
+
+-- ---- drains
+
+-- a value behind a test
+some_if : {A : Type 0} (b : Bool) (x y : A) → (if b then Some x else None) ≡ Some y → (b ≡ true) × (x ≡ y)
+some_if true x y h = (refl, cc)
+some_if false x y h = absurd (cc)
+
+-- whose session is drained, and which
+record Drains (s : State) (mk : MachineKey) (handle : List ℕ) (d : DrainDecision) : Type 0 where
+  machine : Machine
+  session : Session
+  row : machine_of s.rows.machines mk.0 ≡ Some machine
+  live : IsLiveRow s machine
+  found : session_of s.sessions machine.id ≡ Some session
+  under : session.handle ≡ handle
+  is : session_drained s machine session ≡ d
+
+live_if : (s : State) (o : Option Machine) (m : Machine) → if_live s o ≡ Some m → o ≡ Some m
+live_if s None m h = absurd (cc)
+live_if s (Some r) m h = ap (λ (x : Machine). Some x) (some_if (is_live s r) r m h).1
+
+session_drains : (s : State) (mk : MachineKey) (handle : List ℕ) (m : Machine) (o : Option Session) (d : DrainDecision) → if_live s (machine_of s.rows.machines mk.0) ≡ Some m
+    → session_of s.sessions m.id ≡ o → drain_session s handle m o ≡ Some d → Drains s mk handle d
+session_drains s mk handle m None d here is h = absurd (cc)
+session_drains s mk handle m (Some x) d here is h =
+    let parts = some_if (is_drained s handle x) (session_drained s m x) d h in
+    let tests = and_parts (is_held_under s handle x) (ltb x.seq (2 ^ 63)) parts.0 in
+    let holds = and_parts _ (bytes_eq x.handle handle) tests.0 in
+    record {
+      machine = m;
+      session = x;
+      row = live_if s (machine_of s.rows.machines mk.0) m here;
+      live = live_row s mk m here;
+      found = is;
+      under = bytes_eq-true x.handle handle holds.1;
+      is = parts.1;
+    }
+
+machine_drains : (s : State) (mk : MachineKey) (handle : List ℕ) (o : Option Machine) (d : DrainDecision) → if_live s (machine_of s.rows.machines mk.0) ≡ o → drain_machine s handle o ≡ Some d → Drains s mk handle d
+machine_drains s mk handle None d is h = absurd (cc)
+machine_drains s mk handle (Some m) d is h = session_drains s mk handle m (session_of s.sessions m.id) d is refl h
+
+drains : (s : State) (mk : MachineKey) (handle : List ℕ) (d : DrainDecision) → drain s mk handle ≡ Some d → Drains s mk handle d
+drains s mk handle d h = machine_drains s mk handle (if_live s (machine_of s.rows.machines mk.0)) d refl h
+
+-- after a drain that sends something its client has the map computed afresh
+pub record Followed (s : State) (mk : MachineKey) (handle : List ℕ) (reply : Reply) (maps : List ℕ → Option View) : Type 0 where
+  pub kept : AreKept s maps
+  pub fresh : IsFreshIf reply s mk (maps handle)
+
+responses_followed : (s : State) (mk : MachineKey) (handle : List ℕ) (d : DrainDecision) (maps : List ℕ → Option View) → damage s.rows ≡ None → AreSoundRules (rules_of s.policy) → AreKept s maps
+    → Drains s mk handle d → Followed (drained_state s d) mk handle (Frames d.responses) (folded_under handle d.responses maps)
+responses_followed s mk handle d maps rows rules h x =
+    let map = fresh_for s x.machine in
+    let order = fresh_order s x.machine rows x.live in
+    let rs = responses_for x.session.handle x.session.seq x.session.sent map in
+    let made = session_at x.session map rs in
+    let here : Followed (drained_state s made) mk x.session.handle (Frames rs) (folded_under x.session.handle rs maps) = record {
+      kept = drained_kept s x.machine.id x.session map maps h x.found order refl;
+      fresh = record {
+        machine = x.machine;
+        row = x.row;
+        live = x.live.live;
+        map = drained_map s x.machine.id x.session map maps h x.found order refl;
+        filter = fresh_filter s x.machine rows rules x.live;
+      };
+    } in
+    let there : Followed (drained_state s made) mk handle (Frames rs) (folded_under handle rs maps) =
+    subst (λ (t : List ℕ). Followed (drained_state s made) mk t (Frames rs) (folded_under t rs maps)) x.under here in
+    subst (λ (e : DrainDecision). Followed (drained_state s e) mk handle (Frames e.responses) (folded_under handle e.responses maps)) x.is there
+
+nothing_sent : (b : Bool) (view : Option View) → fold_all view (if b then [] else []) ≡ view
+nothing_sent true view = refl
+nothing_sent false view = refl
+
+-- the same where nothing is sent
+quiet_kept : (s : State) (handle : List ℕ) (maps : List ℕ → Option View) → AreKept s maps → AreKept s (folded_under handle [] maps)
+quiet_kept s handle maps h = same_kept s maps (folded_under handle [] maps) (λ other. nothing_sent (bytes_eq handle other) (maps other)) h
+
+turn_followed : (s : State) (mk : MachineKey) (handle : List ℕ) (o : Option DrainDecision) (maps : List ℕ → Option View) → damage s.rows ≡ None → AreSoundRules (rules_of s.policy) → AreKept s maps
+    → drain s mk handle ≡ o → (reply : Reply) → reply ≡ (drain_turn s o).reply → Followed (drain_turn s o).state mk handle reply (folded_under handle (frames_in reply) maps)
+turn_followed s mk handle None maps rows rules h is reply e =
+    subst (λ (r : Reply). Followed s mk handle r (folded_under handle (frames_in r) maps)) (sym e) (record { kept = quiet_kept s handle maps h; fresh = tt })
+turn_followed s mk handle (Some d) maps rows rules h is reply e =
+    subst (λ (r : Reply). Followed (drained_state s d) mk handle r (folded_under handle (frames_in r) maps)) (sym e)
+    (responses_followed s mk handle d maps rows rules h (drains s mk handle d is))
+
+drain_followed : (s : State) (mk : MachineKey) (handle : List ℕ) (m : ℤ) (before after : ℕ) (reply : Reply) (maps : List ℕ → Option View) → damage s.rows ≡ None → AreSoundRules (rules_of s.policy) → AreKept s maps
+    → IsReply s (event.Drain mk handle m) before after reply → Followed (state_after s (event.Drain mk handle m) reply) mk handle reply (folded_under handle (frames_in reply) maps)
+drain_followed s mk handle m before after reply maps rows rules h is = go reply is
+  where
+    here : (r : Reply) → r ≡ (step s (event.Drain mk handle m)).reply → Followed (step s (event.Drain mk handle m)).state mk handle r (folded_under handle (frames_in r) maps)
+    here r e = turn_followed (at_moment s m) mk handle (drain (at_moment s m) mk handle) maps rows rules (moment_kept s m maps h) refl r e
+
+    go : (r : Reply) → IsReply s (event.Drain mk handle m) before after r → Followed (state_after s (event.Drain mk handle m) r) mk handle r (folded_under handle (frames_in r) maps)
+    go (Done answer) e = here (Done answer) e
+    go (Attached name seq resumed may_wait) e = here (Attached name seq resumed may_wait) e
+    go (Frames responses) e = here (Frames responses) e
+    go Ended e = here Ended e
+    go Detached e = here Detached e
+    go (Refused refusal) e = here (Refused refusal) e
+    go (Lost loss) e = record { kept = quiet_kept (at_moment s m) handle maps (moment_kept s m maps h); fresh = tt }
+
+-- ---- histories
+
+abbrev maps_after : Event → Reply → (List ℕ → Option View) → List ℕ → Option View
+maps_after e reply maps handle = fold_all (maps handle) (sent_under handle e (frames_in reply))
+
+after_kept : (s : State) (e : Event) (reply : Reply) (maps : List ℕ → Option View) → AreKept (step s e).state maps → AreKept s maps → AreKept (state_after s e reply) maps
+after_kept s e reply maps stepped h = after_any (λ (t : State). AreKept t maps) s e reply stepped (moment_kept s (moment_of e) maps h)
+
+event_followed : (s : State) (e : Event) (before after : ℕ) (reply : Reply) (maps : List ℕ → Option View) → damage s.rows ≡ None → AreSoundRules (rules_of s.policy) → AreKept s maps → IsReply s e before after reply
+    → AreKept (state_after s e reply) (maps_after e reply maps) × IsFreshAt (state_after s e reply) e reply (maps_after e reply maps)
+event_followed s (event.Ask x m words) before after reply maps rows rules h is = (
+  after_kept s (event.Ask x m words) reply maps (outcome_kept (at_moment s m) (decision (at_moment s m) x words) maps (moment_kept s m maps h)) h,
+  tt,
+)
+event_followed s (event.Attach mk node handle seq m words) before after reply maps rows rules h is = (
+  after_kept s (event.Attach mk node handle seq m words) reply maps
+      (attach_kept (at_moment s m) (attach (at_moment s m) mk node handle seq words) maps (λ d e. attach_either (at_moment s m) mk node handle seq words d e) (moment_kept s m maps h)) h,
+  tt,
+)
+event_followed s (event.Drain mk handle m) before after reply maps rows rules h is =
+    let f = drain_followed s mk handle m before after reply maps rows rules h is in
+    (f.kept, f.fresh)
+event_followed s (event.Detach mk handle m) before after reply maps rows rules h is = (
+  after_kept s (event.Detach mk handle m) reply maps (detach_kept (at_moment s m) (detach (at_moment s m) mk handle) maps (moment_kept s m maps h)) h,
+  tt,
+)
+
+-- settings, tables and the policy in force keep their rules
+pub record AreRuled (s : State) : Type 0 where
+  pub settings : AreSettings s.settings
+  pub rows : damage s.rows ≡ None
+  pub policy : IsInForce s.rows s.policy
+
+after_ruled : (s : State) (e : Event) (reply : Reply) → AreRuled s → IsShortEvent e → AreRuled (state_after s e reply)
+after_ruled s e reply r short = record {
+  settings = subst AreSettings (sym (after_settings s e reply)) r.settings;
+  rows = (after_better s e reply r.settings r.rows short).0;
+  policy = after_in_force s e reply r.settings r.rows short r.policy;
+}
+
+pub legal_followed : (s : State) (count : ℕ) (es : List Entry) (maps : List ℕ → Option View) → AreRuled s → AreKept s maps → Legal s count es → AreFollowed s maps es
+legal_followed s count [] maps r h legal = tt
+legal_followed s count (e ∷ es) maps r h legal =
+    let one = event_followed s e.event count e.after e.reply maps r.rows (force_sound s.rows s.policy r.policy) h legal.2 in
+    (one.1, legal_followed (state_after s e.event e.reply) e.after es (views_after maps e) (after_ruled s e.event e.reply r legal.1) one.0 legal.4)
+
+pub legal_kept : (s : State) (count : ℕ) (es : List Entry) (maps : List ℕ → Option View) → AreRuled s → AreKept s maps → Legal s count es → AreKept (replay s es) (views_at maps es)
+legal_kept s count [] maps r h legal = h
+legal_kept s count (e ∷ es) maps r h legal =
+    let one = event_followed s e.event count e.after e.reply maps r.rows (force_sound s.rows s.policy r.policy) h legal.2 in
+    legal_kept (state_after s e.event e.reply) e.after es (views_after maps e) (after_ruled s e.event e.reply r legal.1) one.0 legal.4
+
+-- ---- the opening state
+
+pub opening_kept : (settings : SettingsFields) (rows : Rows) (moment : ℤ) → AreKept (opening settings rows moment) (λ handle. None)
+opening_kept settings rows moment = record {
+  sessions = record {
+    rise = tt;
+    given = λ k x f. absurd (no_session x f);
+    apart = λ j k x y f g e. absurd (no_session x f);
+    order = λ k x map f e. absurd (no_session x f);
+    domain = λ k x map f e. absurd (no_session x f);
+  };
+  held = record { sent = λ k x f. absurd (no_session x f); coming = λ n words above small. refl };
+}
+  where
+    no_session : (x : Session) → None ≡ Some x → ⊥
+    no_session x f = absurd (cc)
+
+pub opening_followed : (settings : SettingsFields) (rows : Rows) (moment : ℤ) (count : ℕ) (es : List Entry) → AreSettings settings → damage rows ≡ None
+    → Legal (opening settings rows moment) count es → AreFollowed (opening settings rows moment) (λ handle. None) es
+opening_followed settings rows moment count es hold sound legal =
+    legal_followed (opening settings rows moment) count es (λ handle. None) (record { settings = hold; rows = sound; policy = refl }) (opening_kept settings rows moment) legal

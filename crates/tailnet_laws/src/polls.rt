@@ -1,0 +1,19 @@
+//! Which machines are online.
+ghost use Rattle.std.specs.Prelude.{ℕ, ℤ, List};
+ghost use Rattle.settings.specs.declared.fields.SettingsFields.{SettingsFields};
+ghost use Rattle.net_rows.specs.declared.rows.Rows.{Rows};
+ghost use Rattle.desk_state.specs.State.{State};
+ghost use Rattle.tailnet_desk.specs.History.{Legal, replay};
+ghost use Rattle.tailnet_desk.specs.Opening.{opening};
+ghost use Rattle.tailnet_desk.specs.declared.entry.Entry.{Entry};
+ghost use Rattle.tailnet_laws.specs.Online.{AreOnlineByPolls};
+
+/// In each legal history from an opening state a machine is online exactly while a poll holds its
+/// session: nothing else makes it online. It stays so from any state where it is.
+pub fn machines_are_online_by_polls()
+    ensures opened { (settings : SettingsFields) (rows : Rows) (moment : ℤ) (count : ℕ)
+        (es : List Entry) → Legal (opening settings rows moment) count es
+        → AreOnlineByPolls (replay (opening settings rows moment) es) }
+    ensures stays { (s : State) (count : ℕ) (es : List Entry) → Legal s count es
+        → AreOnlineByPolls s → AreOnlineByPolls (replay s es) }
+{}

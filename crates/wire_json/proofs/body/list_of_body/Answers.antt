@@ -1,0 +1,27 @@
+use Rattle.std.proofs.Common.{◌≡◌, ℕ, true, List, Some, None, sym, ap, ◌∙◌, cond, rules}
+use Rattle.std.specs.Prelude.{IsUtf8, is_some, Ok}
+use Rattle.std.proofs.lemmas.Bool.{false≢true}
+use Rattle.serde_json.specs.Data.{Data}
+use Rattle.serde_json.specs.Find.{as_array}
+use Rattle.serde_json.specs.Read.{read}
+use Rattle.wire_json.specs.Body.{body_value, list_at, or_fault}
+use Rattle.wire_json.specs.declared.fault.WireFault.TheVariants as fault
+use Rattle.wire_json.proofs.BodyLemmas.{body_none, body_some}
+use Rattle.wire_json.proofs.body.list_of_body.Goals as goal
+
+-- a list is taken as it is
+taken : (body : List ℕ) (d : Data) → IsUtf8 body → read body ≡ Some d → true ≡ is_some (as_array d) → list_at (body_value body) ≡ Ok d
+unfolding list_at
+taken body d text same list =
+    ap list_at (body_some body d text same) ∙ ap (λ b. or_fault {A = Data} fault.NotJson (cond b (Some d) None)) (sym list)
+
+pub returns-in-Ok : goal.returns-in-Ok
+returns-in-Ok c = record {
+  value = taken c.args.body.now _ c.in-Ok.ensures.ok.0 c.in-Ok.ensures.ok.1 (search rules);
+}
+
+pub returns-in-Err-2 : goal.returns-in-Err-2
+unfolding list_at
+returns-in-Err-2 c = record {
+  value = ap list_at (body_none c.args.body.now (c.in-Err.ensures.err (λ m. false≢true (c.if-is_memory.ensures.1 m))));
+}
