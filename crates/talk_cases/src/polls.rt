@@ -1,7 +1,6 @@
-//! Polls: what their streams hold, when a session goes on, and what one leaves behind.
-use run_ends::Closed;
+//! Polls: what their streams hold, and when a session goes on.
 use std::test::Fail;
-use talk_runs::{first_not_held, served_twice, talk_bytes};
+use talk_runs::first_not_held;
 
 const POLLS: &str = r#"= first-poll
 > POST /machine/register mkey:%1 {"Auth":{"AuthKey":"k1"},"Hostinfo":{"Hostname":"Alice's MacBook Pro!"},"NodeKey":"nodekey:%a"}
@@ -299,30 +298,5 @@ x"#;
 #[test]
 fn each_write_of_a_poll_fails_in_turn(rt: HostRuntime) -> Result<(), Fail> {
     assert_eq!(rt; first_not_held(rt.alloc(), FAULTS)?, None);
-    Ok(())
-}
-
-/// A poll, whose writes are those from the fourth on: head, frame, last chunk.
-const FIRST: &str = r#"> POST /api/v1/user Bearer/secret {"name":"ann"}
-> POST /api/v1/preauthkey Bearer/secret {"user":"ann@"}
-> POST /machine/register mkey:%1 {"Auth":{"AuthKey":"tnkey-1-0000000000000001000000000000000200000000000000030000000000000004"},"NodeKey":"nodekey:%a"}
-> POST /machine/map mkey:%1 {"NodeKey":"nodekey:%a","Stream":true}"#;
-
-const SECOND: &str = r#"> GET /api/v1/node Bearer/secret
-< 200 {"nodes":[{"addresses":["100.64.0.1","fd7a:115c:a1e0::1"],"advertised":[],"approved":[],"expiry":"0001-01-01T00:00:00Z","id":1,"live":true,"name":"node","online":false,"served":[],"tags":[],"user":"ann@"}]}
-> POST /machine/map mkey:%1 {"MapSessionHandle":"s1-0000000000000001","MapSessionSeq":1,"NodeKey":"nodekey:%a","Stream":true}
-< stream
-+ {"MapSessionHandle":"s1-0000000000000001"}
-."#;
-
-#[test]
-fn a_failed_write_leaves_the_machine_offline(rt: HostRuntime) -> Result<(), Fail> {
-    let (first, _answers) = talk_bytes(rt.alloc(), FIRST)?;
-    let (second, answers) = talk_bytes(rt.alloc(), SECOND)?;
-    for write in 4u32..7 {
-        let (closed, output) = served_twice(rt.alloc(), &first, write, &second)?;
-        assert!(rt; closed == Closed::WriteFault, "{write}");
-        assert!(rt; output.bytes() == answers.as_slice(), "{write}");
-    }
     Ok(())
 }
