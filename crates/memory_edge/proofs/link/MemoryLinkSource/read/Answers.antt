@@ -1,8 +1,8 @@
 use Rattle.std.proofs.Common.{◌≡◌, ◌≤◌, ℕ, Some, List, length, take, drop, ◌+◌, ◌-◌, ◌++◌, ap, sym, ◌∙◌, arith, length-take, length-drop}
 use Rattle.std.proofs.lemmas.Grind.{common_steps}
 use Rattle.std.proofs.lemmas.List.{take-append-le, take-append-drop, drop-drop}
-use Rattle.memory_link.specs.declared.link.MemoryLink.{MemoryLink}
-use Rattle.memory_link.proofs.link.MemoryLinkSource.read.Goals as goal
+use Rattle.memory_edge.specs.declared.link.MemoryLink.{MemoryLink}
+use Rattle.memory_edge.proofs.link.MemoryLinkSource.read.Goals as goal
 
 -- what was copied, and then the rest, is what was left
 moved : (b z x : List ℕ) (at n : ℕ) → at + n ≤ length b → x ≡ take n (drop at b) → take n (x ++ z) ++ drop (at + n) b ≡ drop at b
