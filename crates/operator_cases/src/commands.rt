@@ -84,8 +84,15 @@ fn call_of(alloc: Global, words: &str) -> Result<OperatorCall, Fail> {
 
 /// Runs a command, and gives the number of its status.
 fn ran(alloc: Global, call: &OperatorCall, given: &mut Given) -> u8 {
-    let Given { output, errors, files, link } = given;
-    operator_command(alloc, call, output, errors, files, link).number()
+    let status = operator_command(
+        alloc,
+        call,
+        &mut given.output,
+        &mut given.errors,
+        &mut given.files,
+        &mut given.link,
+    );
+    status.number()
 }
 
 /// What was written, with `|` for a line feed and `_` for nothing.
@@ -132,6 +139,34 @@ fn what_a_link_is_asked(rt: HostRuntime) -> Result<(), Fail> {
     assert!(rt; asked.len() == 1);
     for address in asked {
         assert!(rt; address.as_str() == "s");
+    }
+    Ok(())
+}
+
+/// The number of a command's status that gets this answer, where that write of the output and of errors fails.
+fn number_told(alloc: Global, line: &str, write: u32) -> Result<u8, Fail> {
+    let call = call_of(alloc, "node-list")?;
+    let answer = bytes_of(alloc, line)?;
+    let mut given = given_of(alloc, &answer, 0).ok().ok_or("memory")?;
+    given.output = failing_sink(alloc, write)?;
+    given.errors = failing_sink(alloc, write)?;
+    Ok(ran(alloc, &call, &mut given))
+}
+
+fn failing_sink(alloc: Global, write: u32) -> Result<MemorySink, Fail> {
+    let mut fails = Items::new(alloc);
+    fails.push(write).ok().ok_or("memory")?;
+    Ok(MemorySink::new(alloc, fails))
+}
+
+#[test]
+fn an_answer_that_cannot_be_told(rt: HostRuntime) -> Result<(), Fail> {
+    let alloc = rt.alloc();
+    for (write, told, refused) in [(1, 5, 5), (2, 5, 5), (3, 0, 10)] {
+        let status = number_told(alloc, "HTTP/1.1 200 OK|Content-Length: 2||{}", write)?;
+        assert!(rt; status == told, "{write}");
+        let status = number_told(alloc, "HTTP/1.1 404 x|Content-Length: 2||{}", write)?;
+        assert!(rt; status == refused, "{write}");
     }
     Ok(())
 }

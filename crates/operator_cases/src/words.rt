@@ -11,10 +11,13 @@ const ASKED: &str = r#"pipe a.toml = pipe a.toml
 pipe a.toml --seed k1 = pipe a.toml k1
 pipe --seed k1 a.toml = pipe a.toml k1
 pipe --seed=k1 a.toml = pipe a.toml k1
+pipe a.toml --seed=k1 = pipe a.toml k1
+pipe --seed k1 -- a.toml = pipe a.toml k1
 pipe -- a.toml = pipe a.toml
 pipe -- -a = pipe -a
 pipe --seed=-k a.toml = pipe a.toml -k
 policy-check a.hujson = policy-check a.hujson
+policy-check -- -a = policy-check -a
 user-list --server s --token t = GET /api/v1/user
 user-list --token=t --server=s = GET /api/v1/user
 user-add Ann --server s --token t = POST /api/v1/user {"name":"Ann"}
@@ -57,8 +60,19 @@ pipe a.toml b = none
 pipe --seed a.toml = none
 pipe a.toml --seed = none
 pipe a.toml --seed _ = none
+pipe a.toml --seed= = none
+pipe a.toml --seed k1 _ = none
+pipe a.toml --seed k1 b = none
+pipe --seed k1 = none
+pipe a.toml --seed -k = none
+pipe a.toml --seed ké = none
+pipe a.toml --server s = none
 pipe a.toml --seed=k1 --seed=k2 = none
 pipe a.toml --help = none
+policy-check = none
+policy-check a.hujson b = none
+policy-check a.hujson --seed k1 = none
+policy-check --seed k1 a.hujson = none
 policy-check -h = none
 NODE-LIST --server s --token t = none
 node-list --server s = none
