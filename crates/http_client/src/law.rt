@@ -1,7 +1,10 @@
-//! What the definition of a byte string's answer comes to. None of these functions does anything:
+//! What the definitions of a byte string's answer and of a token come to. None of these functions does anything:
 //! each states a law.
-ghost use Rattle.std.specs.Prelude.{◌≡◌, ◌<◌, ◌≤◌, ℕ, Bool, List, [], ◌++◌, length, Option, Some};
+ghost use Rattle.std.specs.Prelude.{◌≡◌, ◌<◌, ◌≤◌, ℕ, Bool, not, List, [], ◌++◌, length, Option, Some};
+ghost use Rattle.percent_encoding.specs.AsciiSet.{should_percent_encode};
 ghost use Rattle.http_front.specs.AnswerBytes.{answer};
+ghost use Rattle.http_client.specs.Asks.{is_token_byte};
+ghost use Rattle.http_client.specs.declared.asking.TheConstants.{TOKEN_ESCAPED};
 ghost use Rattle.http_client.specs.declared.answer.ServerAnswer.{ServerAnswer};
 ghost use Rattle.http_client.specs.declared.answer.TakenAnswer.{TakenAnswer};
 ghost use Rattle.http_client.specs.Answers.{IsBadAnswer, IsPartOfAnswer, IsWholeAnswer};
@@ -40,4 +43,11 @@ pub fn answers_come_back()
         → 100 ≤ status → status < 1000 → length body ≤ answer_limit
         → TakesAnswer (Some (answer status body close ++ rest)) left [] held taken
         → IsThatAnswer (sent_answer status body) taken }
+{}
+
+/// In its field line every byte of a token is percent-encoded but visible ASCII, so that no byte of it
+/// ends the line.
+pub fn tokens_are_escaped()
+    ensures escaped { (b : ℕ) → b < 256
+        → should_percent_encode TOKEN_ESCAPED b ≡ not (is_token_byte b) }
 {}

@@ -11,5 +11,5 @@ mod stepping;
 
 pub use answer::{ServerAnswer, TakenAnswer};
 pub use asking::ask_bytes;
-pub use law::{answers_come_back, answers_stay, one_answer};
+pub use law::{answers_come_back, answers_stay, one_answer, tokens_are_escaped};
 pub use reading::read_answer;

@@ -53,7 +53,9 @@ fn line_of(alloc: Global, bytes: &[u8]) -> Result<String, Fail> {
     let mut buffer = Buffer::new(alloc).ok().ok_or("memory")?;
     let line = match read_answer(alloc, &mut source, &mut buffer) {
         TakenAnswer::Answer(answer) => {
-            let text = std::str::from_utf8(answer.body.as_slice()).ok().ok_or("text")?;
+            let text = std::str::from_utf8(answer.body.as_slice())
+                .ok()
+                .ok_or("text")?;
             let body = if text == "" { "_" } else { text };
             format!(in alloc; "{} {body}", answer.status)?
         }
@@ -78,7 +80,10 @@ fn what_bytes_answer(rt: HostRuntime) -> Result<(), Fail> {
 
 #[test]
 fn an_answer_cut_at_each_byte(rt: HostRuntime) -> Result<(), Fail> {
-    let bytes = bytes_of(rt.alloc(), "HTTP/1.1 200 OK|Content-Length: 12||{\"nodes\":[]}")?;
+    let bytes = bytes_of(
+        rt.alloc(),
+        "HTTP/1.1 200 OK|Content-Length: 12||{\"nodes\":[]}",
+    )?;
     for end in 0..bytes.len() {
         let read = line_of(rt.alloc(), &bytes[..end])?;
         assert!(rt; read.as_str() == "cut", "{end} gave {read}");

@@ -1,7 +1,7 @@
 //! Whole commands over a link in memory.
-use command_words::{Invocation, OperatorCall, read_invocation};
 use crate::answers::bytes_of;
 use crate::words::words_of;
+use command_words::{Invocation, OperatorCall, read_invocation};
 use io_edge::{MemoryFiles, MemorySink, NamedBytes};
 use memory_edge::MemoryLink;
 use operator_commands::operator_command;
@@ -108,7 +108,9 @@ fn shown(alloc: Global, bytes: &[u8]) -> Result<String, Fail> {
 fn line_of(alloc: Global, words: &str, answer: &str, fails: &str) -> Result<String, Fail> {
     let call = call_of(alloc, words)?;
     let number = fails.parse::<u32>().ok().ok_or("number")?;
-    let mut given = given_of(alloc, &bytes_of(alloc, answer)?, number).ok().ok_or("memory")?;
+    let mut given = given_of(alloc, &bytes_of(alloc, answer)?, number)
+        .ok()
+        .ok_or("memory")?;
     let status = ran(alloc, &call, &mut given);
     let output = shown(alloc, given.output.bytes())?;
     let errors = shown(alloc, given.errors.bytes())?;
@@ -134,7 +136,10 @@ fn what_a_link_is_asked(rt: HostRuntime) -> Result<(), Fail> {
     let answer = bytes_of(alloc, "HTTP/1.1 200 OK|Content-Length: 2||{}more")?;
     let mut given = given_of(alloc, &answer, 0).ok().ok_or("memory")?;
     assert!(rt; ran(alloc, &call, &mut given) == 0);
-    assert!(rt; given.link.written() == b"GET /api/v1/node HTTP/1.1\r\nHost: tailnetd\r\nAuthorization: Bearer t\r\nConnection: close\r\n\r\n".as_slice());
+    assert!(rt;
+        given.link.written()
+            == b"GET /api/v1/node HTTP/1.1\r\nHost: tailnetd\r\nAuthorization: Bearer t\r\nConnection: close\r\n\r\n".as_slice()
+    );
     let asked = given.link.asked();
     assert!(rt; asked.len() == 1);
     for address in asked {

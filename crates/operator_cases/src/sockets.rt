@@ -35,7 +35,10 @@ fn nobody_listens_at_a_port(rt: HostRuntime) -> Result<(), Fail> {
     drop(listener);
     let address = format!(in alloc; "127.0.0.1:{port}")?;
     let mut link = TcpLink::new(rt);
-    let failed = matches!(link.connect(alloc, address.as_str()), Err(EdgeFault::Failed));
+    let failed = matches!(
+        link.connect(alloc, address.as_str()),
+        Err(EdgeFault::Failed)
+    );
     assert!(rt; failed);
     Ok(())
 }

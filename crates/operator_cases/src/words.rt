@@ -103,7 +103,9 @@ pub(crate) fn words_of(alloc: Global, line: &str) -> Result<Vec<String>, Fail> {
 
 /// What a request says, with `FILE` as the bytes of a file.
 fn request_line(alloc: Global, call: &OperatorCall) -> Result<String, Fail> {
-    let request = operator_request(alloc, &call.command, b"FILE").ok().ok_or("memory")?;
+    let request = operator_request(alloc, &call.command, b"FILE")
+        .ok()
+        .ok_or("memory")?;
     let mut line = String::from_str(alloc, request.method.name())?;
     line.push_str(" ")?;
     line.push_str(request.path.as_str())?;
@@ -178,10 +180,20 @@ fn a_seed_key_has_a_length(rt: HostRuntime) -> Result<(), Fail> {
 #[test]
 fn bytes_of_requests(rt: HostRuntime) -> Result<(), Fail> {
     let alloc = rt.alloc();
-    let get = ask_bytes(alloc, "GET", "/api/v1/node", b"secret", None).ok().ok_or("memory")?;
-    assert!(rt; get.as_slice() == b"GET /api/v1/node HTTP/1.1\r\nHost: tailnetd\r\nAuthorization: Bearer secret\r\nConnection: close\r\n\r\n".as_slice());
+    let get = ask_bytes(alloc, "GET", "/api/v1/node", b"secret", None)
+        .ok()
+        .ok_or("memory")?;
+    assert!(rt;
+        get.as_slice()
+            == b"GET /api/v1/node HTTP/1.1\r\nHost: tailnetd\r\nAuthorization: Bearer secret\r\nConnection: close\r\n\r\n".as_slice()
+    );
     let body = Bytes::from_slice(alloc, b"{}").ok().ok_or("memory")?;
-    let post = ask_bytes(alloc, "POST", "/p", b"a b\xff", Some(body.as_slice())).ok().ok_or("memory")?;
-    assert!(rt; post.as_slice() == b"POST /p HTTP/1.1\r\nHost: tailnetd\r\nAuthorization: Bearer a%20b%FF\r\nConnection: close\r\nContent-Type: application/json\r\nContent-Length: 2\r\n\r\n{}".as_slice());
+    let post = ask_bytes(alloc, "POST", "/p", b"a b\xff", Some(body.as_slice()))
+        .ok()
+        .ok_or("memory")?;
+    assert!(rt;
+        post.as_slice()
+            == b"POST /p HTTP/1.1\r\nHost: tailnetd\r\nAuthorization: Bearer a%20b%FF\r\nConnection: close\r\nContent-Type: application/json\r\nContent-Length: 2\r\n\r\n{}".as_slice()
+    );
     Ok(())
 }

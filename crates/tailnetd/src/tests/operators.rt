@@ -50,7 +50,11 @@ fn an_answer_is_written(rt: HostRuntime) -> Result<(), Fail> {
     let alloc = rt.alloc();
     let words = words_of(alloc, "node-list --server s --token secret")?;
     let mut given = new_outside(alloc, NO_NODES.as_bytes(), 0)?;
-    let left = Left { number: 0, output: "{\"nodes\":[]}\n", errors: "" };
+    let left = Left {
+        number: 0,
+        output: "{\"nodes\":[]}\n",
+        errors: "",
+    };
     assert_left(&rt, alloc, &words, &mut given, &left);
     assert!(rt; given.link.written() == NODES_ASKED);
     assert!(rt; given.link.asked().len() == 1);
@@ -63,7 +67,11 @@ fn a_refusal_is_written_on_errors(rt: HostRuntime) -> Result<(), Fail> {
     let words = words_of(alloc, "node-list --server s --token secret")?;
     let answer = b"HTTP/1.1 401 Unauthorized\r\nContent-Length: 13\r\n\r\n{\"error\":\"x\"}";
     let mut given = new_outside(alloc, answer, 0)?;
-    let left = Left { number: 10, output: "", errors: "{\"error\":\"x\"}\n" };
+    let left = Left {
+        number: 10,
+        output: "",
+        errors: "{\"error\":\"x\"}\n",
+    };
     assert_left(&rt, alloc, &words, &mut given, &left);
     assert!(rt; given.link.written() == NODES_ASKED);
     Ok(())
@@ -74,7 +82,11 @@ fn an_id_of_0_is_no_command(rt: HostRuntime) -> Result<(), Fail> {
     let alloc = rt.alloc();
     let words = words_of(alloc, "node-del 0 --server s --token t")?;
     let mut given = new_outside(alloc, NO_NODES.as_bytes(), 0)?;
-    let left = Left { number: 2, output: "", errors: "tailnetd: usage\n" };
+    let left = Left {
+        number: 2,
+        output: "",
+        errors: "tailnetd: usage\n",
+    };
     assert_left(&rt, alloc, &words, &mut given, &left);
     assert!(rt; given.link.asked().is_empty());
     assert!(rt; given.link.written().is_empty());
@@ -87,7 +99,11 @@ fn of_an_answer_that_is_cut_nothing_is_written(rt: HostRuntime) -> Result<(), Fa
     let words = words_of(alloc, "node-list --server s --token secret")?;
     let answer = b"HTTP/1.1 200 OK\r\nContent-Length: 12\r\n\r\n{\"nod";
     let mut given = new_outside(alloc, answer, 0)?;
-    let left = Left { number: 4, output: "", errors: READ_FAULT };
+    let left = Left {
+        number: 4,
+        output: "",
+        errors: READ_FAULT,
+    };
     assert_left(&rt, alloc, &words, &mut given, &left);
     Ok(())
 }
@@ -114,7 +130,11 @@ fn each_call_of_the_link_fails_in_turn(rt: HostRuntime) -> Result<(), Fail> {
         (4, 4, READ_FAULT),
     ] {
         let mut given = new_outside(alloc, &answer, call)?;
-        let left = Left { number, output: "", errors };
+        let left = Left {
+            number,
+            output: "",
+            errors,
+        };
         assert_left(&rt, alloc, &words, &mut given, &left);
     }
     let mut given = new_outside(alloc, &answer, 5)?;
