@@ -3,6 +3,7 @@ use http_client::{TakenAnswer, read_answer};
 use http_front::Buffer;
 use io_edge::MemorySource;
 use std::alloc::Global;
+use std::process::Abort;
 use std::test::Fail;
 use tail_base::{Bytes, Items};
 
@@ -78,15 +79,27 @@ fn what_bytes_answer(rt: HostRuntime) -> Result<(), Fail> {
     Ok(())
 }
 
-#[test]
-fn an_answer_cut_at_each_byte(rt: HostRuntime) -> Result<(), Fail> {
-    let bytes = bytes_of(
-        rt.alloc(),
-        "HTTP/1.1 200 OK|Content-Length: 12||{\"nodes\":[]}",
-    )?;
+/// Asserts that each front of the bytes is cut, or already what they are.
+fn assert_fronts(rt: &impl Abort, alloc: Global, bytes: &[u8], wanted: &str) -> Result<(), Fail> {
+    let mut settled = false;
     for end in 0..bytes.len() {
-        let read = line_of(rt.alloc(), &bytes[..end])?;
-        assert!(rt; read.as_str() == "cut", "{end} gave {read}");
+        let read = line_of(alloc, &bytes[..end])?;
+        settled = settled || read.as_str() != "cut";
+        let expected = if settled { wanted } else { "cut" };
+        assert!(rt;
+            read.as_str() == expected,
+            "{end} bytes of {wanted} gave {read}"
+        );
+    }
+    Ok(())
+}
+
+#[test]
+fn bytes_cut_at_each_byte(rt: HostRuntime) -> Result<(), Fail> {
+    for line in ANSWERS.lines() {
+        let (text, wanted) = line.split_once(" = ").ok_or("no line")?;
+        let bytes = bytes_of(rt.alloc(), text)?;
+        assert_fronts(&rt, rt.alloc(), &bytes, wanted)?;
     }
     Ok(())
 }
