@@ -7,6 +7,7 @@ use std::test::Fail;
 use std::thread::Threads;
 
 /// What a run leaves: the number of its status, and what is on the output and on errors.
+#[derive(Clone, Copy)]
 struct Left<'a> {
     number: u8,
     output: &'a str,
