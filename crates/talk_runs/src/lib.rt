@@ -4,5 +4,8 @@
 mod runs;
 mod talks;
 
-pub use runs::{CALM, PipeRun, Plan, SETTINGS, piped, piped_at, piped_over, tables_with};
-pub use talks::{cut, first_not_held, talk_bytes};
+pub use runs::{
+    CALM, PipeRun, Plan, SETTINGS, entropy_of, failing, files_of, piped, piped_at, piped_over,
+    tables_with,
+};
+pub use talks::{Talk, cut, first_not_held, talk_bytes, talks_of};
