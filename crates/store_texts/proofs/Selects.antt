@@ -2,7 +2,7 @@
 use Rattle.std.proofs.Common.{refl}
 use Rattle.sqlite_tied.specs.Compute.{everything}
 use Rattle.sqlite.specs.Given.{IsPlain}
-use Rattle.sqlite.specs.Listing.{understood}
+use Rattle.sqlite.specs.Listing.{listing_schema, understood}
 use Rattle.store_texts.specs.Commands.{select_meta, select_users, select_auth_keys, select_pending, select_machines, select_extras, select_policy}
 use Rattle.store_texts.specs.Means.{Means}
 use Rattle.store_texts.specs.Schema.{no_schema}
@@ -38,5 +38,5 @@ select_policy_means = record { command_is = refl; whole = refl; plain = (refl, r
 
 -- a database without tables is asked for their names, and for nothing else
 pub select_schema_plain : IsPlain (understood no_schema select_schema_text)
-unfolding understood everything
+unfolding understood listing_schema everything
 select_schema_plain = (refl, refl)

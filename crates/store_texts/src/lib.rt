@@ -23,8 +23,7 @@ pub use laws::{
 };
 pub use select::{
     select_auth_keys, select_extras, select_machines, select_meta, select_pending, select_policy,
-    select_schema,
-    select_users,
+    select_schema, select_users,
 };
 pub use update::{
     update_auth_keys, update_machines, update_meta, update_pending, update_policy, update_users,
