@@ -4,12 +4,12 @@
 
 mod commits;
 mod creation;
+mod database_row;
 mod fault;
-mod kept;
 mod sql;
 mod values;
 
 pub use commits::commit;
 pub use creation::{FIRST, create};
+pub use database_row::DatabaseRow;
 pub use fault::Fault;
-pub use kept::Kept;

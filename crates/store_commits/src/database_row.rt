@@ -14,7 +14,7 @@ use store_texts::{
 use tail_base::{Items, NoMemory};
 
 /// Rows that are kept under an id.
-pub trait Kept: Drop + Sized {
+pub trait DatabaseRow: Drop + Sized {
     /// The row as it is stored.
     ghost cells: { Self → List Cell };
 
@@ -37,7 +37,7 @@ pub trait Kept: Drop + Sized {
         ensures value { IfOk result (λ made. made ≡ cells self.now) };
 }
 
-impl Kept for User {
+impl DatabaseRow for User {
     ghost cells = { user_cells };
 
     ghost update_text = { update_users_text };
@@ -57,7 +57,7 @@ impl Kept for User {
     }
 }
 
-impl Kept for AuthKey {
+impl DatabaseRow for AuthKey {
     ghost cells = { auth_key_cells };
 
     ghost update_text = { update_auth_keys_text };
@@ -77,7 +77,7 @@ impl Kept for AuthKey {
     }
 }
 
-impl Kept for Pending {
+impl DatabaseRow for Pending {
     ghost cells = { pending_cells };
 
     ghost update_text = { update_pending_text };
@@ -97,7 +97,7 @@ impl Kept for Pending {
     }
 }
 
-impl Kept for Machine {
+impl DatabaseRow for Machine {
     ghost cells = { machine_cells };
 
     ghost update_text = { update_machines_text };
