@@ -10,8 +10,8 @@ ghost use Rattle.store_commits.specs.Gone.{gone_text, gone_id};
 ghost use Rattle.store_commits.specs.Kept.{HoldsMade, IsAdded, Makes, value_of};
 ghost use Rattle.store_commits.specs.Pending.{IsPending, IsSettled, Leaves};
 
-use crate::fault::Fault;
 use crate::database_row::DatabaseRow;
+use crate::fault::Fault;
 use crate::sql::run;
 use crate::values::{id_value, values_of};
 use net_rows::{Change, Counters, Row, RowKey};
@@ -93,7 +93,11 @@ fn put_cells<S: Alter>(
 
 /// Puts the row of an id.
 #[tactic(auto, using(crate::proofs::Pending::nothing, crate::proofs::Pending::then))]
-fn put<T: DatabaseRow, S: Alter>(tx: &mut Transaction<'_, S>, alloc: Global, row: &T) -> Result<(), Fault>
+fn put<T: DatabaseRow, S: Alter>(
+    tx: &mut Transaction<'_, S>,
+    alloc: Global,
+    row: &T,
+) -> Result<(), Fault>
     ensures same_reference { tx.new.conn.ghost_name ≡ tx.old.conn.ghost_name }
     ensures pending { IsPending S.Store tx.old.conn.now tx.new.conn.now (is_ok result) }
     ensures put { HasCleanDisk (state S.Store tx.new.conn.now) → OnOk result (IsPutBy
