@@ -2,13 +2,13 @@
 ghost use Rattle.std.specs.Prelude.{◌≡◌, ◌≤◌, None, Err, false, is_ok, IsTrue, IfOk, IfErr, OnOk, OnErr, IsErrOf};
 ghost use Rattle.io_edge.specs.Edge.{Rose};
 ghost use Rattle.net_rows.specs.Damage.{damage};
-ghost use Rattle.net_rows.specs.Rows.{after};
+ghost use Rattle.net_rows.specs.Rows.{after, empty_rows};
 ghost use Rattle.net_rows.specs.declared.rows.Rows.{Rows};
-ghost use Rattle.store_commits.specs.Kept.{HoldsMade, Keeps, Makes};
+ghost use Rattle.store_commits.specs.Kept.{AreStored, HoldsMade, Keeps, Makes};
 ghost use Rattle.store_commits.specs.Pending.{IsSettled, Leaves};
 ghost use Rattle.store_reads.specs.Readable.{AreReadable, IsOutside};
 ghost use Rattle.store_reads.specs.Seen.{IsSeen};
-ghost use Rattle.store_texts.specs.Schema.{schema_1};
+ghost use Rattle.store_texts.specs.Schema.{no_schema, schema_1};
 ghost use Rattle.sqlite.specs.Held.{state};
 ghost use Rattle.sqlite.specs.State.{HasCleanDisk, Survives};
 
@@ -78,7 +78,17 @@ impl<S: Alter> SqliteKeeper<S> {
             → Keeps (state S.Store self.old.conn).now rows → AreReadable rows
             → damage rows ≡ None → IfErr result IsOutside }
         ensures seen { (state S.Store self.old.conn).now.schema ≡ schema_1
-            → IsSeen (state S.Store self.old.conn) (state S.Store self.new.conn) (is_ok result) }
+            → IsSeen schema_1 (state S.Store self.old.conn) (state S.Store self.new.conn)
+            (is_ok result) }
+        ensures first { HasCleanDisk (state S.Store self.new.conn)
+            → (state S.Store self.old.conn).now.schema ≡ no_schema
+            → IfOk result (λ tables. tables.rows ≡ empty_rows) }
+        ensures first_whole { HasCleanDisk (state S.Store self.new.conn)
+            → (state S.Store self.old.conn).now.schema ≡ no_schema → IfErr result IsOutside }
+        ensures first_crash { HasCleanDisk (state S.Store self.new.conn)
+            → (state S.Store self.old.conn).now.schema ≡ no_schema
+            → Survives (state S.Store self.old.conn) (state S.Store self.new.conn)
+            (λ trees. AreStored trees empty_rows) }
         ensures taken { OnOk result (IsTrue self.new.is_loaded) }
         ensures calls { self.new.calls ≡ self.old.calls }
         ensures later { self.old.faults ≤ self.new.faults }

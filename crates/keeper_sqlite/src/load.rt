@@ -4,20 +4,28 @@ ghost use Rattle.net_rows.specs.Damage.{damage};
 ghost use Rattle.net_rows.specs.Rows.{empty_rows};
 ghost use Rattle.net_rows.specs.declared.rows.Rows.{Rows};
 ghost use Rattle.sqlite.specs.Held.{state};
-ghost use Rattle.sqlite.specs.State.{HasCleanDisk};
-ghost use Rattle.store_commits.specs.Kept.{Keeps};
+ghost use Rattle.sqlite.specs.State.{HasCleanDisk, Survives};
+ghost use Rattle.store_commits.specs.Kept.{AreStored, Keeps};
 ghost use Rattle.store_reads.specs.Readable.{AreReadable, Fills, IsOutside};
 ghost use Rattle.store_reads.specs.Seen.{IsSeen};
 ghost use Rattle.store_texts.specs.Schema.{no_schema, schema_1};
 
 use crate::schema::{is_empty, is_schema_1};
-use net_rows::{Damage, Kind, Tables};
+use net_rows::{Damage, Kind, Rows, Tables};
 use row_keeper::LoadFault;
-use sqlite::{Alter, Connection};
+use sqlite::{Alter, Connection, Row};
 use std::alloc::Global;
 use store_commits::{Fault, create};
 use store_reads::{load_fault, read_rows, rows_of};
 use store_texts::select_schema;
+
+/// What a database lists, whatever it is.
+fn listed<S: Alter>(conn: &mut Connection<S>) -> Result<Vec<Row>, Fault>
+    ensures seen { IsSeen no_schema (state S.Store conn.old) (state S.Store conn.new)
+        (is_ok result) }
+{
+    rows_of(conn, select_schema())
+}
 
 /// Makes the tables in a database that has nothing. One that has what the store doesn't read is left
 /// as it is.
@@ -25,12 +33,16 @@ fn make<S: Alter>(conn: &mut Connection<S>, alloc: Global) -> Result<(), Fault>
     ensures made { HasCleanDisk (state S.Store conn.new)
         → (state S.Store conn.old).now.schema ≡ no_schema
         → OnOk result (Keeps (state S.Store conn.new).now empty_rows) }
+    ensures crash { HasCleanDisk (state S.Store conn.new)
+        → (state S.Store conn.old).now.schema ≡ no_schema
+        → Survives (state S.Store conn.old) (state S.Store conn.new)
+        (λ trees. AreStored trees empty_rows) }
 {
-    let listed = rows_of(conn, select_schema())?;
-    if !listed.is_empty() {
-        return Err(Fault::Failed);
+    match listed(conn) {
+        Ok(listed) if listed.is_empty() => create(conn, alloc),
+        Ok(_) => Err(Fault::Failed),
+        Err(fault) => Err(fault),
     }
-    create(conn, alloc)
 }
 
 /// Sees that the database has our tables and nothing else.
@@ -54,6 +66,10 @@ fn make_first<S: Alter>(conn: &mut Connection<S>, alloc: Global) -> Result<(), L
     ensures first { HasCleanDisk (state S.Store conn.new)
         → (state S.Store conn.old).now.schema ≡ no_schema
         → Fills result (Keeps (state S.Store conn.new).now empty_rows) }
+    ensures crash { HasCleanDisk (state S.Store conn.new)
+        → (state S.Store conn.old).now.schema ≡ no_schema
+        → Survives (state S.Store conn.old) (state S.Store conn.new)
+        (λ trees. AreStored trees empty_rows) }
 {
     match make(conn, alloc) {
         Ok(()) => require_ours(conn),
@@ -70,6 +86,10 @@ fn prepare<S: Alter>(conn: &mut Connection<S>, alloc: Global) -> Result<(), Load
     ensures first { HasCleanDisk (state S.Store conn.new)
         → (state S.Store conn.old).now.schema ≡ no_schema
         → Fills result (Keeps (state S.Store conn.new).now empty_rows) }
+    ensures crash { HasCleanDisk (state S.Store conn.new)
+        → (state S.Store conn.old).now.schema ≡ no_schema
+        → Survives (state S.Store conn.old) (state S.Store conn.new)
+        (λ trees. AreStored trees empty_rows) }
 {
     if is_empty(conn.schema()) {
         make_first(conn, alloc)
@@ -78,7 +98,62 @@ fn prepare<S: Alter>(conn: &mut Connection<S>, alloc: Global) -> Result<(), Load
     }
 }
 
+/// The tables of these rows; the first rule that they break is their damage.
+fn tables_of(rows: Rows) -> Result<Tables, LoadFault>
+    ensures ok { IfOk result (λ tables. tables.rows ≡ rows) }
+    ensures whole { damage rows ≡ None → IfErr result IsOutside }
+{
+    match Tables::checked(rows) {
+        Ok(tables) => Ok(tables),
+        Err(Damage { kind, id }) => Err(LoadFault::Damaged { kind, id }),
+    }
+}
+
+/// The tables that a database of schema 1 keeps.
+fn read_tables<S: Alter>(conn: &mut Connection<S>, alloc: Global) -> Result<Tables, LoadFault>
+    ensures seen { IsSeen schema_1 (state S.Store conn.old) (state S.Store conn.new)
+        (is_ok result) }
+    ensures loaded { HasCleanDisk (state S.Store conn.new) → (rows : Rows)
+        → Keeps (state S.Store conn.old).now rows → AreReadable rows
+        → IfOk result (λ tables. tables.rows ≡ rows) }
+    ensures whole { HasCleanDisk (state S.Store conn.new) → (rows : Rows)
+        → Keeps (state S.Store conn.old).now rows → AreReadable rows → damage rows ≡ None
+        → IfErr result IsOutside }
+{
+    match read_rows(conn, alloc) {
+        Ok(rows) => tables_of(rows),
+        Err(fault) => Err(fault),
+    }
+}
+
+/// The same where the database may have nothing: its tables are made first.
+fn load_tables<S: Alter>(conn: &mut Connection<S>, alloc: Global) -> Result<Tables, LoadFault>
+    ensures seen { (state S.Store conn.old).now.schema ≡ schema_1
+        → IsSeen schema_1 (state S.Store conn.old) (state S.Store conn.new) (is_ok result) }
+    ensures loaded { HasCleanDisk (state S.Store conn.new) → (rows : Rows)
+        → Keeps (state S.Store conn.old).now rows → AreReadable rows
+        → IfOk result (λ tables. tables.rows ≡ rows) }
+    ensures whole { HasCleanDisk (state S.Store conn.new) → (rows : Rows)
+        → Keeps (state S.Store conn.old).now rows → AreReadable rows → damage rows ≡ None
+        → IfErr result IsOutside }
+    ensures first { HasCleanDisk (state S.Store conn.new)
+        → (state S.Store conn.old).now.schema ≡ no_schema
+        → IfOk result (λ tables. tables.rows ≡ empty_rows) }
+    ensures first_whole { HasCleanDisk (state S.Store conn.new)
+        → (state S.Store conn.old).now.schema ≡ no_schema → IfErr result IsOutside }
+    ensures first_crash { HasCleanDisk (state S.Store conn.new)
+        → (state S.Store conn.old).now.schema ≡ no_schema
+        → Survives (state S.Store conn.old) (state S.Store conn.new)
+        (λ trees. AreStored trees empty_rows) }
+{
+    match prepare(conn, alloc) {
+        Ok(()) => read_tables(conn, alloc),
+        Err(fault) => Err(fault),
+    }
+}
+
 /// The tables that the database keeps. Where it has nothing, they are made first.
+#[tactic(auto, using(crate::proofs::Firsts::untouched, crate::proofs::Firsts::unseen))]
 pub(crate) fn load<S: Alter>(conn: &mut Connection<S>, alloc: Global) -> Result<Tables, LoadFault>
     ensures loaded { HasCleanDisk (state S.Store conn.new) → (rows : Rows)
         → Keeps (state S.Store conn.old).now rows → AreReadable rows → damage rows ≡ None
@@ -93,14 +168,13 @@ pub(crate) fn load<S: Alter>(conn: &mut Connection<S>, alloc: Global) -> Result<
         → (state S.Store conn.old).now.schema ≡ no_schema → IfErr result IsOutside }
     ensures seen { (state S.Store conn.old).now.schema ≡ schema_1
         → IsSeen schema_1 (state S.Store conn.old) (state S.Store conn.new) (is_ok result) }
+    ensures first_crash { HasCleanDisk (state S.Store conn.new)
+        → (state S.Store conn.old).now.schema ≡ no_schema
+        → Survives (state S.Store conn.old) (state S.Store conn.new)
+        (λ trees. AreStored trees empty_rows) }
 {
     if !conn.is_autocommit() {
         return Err(LoadFault::Failed);
     }
-    prepare(conn, alloc)?;
-    let rows = read_rows(conn, alloc)?;
-    match Tables::checked(rows) {
-        Ok(tables) => Ok(tables),
-        Err(Damage { kind, id }) => Err(LoadFault::Damaged { kind, id }),
-    }
+    load_tables(conn, alloc)
 }
