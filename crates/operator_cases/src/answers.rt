@@ -1,5 +1,5 @@
 //! Answers of bytes, in pieces of each length.
-use http_client::{TakenAnswer, read_answer};
+use http_client::{ServerAnswer, TakenAnswer, read_answer};
 use http_front::Buffer;
 use io_edge::MemorySource;
 use std::alloc::Global;
@@ -47,25 +47,31 @@ pub(crate) fn bytes_of(alloc: Global, text: &str) -> Result<Vec<u8>, Fail> {
     Ok(bytes)
 }
 
+fn answer_line(alloc: Global, answer: &ServerAnswer) -> Result<String, Fail> {
+    let text = std::str::from_utf8(answer.body.as_slice())
+        .ok()
+        .ok_or("text")?;
+    let body = if text == "" { "_" } else { text };
+    Ok(format!(in alloc; "{} {body}", answer.status)?)
+}
+
+fn taken_line(alloc: Global, taken: &TakenAnswer) -> Result<String, Fail> {
+    match taken {
+        TakenAnswer::Answer(answer) => answer_line(alloc, answer),
+        TakenAnswer::Cut => Ok(String::from_str(alloc, "cut")?),
+        TakenAnswer::Bad => Ok(String::from_str(alloc, "bad")?),
+        TakenAnswer::ReadFault => Ok(String::from_str(alloc, "read fault")?),
+        TakenAnswer::NoMemory => Ok(String::from_str(alloc, "no memory")?),
+    }
+}
+
 /// What is read of bytes, in words.
 fn line_of(alloc: Global, bytes: &[u8]) -> Result<String, Fail> {
-    let bytes = Bytes::from_slice(alloc, bytes).ok().ok_or("memory")?;
+    let bytes = Bytes::from_slice(alloc, bytes)?;
+    let mut buffer = Buffer::new(alloc)?;
     let mut source = MemorySource::new(bytes, Items::new(alloc));
-    let mut buffer = Buffer::new(alloc).ok().ok_or("memory")?;
-    let line = match read_answer(alloc, &mut source, &mut buffer) {
-        TakenAnswer::Answer(answer) => {
-            let text = std::str::from_utf8(answer.body.as_slice())
-                .ok()
-                .ok_or("text")?;
-            let body = if text == "" { "_" } else { text };
-            format!(in alloc; "{} {body}", answer.status)?
-        }
-        TakenAnswer::Cut => String::from_str(alloc, "cut")?,
-        TakenAnswer::Bad => String::from_str(alloc, "bad")?,
-        TakenAnswer::ReadFault => String::from_str(alloc, "read fault")?,
-        TakenAnswer::NoMemory => String::from_str(alloc, "no memory")?,
-    };
-    Ok(line)
+    let taken = read_answer(alloc, &mut source, &mut buffer);
+    taken_line(alloc, &taken)
 }
 
 #[test]

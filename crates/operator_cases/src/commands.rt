@@ -74,7 +74,7 @@ fn given_of(alloc: Global, answer: &[u8], call: u32) -> Result<Given, NoMemory> 
 fn call_of(alloc: Global, words: &str) -> Result<OperatorCall, Fail> {
     let line = format!(in alloc; "{words} --server s --token t")?;
     let words = words_of(alloc, &line)?;
-    match read_invocation(alloc, &words).ok().ok_or("memory")? {
+    match read_invocation(alloc, &words)? {
         Some(Invocation::Operator(call)) => Ok(call),
         Some(Invocation::Pipe { .. }) => Err(Fail::from("pipe")),
         Some(Invocation::PolicyCheck { .. }) => Err(Fail::from("policy-check")),
@@ -104,17 +104,31 @@ fn shown(alloc: Global, bytes: &[u8]) -> Result<String, Fail> {
     Ok(text.replace(alloc, "\n", "|")?)
 }
 
-/// What comes of a line's command.
-fn line_of(alloc: Global, words: &str, answer: &str, fails: &str) -> Result<String, Fail> {
-    let call = call_of(alloc, words)?;
-    let number = fails.parse::<u32>().ok().ok_or("number")?;
-    let mut given = given_of(alloc, &bytes_of(alloc, answer)?, number)
-        .ok()
-        .ok_or("memory")?;
-    let status = ran(alloc, &call, &mut given);
+/// What comes of a command.
+fn told_of(alloc: Global, call: &OperatorCall, given: &mut Given) -> Result<String, Fail> {
+    let status = ran(alloc, call, given);
     let output = shown(alloc, given.output.bytes())?;
     let errors = shown(alloc, given.errors.bytes())?;
     Ok(format!(in alloc; "{status} ~ {output} ~ {errors}")?)
+}
+
+/// What comes of a command that is given these.
+fn told_with(
+    alloc: Global,
+    call: &OperatorCall,
+    answer: &[u8],
+    number: u32,
+) -> Result<String, Fail> {
+    let mut given = given_of(alloc, answer, number)?;
+    told_of(alloc, call, &mut given)
+}
+
+/// What comes of a line's command.
+fn line_of(alloc: Global, words: &str, answer: &str, fails: &str) -> Result<String, Fail> {
+    let number = fails.parse::<u32>().ok().ok_or("number")?;
+    let answer = bytes_of(alloc, answer)?;
+    let call = call_of(alloc, words)?;
+    told_with(alloc, &call, &answer, number)
 }
 
 #[test]
@@ -134,7 +148,7 @@ fn what_a_link_is_asked(rt: HostRuntime) -> Result<(), Fail> {
     let alloc = rt.alloc();
     let call = call_of(alloc, "node-list")?;
     let answer = bytes_of(alloc, "HTTP/1.1 200 OK|Content-Length: 2||{}more")?;
-    let mut given = given_of(alloc, &answer, 0).ok().ok_or("memory")?;
+    let mut given = given_of(alloc, &answer, 0)?;
     assert!(rt; ran(alloc, &call, &mut given) == 0);
     assert!(rt;
         given.link.written()
@@ -152,7 +166,7 @@ fn what_a_link_is_asked(rt: HostRuntime) -> Result<(), Fail> {
 fn number_told(alloc: Global, line: &str, write: u32) -> Result<u8, Fail> {
     let call = call_of(alloc, "node-list")?;
     let answer = bytes_of(alloc, line)?;
-    let mut given = given_of(alloc, &answer, 0).ok().ok_or("memory")?;
+    let mut given = given_of(alloc, &answer, 0)?;
     given.output = failing_sink(alloc, write)?;
     given.errors = failing_sink(alloc, write)?;
     Ok(ran(alloc, &call, &mut given))
@@ -160,7 +174,7 @@ fn number_told(alloc: Global, line: &str, write: u32) -> Result<u8, Fail> {
 
 fn failing_sink(alloc: Global, write: u32) -> Result<MemorySink, Fail> {
     let mut fails = Items::new(alloc);
-    fails.push(write).ok().ok_or("memory")?;
+    fails.push(write)?;
     Ok(MemorySink::new(alloc, fails))
 }
 
@@ -181,7 +195,7 @@ fn without_its_file_nothing_is_asked(rt: HostRuntime) -> Result<(), Fail> {
     let alloc = rt.alloc();
     for words in ["policy-set b.hujson", "policy-set large", "dns-set large"] {
         let call = call_of(alloc, words)?;
-        let mut given = given_of(alloc, b"", 0).ok().ok_or("memory")?;
+        let mut given = given_of(alloc, b"", 0)?;
         let _status = ran(alloc, &call, &mut given);
         assert!(rt; given.link.asked().is_empty(), "{words}");
         assert!(rt; given.link.written().is_empty(), "{words}");

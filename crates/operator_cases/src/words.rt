@@ -1,10 +1,10 @@
 //! Words, and what they ask. A `_` in the table stands for the empty word.
 use command_words::{Invocation, OperatorCall, read_invocation};
 use http_client::ask_bytes;
-use operator_requests::operator_request;
+use operator_requests::{OperatorRequest, operator_request};
 use std::alloc::Global;
 use std::test::Fail;
-use tail_base::Bytes;
+use tail_base::{Bytes, Text};
 
 /// Words, and behind ` = ` what they ask: a request of an operator, or a command with its words.
 const ASKED: &str = r#"pipe a.toml = pipe a.toml
@@ -101,42 +101,52 @@ pub(crate) fn words_of(alloc: Global, line: &str) -> Result<Vec<String>, Fail> {
     Ok(words)
 }
 
+/// The body of a request behind a blank, if it has one.
+fn body_text(alloc: Global, body: Option<&[u8]>) -> Result<String, Fail> {
+    match body {
+        None => Ok(String::new(alloc)),
+        Some(body) => {
+            let text = std::str::from_utf8(body).ok().ok_or("text")?;
+            Ok(format!(in alloc; " {text}")?)
+        }
+    }
+}
+
+fn shown_request(alloc: Global, request: &OperatorRequest) -> Result<String, Fail> {
+    let body = body_text(alloc, request.body.as_ref().map(|body| body.as_slice()))?;
+    let (method, path) = (request.method.name(), request.path.as_str());
+    Ok(format!(in alloc; "{method} {path}{body}")?)
+}
+
 /// What a request says, with `FILE` as the bytes of a file.
 fn request_line(alloc: Global, call: &OperatorCall) -> Result<String, Fail> {
-    let request = operator_request(alloc, &call.command, b"FILE")
-        .ok()
-        .ok_or("memory")?;
-    let mut line = String::from_str(alloc, request.method.name())?;
-    line.push_str(" ")?;
-    line.push_str(request.path.as_str())?;
-    if let Some(body) = &request.body {
-        line.push_str(" ")?;
-        let text = std::str::from_utf8(body.as_slice()).ok().ok_or("text")?;
-        line.push_str(text)?;
+    let request = operator_request(alloc, &call.command, b"FILE")?;
+    shown_request(alloc, &request)
+}
+
+fn pipe_line(alloc: Global, settings: &Text, seed: &Option<Text>) -> Result<String, Fail> {
+    let settings = settings.as_str();
+    match seed {
+        None => Ok(format!(in alloc; "pipe {settings}")?),
+        Some(key) => Ok(format!(in alloc; "pipe {settings} {}", key.as_str())?),
     }
-    Ok(line)
+}
+
+fn shown_invocation(alloc: Global, asked: &Option<Invocation>) -> Result<String, Fail> {
+    match asked {
+        None => Ok(String::from_str(alloc, "none")?),
+        Some(Invocation::Operator(call)) => request_line(alloc, call),
+        Some(Invocation::PolicyCheck { file }) => {
+            Ok(format!(in alloc; "policy-check {}", file.as_str())?)
+        }
+        Some(Invocation::Pipe { settings, seed }) => pipe_line(alloc, settings, seed),
+    }
 }
 
 /// What words ask.
 fn asked_line(alloc: Global, words: &[String]) -> Result<String, Fail> {
-    let mut line = String::new(alloc);
-    match read_invocation(alloc, words).ok().ok_or("memory")? {
-        None => line.push_str("none")?,
-        Some(Invocation::Operator(call)) => return request_line(alloc, &call),
-        Some(Invocation::PolicyCheck { file }) => {
-            line.push_str("policy-check ")?;
-            line.push_str(file.as_str())?;
-        }
-        Some(Invocation::Pipe { settings, seed }) => {
-            line.push_str("pipe ")?;
-            line.push_str(settings.as_str())?;
-            if let Some(key) = &seed {
-                line.push_str(" ")?;
-                line.push_str(key.as_str())?;
-            }
-        }
-    }
-    Ok(line)
+    let asked = read_invocation(alloc, words)?;
+    shown_invocation(alloc, &asked)
 }
 
 #[test]
@@ -152,7 +162,7 @@ fn what_words_ask(rt: HostRuntime) -> Result<(), Fail> {
 
 /// Whether the words ask something.
 fn is_asked(alloc: Global, words: &[String]) -> Result<bool, Fail> {
-    let asked = read_invocation(alloc, words).ok().ok_or("memory")?;
+    let asked = read_invocation(alloc, words)?;
     Ok(asked.is_some())
 }
 
@@ -180,17 +190,13 @@ fn a_seed_key_has_a_length(rt: HostRuntime) -> Result<(), Fail> {
 #[test]
 fn bytes_of_requests(rt: HostRuntime) -> Result<(), Fail> {
     let alloc = rt.alloc();
-    let get = ask_bytes(alloc, "GET", "/api/v1/node", b"secret", None)
-        .ok()
-        .ok_or("memory")?;
+    let get = ask_bytes(alloc, "GET", "/api/v1/node", b"secret", None)?;
     assert!(rt;
         get.as_slice()
             == b"GET /api/v1/node HTTP/1.1\r\nHost: tailnetd\r\nAuthorization: Bearer secret\r\nConnection: close\r\n\r\n".as_slice()
     );
-    let body = Bytes::from_slice(alloc, b"{}").ok().ok_or("memory")?;
-    let post = ask_bytes(alloc, "POST", "/p", b"a b\xff", Some(body.as_slice()))
-        .ok()
-        .ok_or("memory")?;
+    let body = Bytes::from_slice(alloc, b"{}")?;
+    let post = ask_bytes(alloc, "POST", "/p", b"a b\xff", Some(body.as_slice()))?;
     assert!(rt;
         post.as_slice()
             == b"POST /p HTTP/1.1\r\nHost: tailnetd\r\nAuthorization: Bearer a%20b%FF\r\nConnection: close\r\nContent-Type: application/json\r\nContent-Length: 2\r\n\r\n{}".as_slice()
