@@ -14,6 +14,11 @@ use tailnet_desk::{Ask, Desk, Reply};
 /// The random words of each draw.
 const WORDS: [u64; 4] = [1, 2, 3, 4];
 
+fn tell(alloc: Global, told: &mut String, reply: &Reply) -> Result<(), Fail> {
+    tell_reply(alloc, told, reply)?;
+    Ok(())
+}
+
 fn ask(
     alloc: Global,
     desk: &mut Desk<MemoryKeeper>,
@@ -24,8 +29,7 @@ fn ask(
     requires short { IsShort ask.now }
 {
     let reply = desk.ask(alloc, ask, moment, None);
-    tell_reply(alloc, told, &reply)?;
-    Ok(())
+    tell(alloc, told, &reply)
 }
 
 /// A poll begins: the machine's key, its node key, the handle (`-` is nobody's), and the last number.
@@ -46,8 +50,7 @@ fn attach(
         return Err(Fail::from("no number of a response"));
     };
     let reply = desk.attach(alloc, &machine, &node, &handle, seq, moment, Some(WORDS));
-    tell_reply(alloc, told, &reply)?;
-    Ok(())
+    tell(alloc, told, &reply)
 }
 
 /// A poll fetches what is new: the machine's key and the handle.
@@ -62,8 +65,7 @@ fn drain(
     let machine = machine_key(machine)?;
     let handle = Text::from_str(alloc, handle)?;
     let reply = desk.drain(alloc, &machine, &handle, moment).into_reply();
-    tell_reply(alloc, told, &reply)?;
-    Ok(())
+    tell(alloc, told, &reply)
 }
 
 /// A poll ends: the machine's key and the handle.
@@ -78,8 +80,7 @@ fn detach(
     let machine = machine_key(machine)?;
     let handle = Text::from_str(alloc, handle)?;
     desk.detach(&machine, &handle, moment);
-    tell_reply(alloc, told, &Reply::Detached)?;
-    Ok(())
+    tell(alloc, told, &Reply::Detached)
 }
 
 fn ask_line(
