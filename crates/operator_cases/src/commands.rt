@@ -61,20 +61,36 @@ fn link_of(alloc: Global, answer: &[u8], call: u32) -> Result<MemoryLink, NoMemo
     Ok(MemoryLink::new(alloc, answer, fails))
 }
 
-fn given_of(alloc: Global, answer: &[u8], call: u32) -> Result<Given, NoMemory> {
+/// A sink of which that write fails; 0 is none.
+fn sink_of(alloc: Global, write: u32) -> Result<MemorySink, NoMemory> {
+    let mut fails = Items::new(alloc);
+    if write > 0 {
+        fails.push(write)?;
+    }
+    Ok(MemorySink::new(alloc, fails))
+}
+
+/// What a command is given: the bytes that the link gives, the call of it and the write of both sinks
+/// that fail.
+fn given_of(alloc: Global, answer: &[u8], call: u32, write: u32) -> Result<Given, NoMemory> {
     Ok(Given {
-        output: MemorySink::new(alloc, Items::new(alloc)),
-        errors: MemorySink::new(alloc, Items::new(alloc)),
+        output: sink_of(alloc, write)?,
+        errors: sink_of(alloc, write)?,
         files: files_of(alloc)?,
         link: link_of(alloc, answer, call)?,
     })
 }
 
-/// The call of a command's words.
-fn call_of(alloc: Global, words: &str) -> Result<OperatorCall, Fail> {
+/// What a command's words ask.
+fn asked_of(alloc: Global, words: &str) -> Result<Option<Invocation>, Fail> {
     let line = format!(in alloc; "{words} --server s --token t")?;
     let words = words_of(alloc, &line)?;
-    match read_invocation(alloc, &words)? {
+    Ok(read_invocation(alloc, &words)?)
+}
+
+/// The call that is asked.
+fn call_in(asked: &Option<Invocation>) -> Result<&OperatorCall, Fail> {
+    match asked {
         Some(Invocation::Operator(call)) => Ok(call),
         Some(Invocation::Pipe { .. }) => Err(Fail::from("pipe")),
         Some(Invocation::PolicyCheck { .. }) => Err(Fail::from("policy-check")),
@@ -119,16 +135,26 @@ fn told_with(
     answer: &[u8],
     number: u32,
 ) -> Result<String, Fail> {
-    let mut given = given_of(alloc, answer, number)?;
+    let mut given = given_of(alloc, answer, number, 0)?;
     told_of(alloc, call, &mut given)
+}
+
+fn told_asked(
+    alloc: Global,
+    asked: &Option<Invocation>,
+    answer: &[u8],
+    number: u32,
+) -> Result<String, Fail> {
+    let call = call_in(asked)?;
+    told_with(alloc, call, answer, number)
 }
 
 /// What comes of a line's command.
 fn line_of(alloc: Global, words: &str, answer: &str, fails: &str) -> Result<String, Fail> {
     let number = fails.parse::<u32>().ok().ok_or("number")?;
     let answer = bytes_of(alloc, answer)?;
-    let call = call_of(alloc, words)?;
-    told_with(alloc, &call, &answer, number)
+    let asked = asked_of(alloc, words)?;
+    told_asked(alloc, &asked, &answer, number)
 }
 
 #[test]
@@ -143,39 +169,58 @@ fn what_commands_come_to(rt: HostRuntime) -> Result<(), Fail> {
     Ok(())
 }
 
+/// What a link was asked and what was written on it, where it gives an answer and more.
+fn link_told(alloc: Global, asked: &Option<Invocation>) -> Result<String, Fail> {
+    let call = call_in(asked)?;
+    let answer = bytes_of(alloc, "HTTP/1.1 200 OK|Content-Length: 2||{}more")?;
+    let mut given = given_of(alloc, &answer, 0, 0)?;
+    ran(alloc, call, &mut given);
+    line_of_link(alloc, &given.link)
+}
+
+fn line_of_link(alloc: Global, link: &MemoryLink) -> Result<String, Fail> {
+    let mut line = String::new(alloc);
+    for address in link.asked() {
+        line.push_str(address.as_str())?;
+        line.push_str(" ")?;
+    }
+    let written = std::str::from_utf8(link.written()).ok().ok_or("text")?;
+    line.push_str(written)?;
+    Ok(line)
+}
+
+fn link_told_of(alloc: Global, words: &str) -> Result<String, Fail> {
+    let asked = asked_of(alloc, words)?;
+    link_told(alloc, &asked)
+}
+
 #[test]
 fn what_a_link_is_asked(rt: HostRuntime) -> Result<(), Fail> {
-    let alloc = rt.alloc();
-    let call = call_of(alloc, "node-list")?;
-    let answer = bytes_of(alloc, "HTTP/1.1 200 OK|Content-Length: 2||{}more")?;
-    let mut given = given_of(alloc, &answer, 0)?;
-    assert!(rt; ran(alloc, &call, &mut given) == 0);
-    assert!(rt;
-        given.link.written()
-            == b"GET /api/v1/node HTTP/1.1\r\nHost: tailnetd\r\nAuthorization: Bearer t\r\nConnection: close\r\n\r\n".as_slice()
+    let told = link_told_of(rt.alloc(), "node-list")?;
+    assert_eq!(rt;
+        told.as_str(),
+        "s GET /api/v1/node HTTP/1.1\r\nHost: tailnetd\r\nAuthorization: Bearer t\r\nConnection: close\r\n\r\n"
     );
-    let asked = given.link.asked();
-    assert!(rt; asked.len() == 1);
-    for address in asked {
-        assert!(rt; address.as_str() == "s");
-    }
     Ok(())
 }
 
-/// The number of a command's status that gets this answer, where that write of the output and of errors fails.
-fn number_told(alloc: Global, line: &str, write: u32) -> Result<u8, Fail> {
-    let call = call_of(alloc, "node-list")?;
-    let answer = bytes_of(alloc, line)?;
-    let mut given = given_of(alloc, &answer, 0)?;
-    given.output = failing_sink(alloc, write)?;
-    given.errors = failing_sink(alloc, write)?;
-    Ok(ran(alloc, &call, &mut given))
+/// The number of a command's status, where that write of the output and of errors fails.
+fn number_with(
+    alloc: Global,
+    asked: &Option<Invocation>,
+    answer: &[u8],
+    write: u32,
+) -> Result<u8, Fail> {
+    let call = call_in(asked)?;
+    let mut given = given_of(alloc, answer, 0, write)?;
+    Ok(ran(alloc, call, &mut given))
 }
 
-fn failing_sink(alloc: Global, write: u32) -> Result<MemorySink, Fail> {
-    let mut fails = Items::new(alloc);
-    fails.push(write)?;
-    Ok(MemorySink::new(alloc, fails))
+/// The same of a command that gets the answer of a line.
+fn number_told(alloc: Global, line: &str, write: u32) -> Result<u8, Fail> {
+    let answer = bytes_of(alloc, line)?;
+    let asked = asked_of(alloc, "node-list")?;
+    number_with(alloc, &asked, &answer, write)
 }
 
 #[test]
@@ -192,13 +237,9 @@ fn an_answer_that_cannot_be_told(rt: HostRuntime) -> Result<(), Fail> {
 
 #[test]
 fn without_its_file_nothing_is_asked(rt: HostRuntime) -> Result<(), Fail> {
-    let alloc = rt.alloc();
     for words in ["policy-set b.hujson", "policy-set large", "dns-set large"] {
-        let call = call_of(alloc, words)?;
-        let mut given = given_of(alloc, b"", 0)?;
-        let _status = ran(alloc, &call, &mut given);
-        assert!(rt; given.link.asked().is_empty(), "{words}");
-        assert!(rt; given.link.written().is_empty(), "{words}");
+        let told = link_told_of(rt.alloc(), words)?;
+        assert_eq!(rt; told.as_str(), "", "{words}");
     }
     Ok(())
 }
