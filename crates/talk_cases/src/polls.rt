@@ -1,6 +1,6 @@
 //! Polls: what their streams hold, and when a session goes on.
 use std::test::Fail;
-use talk_runs::first_not_held;
+use talk_runs::{first_not_held, first_not_served};
 
 const POLLS: &str = r#"= first-poll
 > POST /machine/register mkey:%1 {"Auth":{"AuthKey":"k1"},"Hostinfo":{"Hostname":"Alice's MacBook Pro!"},"NodeKey":"nodekey:%a"}
@@ -241,6 +241,12 @@ const POLLS: &str = r#"= first-poll
 #[test]
 fn polls(rt: HostRuntime) -> Result<(), Fail> {
     assert_eq!(rt; first_not_held(rt.alloc(), POLLS)?, None);
+    Ok(())
+}
+
+#[test]
+fn polls_over_a_listener(rt: HostRuntime) -> Result<(), Fail> {
+    assert_eq!(rt; first_not_served(&rt, rt.alloc(), POLLS)?, None);
     Ok(())
 }
 

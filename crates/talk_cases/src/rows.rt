@@ -1,6 +1,6 @@
 //! Worked conversations, byte for byte.
 use std::test::Fail;
-use talk_runs::first_not_held;
+use talk_runs::{first_not_held, first_not_served};
 
 const WORKED: &str = r#"= first-registration
 > POST /machine/register mkey:%1 {"Auth":{"AuthKey":"k1"},"Hostinfo":{"Hostname":"Alice's MacBook Pro!"},"NodeKey":"nodekey:%a"}
@@ -206,5 +206,11 @@ const WORKED: &str = r#"= first-registration
 #[test]
 fn worked_conversations(rt: HostRuntime) -> Result<(), Fail> {
     assert_eq!(rt; first_not_held(rt.alloc(), WORKED)?, None);
+    Ok(())
+}
+
+#[test]
+fn worked_conversations_over_a_listener(rt: HostRuntime) -> Result<(), Fail> {
+    assert_eq!(rt; first_not_served(&rt, rt.alloc(), WORKED)?, None);
     Ok(())
 }

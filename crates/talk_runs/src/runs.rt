@@ -82,7 +82,7 @@ fn failing(alloc: Global, call: u32) -> Result<Items<u32>, NoMemory> {
     Ok(calls)
 }
 
-fn files_of(alloc: Global, text: &[u8], call: u32) -> Result<MemoryFiles, NoMemory> {
+pub(crate) fn files_of(alloc: Global, text: &[u8], call: u32) -> Result<MemoryFiles, NoMemory> {
     let fails = failing(alloc, call)?;
     let name = Text::from_str(alloc, "tailnet.toml")?;
     let bytes = Bytes::from_slice(alloc, text)?;

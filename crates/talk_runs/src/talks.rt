@@ -19,17 +19,17 @@ use tail_base::{Items, NoMemory};
 
 /// What the program is given, and what it has to answer.
 #[derive(Drop)]
-struct Talk {
-    settings: Vec<u8>,
-    moments: Items<i64>,
-    plan: Plan,
-    tables: Tables,
-    input: Vec<u8>,
-    output: Vec<u8>,
+pub(crate) struct Talk {
+    pub(crate) settings: Vec<u8>,
+    pub(crate) moments: Items<i64>,
+    pub(crate) plan: Plan,
+    pub(crate) tables: Tables,
+    pub(crate) input: Vec<u8>,
+    pub(crate) output: Vec<u8>,
     /// Whether the last answer ends the connection.
-    early: bool,
+    pub(crate) early: bool,
     /// Whether a write fails behind what is answered.
-    is_cut: bool,
+    pub(crate) is_cut: bool,
 }
 
 /// The end of the answer to a registration of the seed's user.
@@ -289,4 +289,23 @@ pub fn first_not_held(alloc: Global, table: &str) -> Result<Option<String>, NoMe
     }
     let held = is_held(alloc, talk)?;
     Ok(if held { None } else { Some(name) })
+}
+
+/// The conversations of a table, with their names.
+pub(crate) fn talks_of(alloc: Global, table: &str) -> Result<Vec<(String, Talk)>, NoMemory> {
+    let mut talks = Vec::new(alloc);
+    for line in table.lines() {
+        match line.strip_prefix("= ") {
+            Some(name) => {
+                let talk = new_talk(alloc)?;
+                talks.push((String::from_str(alloc, name)?, talk))?;
+            }
+            None => {
+                if let Some((_name, talk)) = talks.last_mut() {
+                    add_line(alloc, talk, line)?;
+                }
+            }
+        }
+    }
+    Ok(talks)
 }

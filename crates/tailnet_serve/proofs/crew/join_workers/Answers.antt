@@ -1,0 +1,24 @@
+-- One worker more was joined.
+use Rattle.std.proofs.Common.{◌∙◌, ◌≡◌, ◌||◌, ◌++◌, ◌∷◌, [], Bool, true, false, ap, arith, refl, rules, append_assoc}
+use Rattle.tailnet_serve.proofs.crew.join_workers.Goals as goal
+
+or_assoc : (a b d : Bool) → ((a || b) || d) ≡ (a || (b || d))
+or_assoc true b d = refl
+or_assoc false b d = refl
+
+pub loop-worker-preserved : goal.loop-worker-preserved
+loop-worker-preserved g c =
+    let inv = c.loop-worker.invariant in
+    let items = c.next-worker.ensures.items in
+    let joined = c.join.ensures.join in
+    record {
+      hub = (ap (λ z. z.hub) joined.new_is ∙ inv.hub.0, λ k d lt. search rules);
+      room = (omega (arith, inv.room.0, c.next-worker.ensures.len, c.push_reserved.ensures.len), c.push_reserved.ensures.capacity ∙ inv.room.1);
+      joined = λ t rest. inv.joined t (rw items (c.join.new.self, joined, rest));
+      doors = ap (λ z. z ++ _) c.push_reserved.ensures.items ∙ append_assoc c.loop-worker.doors.items (_ ∷ []) _ ∙ rw items inv.doors;
+      failed = or_assoc c.loop-worker.failed _ _ ∙ rw items inv.failed;
+      starved = or_assoc c.loop-worker.starved _ _ ∙ rw items inv.starved;
+      rose = λ n rose. inv.rose n (rw items (omega (arith, rose, c.join-2.ensures.faults)));
+      same = λ k. c.join-2.ensures.same k ∙ inv.same k;
+      later = omega (arith, inv.later, c.join-2.ensures.later);
+    }
