@@ -26,7 +26,7 @@ faulty stop.Over connections visits old new h e = absurd (let bad : false ≡ tr
 faulty stop.Full connections visits old new h e = absurd (let bad : false ≡ true = e in cc)
 faulty stop.DoorFault connections visits old new h e = omega (arith, h)
 
-faults_after : List Shift → ℕ
+abbrev pub faults_after : List Shift → ℕ
 faults_after ws = sum_by (λ (d : DoorTold). d.faults) (map (λ (w : Shift). w.door_after) ws)
 
 either : (a b : Bool) (n m : ℕ) → (a ≡ true → 1 ≤ n) → (b ≡ true → 1 ≤ m) → (a || b) ≡ true → 1 ≤ n + m

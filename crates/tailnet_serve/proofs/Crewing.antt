@@ -1,25 +1,21 @@
 -- Seats of one hub, joined one after another.
-use Rattle.std.proofs.Common.{◌≡◌, ◌+◌, ◌<◌, ◌≤◌, ℕ, zero, suc, List, [], ◌∷◌, ◌++◌, map, refl, sym, ap, ◌∙◌, subst, arith, append_assoc}
+use Rattle.std.proofs.Common.{◌≡◌, ◌+◌, ◌<◌, ◌≤◌, ◌==◌, ℕ, Bool, true, false, List, [], ◌∷◌, ◌++◌, map, refl, sym, ap, ◌∙◌, subst, arith, append_assoc, if◌then◌else◌}
 use mathlib.Core.Logic.{dite}
 use native.Mathlib.Decide.{ℕ_discrete}
 use Rattle.std.proofs.lemmas.List.{append-nil}
 use Rattle.session_hub.specs.Lines.{lines_by, times}
 use Rattle.session_hub.specs.Seats.{HubView, IsJoin, SeatView}
-use Rattle.session_hub.proofs.Counting.{same_else, same_here}
+use Rattle.session_hub.proofs.Counting.{same_else, same_here, times-append}
 use Rattle.tailnet_serve.specs.Crews.{AreJoined}
-
-pub times_append : (n : ℕ) (xs ys : List ℕ) → times n (xs ++ ys) ≡ times n xs + times n ys
-times_append n [] ys = refl
-times_append n (x ∷ xs) ys = let e = times_append n xs ys in omega (arith, e)
 
 names_joined : (a b t : SeatView) → IsJoin a b t → t.names ≡ a.names ++ b.names
 names_joined a b t j = ap (λ (z : SeatView). z.names) j.new_is
 
 has_mine : (n : ℕ) (a b t : SeatView) → IsJoin a b t → 0 < times n a.names → 0 < times n t.names
-has_mine n a b t j h = subst (λ z. 0 < times n z) (sym (names_joined a b t j)) (let e = times_append n a.names b.names in omega (arith, e, h))
+has_mine n a b t j h = subst (λ z. 0 < times n z) (sym (names_joined a b t j)) (let e = times-append n a.names b.names in omega (arith, e, h))
 
 has_theirs : (n : ℕ) (a b t : SeatView) → IsJoin a b t → 0 < times n b.names → 0 < times n t.names
-has_theirs n a b t j h = subst (λ z. 0 < times n z) (sym (names_joined a b t j)) (let e = times_append n a.names b.names in omega (arith, e, h))
+has_theirs n a b t j h = subst (λ z. 0 < times n z) (sym (names_joined a b t j)) (let e = times-append n a.names b.names in omega (arith, e, h))
 
 -- the lines under a name of the seat stay as they were
 pub lines_kept : (n : ℕ) (seat : SeatView) (ss : List SeatView) (joined : SeatView) → AreJoined seat ss joined → 0 < times n seat.names → lines_by n joined.seen ≡ lines_by n seat.seen
@@ -35,15 +31,15 @@ lines_taken n seat s ss joined between join rest h =
 -- no name is that of two
 pub names_apart : (seat : SeatView) (ss : List SeatView) (joined : SeatView) → AreJoined seat ss joined → ((n : ℕ) → times n seat.names ≤ 1) → (n : ℕ) → times n joined.names ≤ 1
 names_apart seat [] joined e h n = subst (λ (z : SeatView). times n z.names ≤ 1) (sym e) (h n)
-names_apart seat (s ∷ ss) joined (between, join, rest) h = names_apart between ss joined rest
-    (λ k. subst (λ z. times k z ≤ 1) (sym (names_joined seat s between join)) (let e = times_append k seat.names s.names in let a = join.apart k in omega (arith, e, a)))
+names_apart seat (s ∷ ss) joined (between, join, rest) h n = names_apart between ss joined rest
+    (λ k. subst (λ z. times k z ≤ 1) (sym (names_joined seat s between join)) (let e = times-append k seat.names s.names in let a = join.apart k in omega (arith, e, a))) n
 
 -- seats with one name each
 abbrev pub AreSingle : List SeatView → Type 0
 AreSingle [] = Unit {0}
 AreSingle (s ∷ ss) = (s.names ≡ s.name ∷ []) × AreSingle ss
 
-pub seat_names : List SeatView → List ℕ
+abbrev pub seat_names : List SeatView → List ℕ
 seat_names ss = map (λ (s : SeatView). s.name) ss
 
 pub names_all : (seat : SeatView) (ss : List SeatView) (joined : SeatView) → AreJoined seat ss joined → AreSingle ss → joined.names ≡ seat.names ++ seat_names ss
@@ -69,9 +65,12 @@ module _ (hub : HubView) (first joined : SeatView) (ss : List SeatView) (first_i
   first_apart : (n : ℕ) → times n first.names ≤ 1
   first_apart n = subst (λ z. times n z ≤ 1) (sym first_names) (one n)
     where
+      few : (b : Bool) → (if b then 1 else 0) + 0 ≤ 1
+      few true = omega arith
+      few false = omega arith
+
       one : (k : ℕ) → times k (0 ∷ []) ≤ 1
-      one zero = omega arith
-      one (suc k) = omega arith
+      one k = few (0 == k)
 
   pub names_differ : (n : ℕ) → times n (seat_names ss) ≤ 1
   names_differ n = let all = subst (λ z. times n z ≤ 1) all_names (names_apart first ss joined joining first_apart n) in omega (arith, all)

@@ -21,24 +21,18 @@ module _ {K D C N : Type 0} (coming : D → Option (List (List ℕ))) (finished 
   abbrev at : Worker K D C N → Standing
   at w = standing coming finished number faults answer word word_faults w
 
-  abbrev door_at : D → DoorTold
-  door_at d = door_told coming finished number faults d
-
-  abbrev drawing_of : Outfit C N → Drawing
-  drawing_of o = drawing answer word word_faults o.clock o.entropy
-
   abbrev report_of : Worker K D C N → Report
   report_of w = w.report
 
   -- seated workers are set up at their doors
   pub set_up : (site : FrontSettings) (limits : WorkLimits) (told : Option (List (List (List ℕ)))) (start : Drawing) (first : SeatView) (none : first.seen ≡ []) (place : ℕ) (ds : List D) (os : List (Outfit C N)) (ws : List (Worker K D C N))
-      → AreSeated first ds os ws → AreOpenedAt told place (map door_at ds) → All (λ o. IsSplitDrawing start (drawing_of o)) os → AreSetUp at report_of site limits told start first none place ws
+      → AreSeated first ds os ws → AreOpenedAt told place (map (door_told coming finished number faults) ds) → All (λ o. IsSplitDrawing start (drawing answer word word_faults o.clock o.entropy)) os → AreSetUp at report_of site limits told start first none place ws
   set_up site limits told start first none place [] [] [] seated opened split = tt
   set_up site limits told start first none place (d ∷ ds) (o ∷ os) (w ∷ ws) seated opened split = (
     seated.0,
     subst (λ (z : C × N). IsSplitDrawing start (drawing answer word word_faults z.0 z.1)) (λ i. (sym seated.2 i, sym seated.3 i)) (split 0 o (omega arith)),
-    subst (λ (z : D). IsOpenedAt told place (door_at z)) (sym seated.1) opened.0,
-    set_up site limits told start first none (place + 1) ds os ws seated.4 opened.1 (λ k e lt. split (k + 1) e (omega (arith, lt))),
+    subst (λ (z : D). IsOpenedAt told place (door_told coming finished number faults z)) (sym seated.1) opened.0,
+    set_up site limits told start first none (place + 1) ds os ws seated.4 opened.1 (λ k e lt. split (suc k) e (omega (arith, lt))),
   )
   set_up site limits told start first none place [] [] (w ∷ ws) seated opened split = absurd seated
   set_up site limits told start first none place [] (o ∷ os) ws seated opened split = absurd seated
@@ -46,19 +40,19 @@ module _ {K D C N : Type 0} (coming : D → Option (List (List ℕ))) (finished 
   set_up site limits told start first none place (d ∷ ds) (o ∷ os) [] seated opened split = absurd seated
 
   -- and sit at the hub, at doors with a place for each connection
-  pub ready : (hub : HubView) (first : SeatView) (ds : List D) (os : List (Outfit C N)) (ws : List (Worker K D C N)) → AreSeated first ds os ws → first.hub ≡ hub → All (λ d. HasPlaces (door_at d)) ds
-      → All (λ (w : Worker K D C N). IsReady hub w.seat (door_at w.door)) ws
+  pub ready : (hub : HubView) (first : SeatView) (ds : List D) (os : List (Outfit C N)) (ws : List (Worker K D C N)) → AreSeated first ds os ws → first.hub ≡ hub → All (λ d. HasPlaces (door_told coming finished number faults d)) ds
+      → All (λ (w : Worker K D C N). IsReady hub w.seat (door_told coming finished number faults w.door)) ws
   ready hub first [] [] [] seated e places k w lt = absurd (omega (arith, lt))
-  ready hub first (d ∷ ds) (o ∷ os) (v ∷ ws) seated e places zero w lt = (seated.0.hub ∙ e, subst (λ (z : D). HasPlaces (door_at z)) (sym seated.1) (places 0 d (omega arith)))
+  ready hub first (d ∷ ds) (o ∷ os) (v ∷ ws) seated e places zero w lt = (seated.0.hub ∙ e, subst (λ (z : D). HasPlaces (door_told coming finished number faults z)) (sym seated.1) (places 0 d (omega arith)))
   ready hub first (d ∷ ds) (o ∷ os) (v ∷ ws) seated e places (suc k) w lt = ready hub first ds os ws seated.4 e (λ j b l. places (suc j) b (omega (arith, l))) k w (omega (arith, lt))
-  ready hub first [] [] (w ∷ ws) seated e places = absurd seated
-  ready hub first [] (o ∷ os) ws seated e places = absurd seated
-  ready hub first (d ∷ ds) [] ws seated e places = absurd seated
-  ready hub first (d ∷ ds) (o ∷ os) [] seated e places = absurd seated
+  ready hub first [] [] (v ∷ ws) seated e places k w lt = absurd seated
+  ready hub first [] (o ∷ os) ws seated e places k w lt = absurd seated
+  ready hub first (d ∷ ds) [] ws seated e places k w lt = absurd seated
+  ready hub first (d ∷ ds) (o ∷ os) [] seated e places k w lt = absurd seated
 
   module _ (site : FrontSettings) (limits : WorkLimits) (told : Option (List (List (List ℕ)))) (start : Drawing) (hub : HubView) (first joined : SeatView) (vs ws : List (Worker K D C N)) (count : ℕ)
       (first_is : first ≡ record { hub = hub; name = 0; names = 0 ∷ []; seen = [] }) where
-    none_seen : first.seen ≡ []
+    abbrev none_seen : first.seen ≡ []
     none_seen = ap (λ (z : SeatView). z.seen) first_is
 
     abbrev Did : List (Worker K D C N) → List (Worker K D C N) → Type 0
@@ -76,7 +70,7 @@ module _ {K D C N : Type 0} (coming : D → Option (List (List ℕ))) (finished 
     pub manned : (failed starved : Bool) (left : List DoorTold) (final : Point) (before after : ℕ) → length vs ≡ count
         → AreSetUp at report_of site limits told start first none_seen 0 vs → Did vs ws → AreJoined first (map (λ w. w.seat) ws) joined
         → IfSome hub.start (λ begin. IsReplayOf begin joined.seen final) → ((n : ℕ) → times n joined.names ≡ 0 → lines_by n joined.seen ≡ [])
-        → failed ≡ is_any_failed ws → starved ≡ has_any_starved ws → left ≡ map (λ w. door_at w.door) ws → RoseBy (all_word_faults word_faults ws) before after
+        → failed ≡ is_any_failed ws → starved ≡ has_any_starved ws → left ≡ map (λ w. door_told coming finished number faults w.door) ws → RoseBy (all_word_faults word_faults ws) before after
         → IsManned site limits told start failed starved hub count left final before after
     manned failed starved left final before after number set did joining stands named failed_is starved_is left_is rose = record {
       history = joined.seen;

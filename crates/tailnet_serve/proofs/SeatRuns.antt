@@ -9,13 +9,13 @@ use Rattle.session_hub.specs.declared.known.Line.{Line}
 use Rattle.session_hub.specs.Lines.{AreLegal, lines_by}
 use Rattle.session_hub.specs.Seats.{IsSeatTurn, SeatView, with_seen}
 use Rattle.session_hub.proofs.Histories.{lines_by-append}
-use Rattle.tailnet_serve.specs.Runs.{IsSeatRun, turns_by}
+use Rattle.tailnet_serve.specs.Runs.{IsSeatRun, IsSeatStep, turns_by}
 
 map-append : {A B : Type 0} (f : A → B) (xs ys : List A) → map f (xs ++ ys) ≡ map f xs ++ map f ys
 map-append f [] ys = refl
 map-append f (x ∷ xs) ys = ap (λ z. f x ∷ z) (map-append f xs ys)
 
-turned_in : Line → Turned
+abbrev turned_in : Line → Turned
 turned_in l = turned_of l.entry
 
 alone : (n : ℕ) (l : Line) → l.by ≡ n → lines_by n (l ∷ []) ≡ l ∷ []
@@ -61,7 +61,7 @@ run_once a b x turn =
     }
 
 -- so is a chain of turns
-pub run_chain : (a : SeatView) (xs : List Turned) (b : SeatView) → Chain IsSeatTurn a xs b → IsSeatRun a b xs
+pub run_chain : (a : SeatView) (xs : List Turned) (b : SeatView) → Chain IsSeatStep a xs b → IsSeatRun a b xs
 run_chain a [] b c = subst (λ z. IsSeatRun a z []) c (run_none a)
 run_chain a (x ∷ xs) b (m, turn, rest) = run_append a m b (x ∷ []) xs (run_once a m x turn) (run_chain m xs b rest)
 

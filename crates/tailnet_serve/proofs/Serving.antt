@@ -46,7 +46,7 @@ pub split_after : (old : Outside) (one given : Drawing) (answers : (k : ℕ) →
 split_after old one given answers words (tells, fresh) = (record { answers = λ k. tells.answers k ∙ answers k; words = λ k. tells.words k ∙ words k }, fresh)
 
 module _ (settings : SettingsFields) (old new : Outside) (mid : OpenerTold) (after : ℕ → Option ℤ) (p : Point) (opened : IsDeskOpened settings (opener_in old) mid old.told.giving.answers after p) where
-  at_opening : Point
+  abbrev at_opening : Point
   at_opening = record { state = opening settings p.state.rows opened.moment; keeping = p.keeping }
 
   is_opening : p ≡ at_opening

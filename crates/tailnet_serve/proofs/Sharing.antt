@@ -67,7 +67,7 @@ module _ {X : Type 0} (at : X → Standing) (report : X → Report) (site : Fron
   abbrev pub DidWork : X → X → Type 0
   DidWork v w = IsWorked site limits (at v) (at w) (report w)
 
-  shift_of : (v w : X) → DidWork v w → Shift
+  abbrev shift_of : (v w : X) → DidWork v w → Shift
   shift_of v w k = record {
     name = (at v).seat.name;
     visits = k.visits;
@@ -78,13 +78,13 @@ module _ {X : Type 0} (at : X → Standing) (report : X → Report) (site : Fron
     door_after = (at w).door;
   }
 
-  pub shifts_of : (vs ws : List X) → AreBoth DidWork vs ws → List Shift
+  abbrev pub shifts_of : (vs ws : List X) → AreBoth DidWork vs ws → List Shift
   shifts_of [] [] h = []
   shifts_of [] (w ∷ ws) h = []
   shifts_of (v ∷ vs) [] h = []
   shifts_of (v ∷ vs) (w ∷ ws) h = shift_of v w h.0 ∷ shifts_of vs ws h.1
 
-  seats_of : List X → List SeatView
+  abbrev pub seats_of : List X → List SeatView
   seats_of ws = map (λ w. (at w).seat) ws
 
   name_same : (v w : X) → DidWork v w → (at w).seat.name ≡ (at v).seat.name
@@ -170,22 +170,20 @@ module _ {X : Type 0} (at : X → Standing) (report : X → Report) (site : Fron
 
 -- ---- places of doors that were just opened
 
-places_none : (coming : Option (List (List ℕ))) (finished : Option (List Finished)) (number : Option ℕ) (faults : ℕ) → number ≡ None → HasPlaces (record { coming = coming; finished = finished; number = number; faults = faults })
+places_none : (coming : Option (List (List ℕ))) (finished : Option (List Finished)) (number : Option ℕ) (faults : ℕ) → coming ≡ None → HasPlaces (record { coming = coming; finished = finished; number = number; faults = faults })
 places_none None finished number faults e = tt
-places_none (Some some) None number faults e = tt
-places_none (Some some) (Some done) None faults e = tt
-places_none (Some some) (Some done) (Some all) faults e = absurd (let bad : Some all ≡ None = e in cc)
+places_none (Some some) finished number faults e = absurd (let bad : Some some ≡ None = e in cc)
 
 places_opened : (connections : List (List ℕ)) (d : DoorTold) → IsOpenedWith connections d.coming d.finished d.number → HasPlaces d
 places_opened connections d o =
     let there : HasPlaces (record { coming = Some connections; finished = Some []; number = Some (length connections); faults = d.faults }) = omega arith in
     subst (λ (z : Option (List (List ℕ)) × Option (List Finished) × Option ℕ). HasPlaces (record { coming = z.0; finished = z.1; number = z.2; faults = d.faults })) (λ i. (sym o.come i, sym o.none i, sym o.all i)) there
 
--- doors of which the connections are told have places for all; others don't tell with how many they were opened
-pub places_each : {D : Type 0} (at : D → DoorTold) (told : Option (List (List (List ℕ)))) (place : ℕ) (ds : List D) → AreEachOpened at told place ds → (told ≡ None → (d : D) → (at d).number ≡ None) → All (λ d. HasPlaces (at d)) ds
-places_each at None place ds each none = λ k d lt.
-    let e = slice_index_or ds k d in places_none (at e).coming (at e).finished (at e).number (at e).faults (none refl e)
-places_each at (Some all) place [] each none = λ k d lt. absurd (omega (arith, lt))
+-- doors of which the connections are told have places for all; others don't tell what comes
+pub places_each : {D : Type 0} (at : D → DoorTold) (told : Option (List (List (List ℕ)))) (place : ℕ) (ds : List D) → AreEachOpened at told place ds → (told ≡ None → All (λ d. (at d).coming ≡ None) ds) → All (λ d. HasPlaces (at d)) ds
+places_each at None place ds each none k d lt =
+    let e = at (slice_index_or ds k d) in places_none e.coming e.finished e.number e.faults (none refl k d lt)
+places_each at (Some all) place [] each none k d lt = absurd (omega (arith, lt))
 places_each at (Some all) place (d ∷ ds) each none zero e lt = places_opened (for_place all (place + 0)) (at d) (each 0)
 places_each at (Some all) place (d ∷ ds) each none (suc k) e lt =
     places_each at (Some all) (place + 1) ds (λ i. subst (λ n. IfSome (slice_get ds i) (λ b. IsOpenedWith (for_place all n) (at b).coming (at b).finished (at b).number)) (omega arith) (each (suc i))) (λ bad. absurd (let no : Some all ≡ None = bad in cc)) k e (omega (arith, lt))

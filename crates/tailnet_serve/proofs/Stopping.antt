@@ -11,11 +11,7 @@ use Rattle.tailnet_serve.specs.Visits.{Visit, is_any_starved, is_starved}
 use Rattle.tailnet_serve.specs.Works.{IsWork, IsWorked, Standing}
 use Rattle.tailnet_serve.specs.declared.worker.Stop.TheVariants as stop
 use Rattle.tailnet_serve.specs.declared.worker.WorkLimits.{WorkLimits}
-use Rattle.tailnet_serve.proofs.Visiting.{IsLeft, work_append}
-
-snoc_length : (vs : List Visit) (v : Visit) → length (vs ++ v ∷ []) ≡ length vs + 1
-snoc_length [] v = refl
-snoc_length (x ∷ xs) v = ap suc (snoc_length xs v)
+use Rattle.tailnet_serve.proofs.Visiting.{IsLeft, snoc_length, work_append}
 
 or_assoc : (a b d : Bool) → (a || (b || d)) ≡ ((a || b) || d)
 or_assoc true b d = refl
@@ -35,7 +31,7 @@ same_hub hub a b turns run e = ap (λ (z : SeatView). z.hub) run.new_is ∙ e
 
 -- nothing was taken yet
 pub left_first : (connections : ℕ) → IsLeft connections connections 0
-left_first connections = record { unlimited = λ e. e; limited = λ some. (some, refl) }
+left_first connections = record { unlimited = λ e. e; limited = λ some. (some, omega arith) }
 
 pub left_then : (connections left taken : ℕ) (vs : List Visit) (v : Visit) → taken ≡ length vs → (left == 1) ≡ false → IsLeft connections left taken → IsLeft connections (left - 1) (length (vs ++ v ∷ []))
 left_then connections left taken vs v is more l = record {

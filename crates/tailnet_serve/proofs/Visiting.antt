@@ -3,27 +3,52 @@ use Rattle.std.proofs.Common.{◌≡◌, ◌+◌, ◌<◌, ◌≤◌, ℕ, suc, 
 use Rattle.std.proofs.lemmas.List.{append-nil}
 use Rattle.io_edge.specs.Door.{Finished, HasRoom, IsNext, and_finished}
 use Rattle.desk_front.specs.declared.front_settings.FrontSettings.{FrontSettings}
-use Rattle.session_hub.specs.Seats.{IsSeatTurn, SeatView}
+use Rattle.tailnet_desk.proofs.Histories.{Chain-map}
+use Rattle.session_hub.specs.Seats.{SeatView}
 use Rattle.connections.specs.Connection.{IsConnection, Told}
 use Rattle.connections.specs.Exchanges.{turns_of}
-use Rattle.connections.proofs.Seen.{serves_map}
 use Rattle.run_ends.specs.declared.closed.Closed.{Closed}
-use Rattle.tailnet_serve.specs.Runs.{IsSeatRun}
+use Rattle.tailnet_serve.specs.Runs.{IsSeatRun, IsSeatStep}
 use Rattle.tailnet_serve.specs.Visits.{AreComers, AreVisits, Drawing, IsAnyTurn, IsVisit, Visit, and_all_finished, drawing_in, finished_of, visit_turns}
 use Rattle.tailnet_serve.specs.Works.{HasPlaces, IsWork, Standing}
 use Rattle.tailnet_serve.specs.declared.worker.WorkLimits.{WorkLimits}
 use Rattle.tailnet_serve.proofs.SeatRuns.{run_append, run_chain, run_none}
 
+-- the same connection, its turns those of any state
+abbrev of_any_turns : (site : FrontSettings) (more requests : ℕ) (closed : Closed) (came left : Told) (s t : SeatView) → IsConnection IsSeatStep site more closed requests [] came left s t → IsConnection IsAnyTurn site more closed requests [] came left tt tt
+of_any_turns site more requests closed came left s t serves = record {
+  exchanges = serves.exchanges;
+  read = serves.read;
+  rest = serves.rest;
+  extra = serves.extra;
+  written = serves.written;
+  from_source = serves.from_source;
+  bytes_read = serves.bytes_read;
+  each = serves.each;
+  chain = Chain-map IsSeatStep IsAnyTurn (λ z. tt) (λ z e r y h. tt) s (turns_of serves.exchanges) t serves.chain;
+  took = serves.took;
+  extra_is = serves.extra_is;
+  front = serves.front;
+  to_sink = serves.to_sink;
+  reads_later = serves.reads_later;
+  writes_later = serves.writes_later;
+  ending = serves.ending;
+}
+
 -- a connection at a seat, as a worker's
 abbrev pub visit_of : {S : Type 0} (turn : _) (site : FrontSettings) (more requests : ℕ) (closed : Closed) (came left : Told) (s t : S) → IsConnection turn site more closed requests [] came left s t → Visit
 visit_of turn site more requests closed came left s t serves = record { came = came; left = left; turns = turns_of serves.exchanges; closed = closed }
 
-pub visited : (site : FrontSettings) (more requests : ℕ) (closed : Closed) (came left : Told) (s t : SeatView) (serves : IsConnection IsSeatTurn site more closed requests [] came left s t)
-    → IsVisit site more requests (visit_of IsSeatTurn site more requests closed came left s t serves)
+pub visited : (site : FrontSettings) (more requests : ℕ) (closed : Closed) (came left : Told) (s t : SeatView) (serves : IsConnection IsSeatStep site more closed requests [] came left s t)
+    → IsVisit site more requests (visit_of IsSeatStep site more requests closed came left s t serves)
 visited site more requests closed came left s t serves = record {
-  serves = serves_map IsSeatTurn IsAnyTurn site more (λ s. tt) (λ s e r t h. tt) closed requests [] came left s t serves;
+  serves = of_any_turns site more requests closed came left s t serves;
   turns_are = refl;
 }
+
+pub snoc_length : {A : Type 0} (xs : List A) (x : A) → length (xs ++ x ∷ []) ≡ length xs + 1
+snoc_length [] x = refl
+snoc_length (y ∷ ys) x = let e = snoc_length ys x in omega (arith, e)
 
 -- ---- places at a door
 
@@ -48,11 +73,7 @@ has_places None finished number one faults room = tt
 has_places (Some rest) None number one faults room = tt
 has_places (Some rest) (Some done) None one faults room = tt
 has_places (Some rest) (Some done) (Some all) one faults room =
-    let fewer : length rest + length done < all = room in omega (arith, fewer, snoc_length done)
-  where
-    snoc_length : (xs : List Finished) → length (xs ++ one ∷ []) ≡ length xs + 1
-    snoc_length [] = refl
-    snoc_length (x ∷ xs) = ap suc (snoc_length xs)
+    let fewer : length rest + length done < all = room in omega (arith, fewer, snoc_length done one)
 
 -- ---- works
 
@@ -99,14 +120,14 @@ work_append site limits vs ws a b d one two = record {
 
 -- a connection was taken, served and given back
 pub work_once : (site : FrontSettings) (limits : WorkLimits) (closed : Closed) (came left : Told) (old new : Standing) (between : Option (List (List ℕ)))
-    (serves : IsConnection IsSeatTurn site limits.more closed limits.requests [] came left old.seat new.seat)
+    (serves : IsConnection IsSeatStep site limits.more closed limits.requests [] came left old.seat new.seat)
     → drawing_in came ≡ old.drawing → new.drawing ≡ drawing_in left
     → IsNext came.left came.giving.held old.door.coming between → came.read_faults ≡ 0 → came.giving.write_faults ≡ 0
-    → new.door.coming ≡ between → new.door.finished ≡ and_finished old.door.finished (finished_of (visit_of IsSeatTurn site limits.more limits.requests closed came left old.seat new.seat serves)) → new.door.number ≡ old.door.number
+    → new.door.coming ≡ between → new.door.finished ≡ and_finished old.door.finished (finished_of (visit_of IsSeatStep site limits.more limits.requests closed came left old.seat new.seat serves)) → new.door.number ≡ old.door.number
     → old.door.faults ≤ new.door.faults
-    → IsWork site limits (visit_of IsSeatTurn site limits.more limits.requests closed came left old.seat new.seat serves ∷ []) old new
+    → IsWork site limits (visit_of IsSeatStep site limits.more limits.requests closed came left old.seat new.seat serves ∷ []) old new
 work_once site limits closed came left old new between serves begins ends next reads writes coming finished number later =
-    let v = visit_of IsSeatTurn site limits.more limits.requests closed came left old.seat new.seat serves in
+    let v = visit_of IsSeatStep site limits.more limits.requests closed came left old.seat new.seat serves in
     record {
       run = subst (λ z. IsSeatRun old.seat new.seat z) (sym (append-nil v.turns)) (run_chain old.seat (turns_of serves.exchanges) new.seat serves.chain);
       served = (begins, visited site limits.more limits.requests closed came left old.seat new.seat serves, ends);

@@ -1,9 +1,15 @@
 -- What a seat adds to the history by several turns.
 use Rattle.std.specs.Prelude.{◌≡◌, ℕ, List, ◌++◌, map}
 use Rattle.tailnet_desk.specs.Chains.{Turned, turned_of}
+use Rattle.tailnet_desk.specs.declared.entry.Event.{Event}
+use Rattle.tailnet_desk.specs.declared.reply.Reply.{Reply}
 use Rattle.session_hub.specs.declared.known.Line.{Line}
 use Rattle.session_hub.specs.Lines.{AreLegal, StartsWith, lines_by}
-use Rattle.session_hub.specs.Seats.{SeatView, with_seen}
+use Rattle.session_hub.specs.Seats.{IsSeatTurn, SeatView, with_seen}
+
+-- a turn of a seat, from what it had seen to what it then has seen
+abbrev pub IsSeatStep : SeatView → Event → Reply → SeatView → Type 0
+IsSeatStep old event reply new = IsSeatTurn old new event reply
 
 -- the turns under a name
 abbrev pub turns_by : ℕ → List Line → List Turned

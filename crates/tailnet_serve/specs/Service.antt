@@ -100,10 +100,6 @@ pub record IsManned (site : FrontSettings) (limits : WorkLimits) (told : Option 
   pub number : length shifts ≡ workers
   pub words_rose : RoseBy (word_faults_of shifts) word_faults word_faults_after
 
--- Doors that don't tell what comes don't tell how many connections they were opened with.
-abbrev pub TellsPlaces : {D : Type 0} → Option (List (List (List ℕ))) → (D → Option ℕ) → Type 0
-TellsPlaces {D} coming number = coming ≡ None → (d : D) → number d ≡ None
-
 -- the settings under which workers serve
 abbrev pub limits_of : SettingsFields → WorkLimits
 limits_of settings = record { connections = settings.connections; requests = settings.requests; more = settings.poll_turns }

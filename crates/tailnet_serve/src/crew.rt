@@ -75,9 +75,6 @@ pub(crate) fn work_all<
     pause: &A,
     workers: &mut [Worker<K, D, C, N>],
 )
-where
-    D::In: Send,
-    D::Out: Send,
     requires threads { 0 < length workers.old }
     requires some { 0 < limits.now.requests }
     requires ready { All (λ w. IsReady hub.now w.seat

@@ -8,7 +8,7 @@ ghost use Rattle.tailnet_desk.specs.Seated.{point_of};
 ghost use Rattle.tailnet_serve.specs.Crews.{IsSplitDrawing};
 ghost use Rattle.tailnet_serve.specs.Serve.{ServeRan, behind_settings};
 ghost use Rattle.tailnet_serve.specs.Service as spec;
-ghost use Rattle.tailnet_serve.specs.Service.{AreOpenedAt, IsDeskClosed, IsEndAtDoors, IsEndWithOutfits, TellsPlaces, limits_of};
+ghost use Rattle.tailnet_serve.specs.Service.{AreOpenedAt, IsDeskClosed, IsEndAtDoors, IsEndWithOutfits, limits_of};
 ghost use Rattle.tailnet_serve.specs.Visits.{Drawing};
 ghost use Rattle.tailnet_serve.specs.Works.{HasPlaces, door_told, drawing};
 
@@ -18,7 +18,7 @@ use crate::outfits::{Outfit, join_outfits, outfits_of};
 use crate::planning::ServePlan;
 use crate::rooms::Rooms;
 use crate::serve_end::ServeEnd;
-use io_edge::{Clock, Door, Doors, EdgeFault, Entropy, Pause};
+use io_edge::{Clock, Doors, EdgeFault, Entropy, Pause};
 use row_keeper::Opener;
 use session_hub::Hub;
 use settings::Settings;
@@ -67,9 +67,6 @@ fn serve_at_doors<
     doors: &mut D,
     pause: &A,
 ) -> ServeEnd
-where
-    <D::Door as Door>::In: Send,
-    <D::Door as Door>::Out: Send,
     requires requests { 0 < plan.now.limits.requests }
     requires some { 0 < length opened.items }
     requires alike { length outfits.items ≡ length opened.items }
@@ -156,12 +153,8 @@ fn serve_with_outfits<
     doors: &mut D,
     pause: &A,
 ) -> ServeEnd
-where
-    <D::Door as Door>::In: Send,
-    <D::Door as Door>::Out: Send,
     requires requests { 0 < plan.now.limits.requests }
     requires workers { (0 < plan.now.workers) × (length outfits.items ≡ plan.now.workers) }
-    requires places { TellsPlaces (D.coming doors.old) D.Door.number }
     ensures served { let doors_at = doors_told D.coming D.finished D.asked D.faults in
         let at = opener_told P.told P.asked P.faults in
         (start : Drawing)
@@ -221,14 +214,10 @@ pub(crate) fn run_serve<
     doors: &mut D,
     pause: &A,
 ) -> ServeEnd
-where
-    <D::Door as Door>::In: Send,
-    <D::Door as Door>::Out: Send,
     requires front { plan.now.front ≡ front_settings settings }
     requires listen { plan.now.listen ≡ settings.listen }
     requires workers { plan.now.workers ≡ settings.workers }
     requires limits { plan.now.limits ≡ limits_of settings }
-    requires places { TellsPlaces (D.coming doors.old) D.Door.number }
     ensures ran { (streams : Told) (before after : Outside) →
         let at = behind_settings P.told P.asked P.faults C.answer N.word N.faults
         (doors_told D.coming D.finished D.asked D.faults) streams in

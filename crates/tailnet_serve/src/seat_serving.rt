@@ -1,7 +1,7 @@
 //! A connection at a seat.
 ghost use Rattle.connections.specs.Connection.{IsConnection, told};
-ghost use Rattle.session_hub.specs.Seats.{IsSeatTurn};
 ghost use Rattle.std.specs.Prelude.{◌≡◌, ◌<◌, []};
+ghost use Rattle.tailnet_serve.specs.Runs.{IsSeatStep};
 
 use connections::serve;
 use desk_front::Front;
@@ -29,7 +29,7 @@ fn serve_turns<'a, R: Wait, K: Keeper, I: Source, O: Sink, C: Clock, N: Entropy,
     ensures same { turns.new.seat.ghost_name ≡ turns.old.seat.ghost_name }
     ensures serves { let at = told I.left I.read_faults O.holds O.write_faults
         C.answer N.word N.faults in
-        IsConnection IsSeatTurn front.now more result requests []
+        IsConnection IsSeatStep front.now more result requests []
         (at input.old output.old clock.old entropy.old)
         (at input.new output.new clock.new entropy.new)
         turns.old.seat.now turns.new.seat.now }
@@ -60,7 +60,7 @@ pub fn serve_seat<R: Wait, K: Keeper, I: Source, O: Sink, C: Clock, N: Entropy, 
     requires hub { seat.old.hub ≡ hub.now }
     ensures serves { let at = told I.left I.read_faults O.holds O.write_faults
         C.answer N.word N.faults in
-        IsConnection IsSeatTurn front.now more result requests []
+        IsConnection IsSeatStep front.now more result requests []
         (at input.old output.old clock.old entropy.old)
         (at input.new output.new clock.new entropy.new) seat.old seat.new }
 {

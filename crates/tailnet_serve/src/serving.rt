@@ -1,12 +1,11 @@
 //! The command `serve`.
 ghost use Rattle.tailnet_commands.specs.Outside.{Outside, doors_told};
 ghost use Rattle.tailnet_serve.specs.Serve.{ServeOutcome, besides};
-ghost use Rattle.tailnet_serve.specs.Service.{TellsPlaces};
 
 use crate::planning::prepare_serve;
 use crate::running::run_serve;
 use crate::serve_end::{ServeEnd, note_serve, serve_status};
-use io_edge::{Clock, Door, Doors, Entropy, Files, Pause, Sink};
+use io_edge::{Clock, Doors, Entropy, Files, Pause, Sink};
 use row_keeper::Opener;
 use run_ends::Status;
 use std::alloc::Global;
@@ -17,8 +16,6 @@ use std::thread::Threads;
 /// opener keeps, and serves the connections that come at doors, each door by a worker of its own, until
 /// all workers have stopped. The line of its status goes to errors. What is told of the rest of the
 /// outside is any.
-///
-/// Doors that don't tell what comes don't tell how many connections they were opened with.
 pub fn serve_command<
     R: Threads + Wait + Sync,
     E: Sink,
@@ -40,10 +37,6 @@ pub fn serve_command<
     doors: &mut D,
     pause: &A,
 ) -> Status
-where
-    <D::Door as Door>::In: Send,
-    <D::Door as Door>::Out: Send,
-    requires places { TellsPlaces (D.coming doors.old) D.Door.number }
     ensures outcome { (rest : Outside) →
         let at = besides E.holds E.write_faults F.holds F.faults P.told P.asked P.faults
         C.answer N.word N.faults (doors_told D.coming D.finished D.asked D.faults) rest in

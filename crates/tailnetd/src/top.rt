@@ -115,7 +115,7 @@ pub fn tailnetd<
     A: Pause + Sync,
     L: Link,
 >(
-    _rt: &R,
+    rt: &R,
     alloc: Global,
     words: &[String],
     input: &mut I,
@@ -126,7 +126,7 @@ pub fn tailnetd<
     clock: &mut C,
     entropy: &mut N,
     doors: &mut D,
-    _pause: &A,
+    pause: &A,
     link: &mut L,
 ) -> Status
     ensures outcome { let at = outside I.left I.read_faults O.holds O.write_faults

@@ -74,7 +74,7 @@ pub struct PipeRun {
 }
 
 /// The list of that call, or of none.
-fn failing(alloc: Global, call: u32) -> Result<Items<u32>, NoMemory> {
+pub(crate) fn failing(alloc: Global, call: u32) -> Result<Items<u32>, NoMemory> {
     let mut calls = Items::new(alloc);
     if call > 0 {
         calls.push(call)?;
@@ -92,7 +92,7 @@ pub(crate) fn files_of(alloc: Global, text: &[u8], call: u32) -> Result<MemoryFi
 }
 
 /// The random words 1, 2, 3, 4 at each draw; the draw with this number fails, or none with 0.
-fn entropy_of(alloc: Global, call: u32) -> Result<MemoryEntropy, NoMemory> {
+pub(crate) fn entropy_of(alloc: Global, call: u32) -> Result<MemoryEntropy, NoMemory> {
     let fails = failing(alloc, call)?;
     let mut answers = Items::new(alloc);
     answers.push([1, 2, 3, 4])?;

@@ -6,7 +6,7 @@ use Rattle.tailnet_serve.proofs.running.serve_with_outfits.Goals as goal
 
 pub serve_at_doors-requires-clause-places : goal.serve_at_doors-requires-clause-places
 serve_at_doors-requires-clause-places g c =
-    places_each (door_told g.D.Door.Door.coming g.D.Door.Door.finished g.D.Door.Door.number g.D.Door.Door.faults) _ 0 _ c.in-Ok-open.ensures.opened c.requires.places
+    places_each (door_told g.D.Door.Door.coming g.D.Door.Door.finished g.D.Door.Door.number g.D.Door.Door.faults) _ 0 _ c.in-Ok-open.ensures.opened c.in-Ok-open.ensures.untold
 
 pub returns-in-Ok-open-clause-served : goal.returns-in-Ok-open-clause-served
 returns-in-Ok-open-clause-served g c = λ start split.
