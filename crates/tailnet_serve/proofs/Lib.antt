@@ -3,6 +3,6 @@ pub mod Visiting
 pub mod Stopping
 pub mod Crewing
 pub mod Sharing
-pub mod Manning
+pub mod Manned
 pub mod Closing
-pub mod Serving
+pub mod Served

@@ -75,6 +75,9 @@ pub(crate) fn work_all<
     pause: &A,
     workers: &mut [Worker<K, D, C, N>],
 )
+where
+    D::In: Send,
+    D::Out: Send,
     requires threads { 0 < length workers.old }
     requires some { 0 < limits.now.requests }
     requires ready { All (λ w. IsReady hub.now w.seat
@@ -95,7 +98,8 @@ pub(crate) fn work_all<
                 (door_told D.coming D.finished D.number D.faults worker.old.door) }
             ensures { let at = standing D.coming D.finished D.number D.faults
                 C.answer N.word N.faults in
-                IsWorked front.now limits.now (at worker.old) (at worker.new) worker.new.report }
+                IsWorked front.entry.now limits.entry.now (at worker.old) (at worker.new)
+                worker.new.report }
         {
             work(rt, alloc, front, limits, hub, pause, worker);
         },
@@ -103,7 +107,7 @@ pub(crate) fn work_all<
 }
 
 /// What workers leave when they have stopped.
-pub(crate) struct Leaving<D: Door> {
+pub(crate) struct Leaving<D> {
     pub(crate) doors: Vec<D>,
     /// Whether the door of one of them failed.
     pub(crate) failed: bool,

@@ -41,6 +41,9 @@ pub(crate) fn man_hub<
     entropy: &mut N,
     pause: &A,
 ) -> (Desk<K>, Leaving<D>)
+where
+    D::In: Send,
+    D::Out: Send,
     requires first { first ≡ record { hub = hub; name = 0; names = 0 ∷ []; seen = [] } }
     requires requests { 0 < limits.now.requests }
     requires some { 0 < length doors.items }

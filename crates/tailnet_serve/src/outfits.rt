@@ -8,7 +8,7 @@ use io_edge::{Clock, EdgeFault, Entropy};
 use std::alloc::Global;
 
 /// The clock and the random source of a worker.
-pub struct Outfit<C: Clock, N: Entropy> {
+pub struct Outfit<C, N> {
     pub clock: C,
     pub entropy: N,
 }

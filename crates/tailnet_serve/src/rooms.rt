@@ -2,19 +2,18 @@
 ghost use Rattle.std.specs.Prelude.{◌≡◌, ◌≤◌, [], IfOk, vec_capacity};
 
 use crate::worker::Worker;
-use io_edge::{Clock, Door, Entropy};
 use row_keeper::Keeper;
 use std::alloc::Global;
 use tail_base::NoMemory;
 
 /// Room for workers, and for their doors when they are given back, so that neither takes memory once
 /// doors are open.
-pub(crate) struct Rooms<K: Keeper, D: Door, C: Clock, N: Entropy> {
+pub(crate) struct Rooms<K: Keeper, D, C, N> {
     pub(crate) workers: Vec<Worker<K, D, C, N>>,
     pub(crate) doors: Vec<D>,
 }
 
-impl<K: Keeper, D: Door, C: Clock, N: Entropy> Rooms<K, D, C, N> {
+impl<K: Keeper, D, C, N> Rooms<K, D, C, N> {
     /// Room for so many.
     pub(crate) fn new(alloc: Global, count: u32) -> Result<Rooms<K, D, C, N>, NoMemory>
         ensures workers { IfOk result (λ r. (r.workers.items ≡ [])

@@ -18,7 +18,7 @@ use crate::outfits::{Outfit, join_outfits, outfits_of};
 use crate::planning::ServePlan;
 use crate::rooms::Rooms;
 use crate::serve_end::ServeEnd;
-use io_edge::{Clock, Doors, EdgeFault, Entropy, Pause};
+use io_edge::{Clock, Door, Doors, EdgeFault, Entropy, Pause};
 use row_keeper::Opener;
 use session_hub::Hub;
 use settings::Settings;
@@ -67,6 +67,9 @@ fn serve_at_doors<
     doors: &mut D,
     pause: &A,
 ) -> ServeEnd
+where
+    <D::Door as Door>::In: Send,
+    <D::Door as Door>::Out: Send,
     requires requests { 0 < plan.now.limits.requests }
     requires some { 0 < length opened.items }
     requires alike { length outfits.items ≡ length opened.items }
@@ -153,6 +156,9 @@ fn serve_with_outfits<
     doors: &mut D,
     pause: &A,
 ) -> ServeEnd
+where
+    <D::Door as Door>::In: Send,
+    <D::Door as Door>::Out: Send,
     requires requests { 0 < plan.now.limits.requests }
     requires workers { (0 < plan.now.workers) × (length outfits.items ≡ plan.now.workers) }
     ensures served { let doors_at = doors_told D.coming D.finished D.asked D.faults in
@@ -214,6 +220,9 @@ pub(crate) fn run_serve<
     doors: &mut D,
     pause: &A,
 ) -> ServeEnd
+where
+    <D::Door as Door>::In: Send,
+    <D::Door as Door>::Out: Send,
     requires front { plan.now.front ≡ front_settings settings }
     requires listen { plan.now.listen ≡ settings.listen }
     requires workers { plan.now.workers ≡ settings.workers }

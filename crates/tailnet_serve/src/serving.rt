@@ -5,7 +5,7 @@ ghost use Rattle.tailnet_serve.specs.Serve.{ServeOutcome, besides};
 use crate::planning::prepare_serve;
 use crate::running::run_serve;
 use crate::serve_end::{ServeEnd, note_serve, serve_status};
-use io_edge::{Clock, Doors, Entropy, Files, Pause, Sink};
+use io_edge::{Clock, Door, Doors, Entropy, Files, Pause, Sink};
 use row_keeper::Opener;
 use run_ends::Status;
 use std::alloc::Global;
@@ -37,6 +37,9 @@ pub fn serve_command<
     doors: &mut D,
     pause: &A,
 ) -> Status
+where
+    <D::Door as Door>::In: Send,
+    <D::Door as Door>::Out: Send,
     ensures outcome { (rest : Outside) →
         let at = besides E.holds E.write_faults F.holds F.faults P.told P.asked P.faults
         C.answer N.word N.faults (doors_told D.coming D.finished D.asked D.faults) rest in

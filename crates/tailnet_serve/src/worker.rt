@@ -1,5 +1,4 @@
 //! A worker, and what is said of it when it has stopped.
-use io_edge::{Clock, Door, Entropy};
 use row_keeper::Keeper;
 use session_hub::Seat;
 
@@ -34,7 +33,7 @@ pub struct Report {
 }
 
 /// What serves the connections of one door, one after another.
-pub struct Worker<K: Keeper, D: Door, C: Clock, N: Entropy> {
+pub struct Worker<K: Keeper, D, C, N> {
     pub seat: Seat<K>,
     pub door: D,
     pub clock: C,

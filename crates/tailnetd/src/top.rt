@@ -6,7 +6,7 @@ ghost use Rattle.tailnetd.specs.Top.{WordsDone, Top, asks_doors, asks_link};
 
 use crate::wordless::end_wordless;
 use command_words::{Invocation, read_invocation};
-use io_edge::{Clock, Doors, Entropy, Files, Link, Pause, Sink, Source};
+use io_edge::{Clock, Door, Doors, Entropy, Files, Link, Pause, Sink, Source};
 use operator_commands::operator_command;
 use row_keeper::Opener;
 use run_ends::{Status, note_usage};
@@ -54,6 +54,9 @@ fn run_asked<
     pause: &A,
     link: &mut L,
 ) -> Status
+where
+    <D::Door as Door>::In: Send,
+    <D::Door as Door>::Out: Send,
     ensures ran { let at = outside I.left I.read_faults O.holds O.write_faults
         E.holds E.write_faults F.holds F.faults P.told P.asked P.faults C.answer N.word N.faults in
         let doors_at = doors_told D.coming D.finished D.asked D.faults in
@@ -129,6 +132,9 @@ pub fn tailnetd<
     pause: &A,
     link: &mut L,
 ) -> Status
+where
+    <D::Door as Door>::In: Send,
+    <D::Door as Door>::Out: Send,
     ensures outcome { let at = outside I.left I.read_faults O.holds O.write_faults
         E.holds E.write_faults F.holds F.faults P.told P.asked P.faults C.answer N.word N.faults in
         let doors_at = doors_told D.coming D.finished D.asked D.faults in

@@ -1,6 +1,6 @@
 -- The workers of a hub have stopped: what they did is one history that they share.
 use Rattle.std.proofs.Common.{ap}
-use Rattle.tailnet_serve.proofs.Manning.{manned, ready, set_up}
+use Rattle.tailnet_serve.proofs.Manned.{manned, ready, set_up}
 use Rattle.tailnet_serve.proofs.Sharing.{both_of}
 use Rattle.tailnet_serve.proofs.manning.man_hub.Goals as goal
 

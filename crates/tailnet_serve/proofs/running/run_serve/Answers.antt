@@ -1,7 +1,7 @@
 -- A desk was opened and served, or wasn't.
 use Rattle.std.proofs.Common.{refl}
 use Rattle.tailnet_commands.proofs.OpenedLemmas.{unopened_ran}
-use Rattle.tailnet_serve.proofs.Serving.{desk_fault, outfits_ran, served_ran}
+use Rattle.tailnet_serve.proofs.Served.{desk_fault, outfits_ran, served_ran}
 use Rattle.tailnet_serve.proofs.running.run_serve.Goals as goal
 
 pub returns-in-Err-open_desk : goal.returns-in-Err-open_desk

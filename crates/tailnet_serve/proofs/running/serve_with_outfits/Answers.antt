@@ -1,6 +1,6 @@
 -- Doors are opened, and the desk is served at them.
 use Rattle.tailnet_serve.specs.Works.{door_told}
-use Rattle.tailnet_serve.proofs.Serving.{served_at}
+use Rattle.tailnet_serve.proofs.Served.{served_at}
 use Rattle.tailnet_serve.proofs.Sharing.{opened_each, places_each}
 use Rattle.tailnet_serve.proofs.running.serve_with_outfits.Goals as goal
 

@@ -3,7 +3,7 @@ use Rattle.std.proofs.Common.{refl}
 use Rattle.tailnet_commands.specs.Outside.{doors_told}
 use Rattle.tailnet_commands.proofs.PipeLemmas.{told_by_itself}
 use Rattle.tailnet_serve.specs.Serve.{besides}
-use Rattle.tailnet_serve.proofs.Serving.{ran_done, unread_done}
+use Rattle.tailnet_serve.proofs.Served.{ran_done, unread_done}
 use Rattle.tailnet_serve.proofs.serving.serve_command.Goals as goal
 use Rattle.tailnet_serve.proofs.serving.serve_command.Goals.{in-Ok, in-Err}
 
