@@ -1,5 +1,5 @@
 -- A hub's workers, from their seats to the desk that comes back.
-use Rattle.std.proofs.Common.{◌≡◌, ◌+◌, ℕ, zero, suc, ℤ, Bool, List, [], ◌∷◌, Option, length, map, refl, sym, ap, ◌∙◌, subst, arith}
+use Rattle.std.proofs.Common.{◌≡◌, ◌+◌, ◌<◌, ℕ, zero, suc, ℤ, Bool, List, [], ◌∷◌, Option, length, map, refl, sym, ap, ◌∙◌, subst, arith, slice_index_or}
 use Rattle.std.specs.Prelude.{All, IfSome}
 use Rattle.io_edge.specs.Door.{Finished}
 use Rattle.io_edge.specs.Edge.{RoseBy}
@@ -9,13 +9,23 @@ use Rattle.session_hub.specs.Lines.{IsReplayOf, lines_by, times}
 use Rattle.session_hub.specs.Seats.{HubView, SeatView}
 use Rattle.tailnet_serve.specs.Crews.{AreJoined, AreSeated, IsOpenedAt, IsReady, IsSplitDrawing, all_word_faults, has_any_starved, is_any_failed}
 use Rattle.tailnet_serve.specs.Service.{AreOpenedAt, IsManned, Shift}
-use Rattle.tailnet_serve.specs.Visits.{Drawing}
-use Rattle.tailnet_serve.specs.Works.{DoorTold, HasPlaces, Standing, door_told, drawing, standing}
+use Rattle.tailnet_serve.specs.Visits.{Drawing, visit_turns}
+use Rattle.tailnet_serve.specs.Works.{DoorTold, HasPlaces, IsWorked, Standing, door_told, drawing, standing}
 use Rattle.tailnet_serve.specs.declared.outfits.Outfit.{Outfit}
 use Rattle.tailnet_serve.specs.declared.worker.Report.{Report}
 use Rattle.tailnet_serve.specs.declared.worker.WorkLimits.{WorkLimits}
 use Rattle.tailnet_serve.specs.declared.worker.Worker.{Worker}
+use Rattle.tailnet_serve.proofs.Stopping.{same_hub}
 use Rattle.tailnet_serve.proofs.Sharing.{AreBoth, AreSetUp, DidWork, doors_each, failed_each, faults_each, shared, shifts_of, starved_each}
+
+-- there is a worker for each door
+pub seated_length : {K D C N : Type 0} (first : SeatView) (ds : List D) (os : List (Outfit C N)) (ws : List (Worker K D C N)) → AreSeated first ds os ws → length ws ≡ length ds
+seated_length first [] [] [] seated = refl
+seated_length first (d ∷ ds) (o ∷ os) (w ∷ ws) seated = let e = seated_length first ds os ws seated.4 in omega (arith, e)
+seated_length first [] [] (w ∷ ws) seated = absurd seated
+seated_length first [] (o ∷ os) ws seated = absurd seated
+seated_length first (d ∷ ds) [] ws seated = absurd seated
+seated_length first (d ∷ ds) (o ∷ os) [] seated = absurd seated
 
 module _ {K D C N : Type 0} (coming : D → Option (List (List ℕ))) (finished : D → Option (List Finished)) (number : D → Option ℕ) (faults : D → ℕ) (answer : C → ℕ → Option ℤ) (word : N → ℕ → Option (List ℕ)) (word_faults : N → ℕ) where
   abbrev at : Worker K D C N → Standing
@@ -49,6 +59,13 @@ module _ {K D C N : Type 0} (coming : D → Option (List (List ℕ))) (finished 
   ready hub first [] (o ∷ os) ws seated e places k w lt = absurd seated
   ready hub first (d ∷ ds) [] ws seated e places k w lt = absurd seated
   ready hub first (d ∷ ds) (o ∷ os) [] seated e places k w lt = absurd seated
+
+  -- and sit there when they have worked
+  pub stay : (site : FrontSettings) (limits : WorkLimits) (hub : HubView) (vs ws : List (Worker K D C N)) → length ws ≡ length vs → All (λ (w : Worker K D C N). IsReady hub w.seat (door_told coming finished number faults w.door)) vs
+      → ((i : ℕ) (d : Worker K D C N) → i < length vs → IsWorked site limits (at (slice_index_or vs i d)) (at (slice_index_or ws i d)) (slice_index_or ws i d).report) → All (λ (w : Worker K D C N). w.seat.hub ≡ hub) ws
+  stay site limits hub vs ws same sit worked k d lt =
+      let within : k < length vs = omega (arith, same, lt) in
+      same_hub hub (slice_index_or vs k d).seat (slice_index_or ws k d).seat (visit_turns (worked k d within).visits) (worked k d within).work.run (sit k d within).0
 
   module _ (site : FrontSettings) (limits : WorkLimits) (told : Option (List (List (List ℕ)))) (start : Drawing) (hub : HubView) (first joined : SeatView) (vs ws : List (Worker K D C N)) (count : ℕ)
       (first_is : first ≡ record { hub = hub; name = 0; names = 0 ∷ []; seen = [] }) where

@@ -1,7 +1,6 @@
 -- A worker goes on with one connection more, or stops.
-use Rattle.std.proofs.Common.{◌≡◌, ◌+◌, ◌-◌, ◌||◌, ◌<◌, ◌≤◌, ◌==◌, ℕ, zero, suc, Bool, true, false, List, [], ◌∷◌, ◌++◌, length, refl, sym, ap, ◌∙◌, subst, arith}
+use Rattle.std.proofs.Common.{◌≡◌, ◌+◌, ◌-◌, ◌||◌, ◌<◌, ◌≤◌, ℕ, zero, suc, Bool, true, false, List, [], ◌∷◌, ◌++◌, length, refl, sym, ap, ◌∙◌, subst, arith}
 use Rattle.std.proofs.lemmas.List.{append-nil}
-use Rattle.std.proofs.lemmas.Bool.Decides.{nat_tests}
 use Rattle.io_edge.specs.Edge.{IsWhereTold, Rose}
 use Rattle.desk_front.specs.declared.front_settings.FrontSettings.{FrontSettings}
 use Rattle.run_ends.specs.declared.closed.Closed.{Closed}
@@ -33,10 +32,18 @@ same_hub hub a b turns run e = ap (λ (z : SeatView). z.hub) run.new_is ∙ e
 pub left_first : (connections : ℕ) → IsLeft connections connections 0
 left_first connections = record { unlimited = λ e. e; limited = λ some. (some, omega arith) }
 
-pub left_then : (connections left taken : ℕ) (vs : List Visit) (v : Visit) → taken ≡ length vs → (left == 1) ≡ false → IsLeft connections left taken → IsLeft connections (left - 1) (length (vs ++ v ∷ []))
-left_then connections left taken vs v is more l = record {
-  unlimited = λ e. let z = l.unlimited e in omega (arith, z);
-  limited = λ some. let p = l.limited some in (grind (arith, nat_tests), (let q = p.1 in let n = p.0 in let s = snoc_length vs v in grind (arith, nat_tests)));
+two_left : (n : ℕ) → 0 < n → (n ≡ 1 → ⊥) → 1 < n
+two_left zero some more = absurd (omega (arith, some))
+two_left (suc zero) some more = absurd (more refl)
+two_left (suc (suc n)) some more = omega arith
+
+pub left_then : (connections left next : ℕ) (vs : List Visit) (v : Visit) → next ≡ left - 1 → (left ≡ 1 → ⊥) → IsLeft connections left (length vs) → IsLeft connections next (length (vs ++ v ∷ []))
+left_then connections left next vs v is more l = record {
+  unlimited = λ e. let z = l.unlimited e in omega (arith, z, is);
+  limited = λ some.
+      let p = l.limited some in
+      let two = two_left left p.0 more in
+      (omega (arith, two, is), omega (arith, p.1, two, is, snoc_length vs v));
 }
 
 few_of : (connections left taken : ℕ) → IsLeft connections left taken → 0 < connections → taken ≤ connections
@@ -65,10 +72,10 @@ module _ (site : FrontSettings) (limits : WorkLimits) (old mid new : Standing) (
   }
 
   -- the last one was taken
-  pub worked_full : (v : Visit) (closed : Closed) (starved_then : Bool) → v.closed ≡ closed → starved_then ≡ (starved || is_starved closed) → (left == 1) ≡ true → IsWork site limits (v ∷ []) mid new → IsWorked site limits old new (record { stop = stop.Full; starved = starved_then })
+  pub worked_full : (v : Visit) (closed : Closed) (starved_then : Bool) → v.closed ≡ closed → starved_then ≡ (starved || is_starved closed) → left ≡ 1 → IsWork site limits (v ∷ []) mid new → IsWorked site limits old new (record { stop = stop.Full; starved = starved_then })
   worked_full v closed starved_then closed_is then_is last one =
       let all : 0 < limits.connections = some limits.connections left last is_left in
-      let n : length (vs ++ v ∷ []) ≡ limits.connections = (let p = (is_left.limited all).1 in let s = snoc_length vs v in grind (arith, nat_tests)) in
+      let n : length (vs ++ v ∷ []) ≡ limits.connections = omega (arith, (is_left.limited all).1, last, snoc_length vs v) in
       record {
         visits = vs ++ v ∷ [];
         work = work_append site limits vs (v ∷ []) old mid new work one;
@@ -77,6 +84,6 @@ module _ (site : FrontSettings) (limits : WorkLimits) (old mid new : Standing) (
         starved = then_is ∙ (λ i. is i || is_starved (sym closed_is i)) ∙ sym (starved_snoc vs v);
       }
     where
-      some : (connections left : ℕ) → (left == 1) ≡ true → IsLeft connections left (length vs) → 0 < connections
-      some zero left last l = absurd (let z = l.unlimited refl in grind (arith, nat_tests))
+      some : (connections left : ℕ) → left ≡ 1 → IsLeft connections left (length vs) → 0 < connections
+      some zero left last l = absurd (let z = l.unlimited refl in omega (arith, z, last))
       some (suc n) left last l = omega arith

@@ -119,15 +119,17 @@ work_append site limits vs ws a b d one two = record {
 }
 
 -- a connection was taken, served and given back
-pub work_once : (site : FrontSettings) (limits : WorkLimits) (closed : Closed) (came left : Told) (old new : Standing) (between : Option (List (List ℕ)))
+pub work_once : (site : FrontSettings) (limits : WorkLimits) (closed : Closed) (came left : Told) (old new : Standing) (between : Option (List (List ℕ))) (then_finished : Option (List Finished))
     (serves : IsConnection IsSeatStep site limits.more closed limits.requests [] came left old.seat new.seat)
     → drawing_in came ≡ old.drawing → new.drawing ≡ drawing_in left
     → IsNext came.left came.giving.held old.door.coming between → came.read_faults ≡ 0 → came.giving.write_faults ≡ 0
-    → new.door.coming ≡ between → new.door.finished ≡ and_finished old.door.finished (finished_of (visit_of IsSeatStep site limits.more limits.requests closed came left old.seat new.seat serves)) → new.door.number ≡ old.door.number
+    → new.door.coming ≡ between → new.door.finished ≡ and_finished then_finished (finished_of (visit_of IsSeatStep site limits.more limits.requests closed came left old.seat new.seat serves)) → then_finished ≡ old.door.finished
+    → new.door.number ≡ old.door.number
     → old.door.faults ≤ new.door.faults
     → IsWork site limits (visit_of IsSeatStep site limits.more limits.requests closed came left old.seat new.seat serves ∷ []) old new
-work_once site limits closed came left old new between serves begins ends next reads writes coming finished number later =
+work_once site limits closed came left old new between then_finished serves begins ends next reads writes coming gives finishes number later =
     let v = visit_of IsSeatStep site limits.more limits.requests closed came left old.seat new.seat serves in
+    let finished = gives ∙ ap (λ f. and_finished f (finished_of v)) finishes in
     record {
       run = subst (λ z. IsSeatRun old.seat new.seat z) (sym (append-nil v.turns)) (run_chain old.seat (turns_of serves.exchanges) new.seat serves.chain);
       served = (begins, visited site limits.more limits.requests closed came left old.seat new.seat serves, ends);

@@ -172,7 +172,6 @@ pub record IsDeskServed (site : FrontSettings) (limits : WorkLimits) (told : Opt
 pub record IsDeskClosed (at : Point) (opener opener_after : OpenerTold) : Type 0 where
   pub told : StillTells at.keeping.told opener_after.rows
   pub asked : opener_after.asked ≡ opener.asked
-  pub later : opener.faults ≤ opener_after.faults
 
 abbrev pub IsEndAtDoors : ServeEnd → FrontSettings → WorkLimits → Option (List (List (List ℕ))) → Drawing → ℕ → Point → OpenerTold → OpenerTold → DoorsTold → DoorsTold → ℕ → ℕ → Type 0
 IsEndAtDoors (end.Unopened e) site limits told start workers at opener opener_after doors doors_after before after = ⊥

@@ -1,5 +1,5 @@
 //! What a worker does.
-ghost use Rattle.std.specs.Prelude.{◌≡◌, ◌<◌};
+ghost use Rattle.std.specs.Prelude.{◌≡◌, ◌<◌, ◌||◌};
 ghost use Rattle.tailnet_serve.specs.Visits as spec;
 ghost use Rattle.tailnet_serve.specs.Works.{HasPlaces, IsTaken, IsWorked, door_told, standing};
 
@@ -32,6 +32,13 @@ fn is_starved(closed: Closed) -> bool
         Closed::End | Closed::Early | Closed::ReadFault | Closed::WriteFault => false,
         Closed::NoMemory => true,
     }
+}
+
+/// Whether one connection ended for want of memory so far, or this one did.
+fn is_any_starved(starved: bool, closed: Closed) -> bool
+    ensures value { result ≡ (starved || spec.is_starved closed) }
+{
+    starved || is_starved(closed)
 }
 
 /// Takes the next connection, serves it and gives it back, whatever ended it.
@@ -109,7 +116,7 @@ fn serve_door<R: Wait, K: Keeper, D: Door, C: Clock, N: Entropy, A: Pause>(
                 };
             }
             Taking::Served(closed) => {
-                starved = starved || is_starved(closed);
+                starved = is_any_starved(starved, closed);
                 if left == 1 {
                     return Report {
                         stop: Stop::Full,

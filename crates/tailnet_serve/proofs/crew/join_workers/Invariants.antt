@@ -1,6 +1,6 @@
 use Rattle.std.proofs.Common.{◌≡◌, ◌≤◌, ◌+◌, ℕ, ◌||◌, ◌++◌, length, map}
 use Rattle.std.specs.Prelude.{All, vec_capacity, vec_len}
-use Rattle.std_alloc.specs.Vec.Iter.{into_iter_items, into_iter_len}
+use Rattle.std.specs.Vec.Iter.{into_iter_items, into_iter_len}
 use Rattle.io_edge.specs.Edge.{RoseBy}
 use Rattle.session_hub.specs.Seats.{SeatView}
 use Rattle.tailnet_serve.specs.Crews.{AreJoined, all_word_faults, has_any_starved, is_any_failed}

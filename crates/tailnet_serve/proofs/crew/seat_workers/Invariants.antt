@@ -1,6 +1,6 @@
 use Rattle.std.proofs.Common.{◌≡◌, ◌+◌, ◌++◌, List, length}
 use Rattle.std.specs.Prelude.{vec_capacity, vec_len}
-use Rattle.std_alloc.specs.Vec.Iter.{into_iter_items, into_iter_len}
+use Rattle.std.specs.Vec.Iter.{into_iter_items, into_iter_len}
 use Rattle.tailnet_serve.specs.Crews.{AreSeated}
 use Rattle.tailnet_serve.proofs.crew.seat_workers.Given as goal
 
