@@ -1,7 +1,7 @@
 //! The workers of a hub.
 ghost use Rattle.io_edge.specs.Edge.{RoseBy};
-ghost use Rattle.std.specs.Prelude.{◌≡◌, ◌≤◌, ◌<◌, ℕ, [], All, length, map, slice_index_or, vec_capacity};
-ghost use Rattle.tailnet_serve.specs.Crews.{AreJoined, AreSeated, IsReady, all_word_faults, has_any_starved, is_any_failed};
+ghost use Rattle.std.specs.Prelude.{◌≡◌, ◌≤◌, ◌<◌, ◌||◌, ℕ, [], All, length, map, slice_index_or, vec_capacity};
+ghost use Rattle.tailnet_serve.specs.Crews.{AreJoined, AreSeated, IsReady, all_word_faults, has_any_starved, is_any_failed, is_door_fault};
 ghost use Rattle.tailnet_serve.specs.Works.{IsWorked, door_told, standing};
 
 use crate::outfits::Outfit;
@@ -115,6 +115,19 @@ pub(crate) struct Leaving<D> {
     pub(crate) starved: bool,
 }
 
+/// Whether a door failed before, or one did as a worker stopped so.
+fn has_failed(failed: bool, stop: Stop) -> bool
+    ensures value { result ≡ (failed || is_door_fault stop) }
+{
+    failed || matches!(stop, Stop::DoorFault)
+}
+
+fn either(one: bool, other: bool) -> bool
+    ensures value { result ≡ (one || other) }
+{
+    one || other
+}
+
 /// Joins the seats of workers into the first, and their random sources into one. It takes no memory.
 pub(crate) fn join_workers<K: Keeper, D: Door, C: Clock + Drop, N: Entropy>(
     hub: &Hub<K>,
@@ -149,8 +162,8 @@ pub(crate) fn join_workers<K: Keeper, D: Door, C: Clock + Drop, N: Entropy>(
         first.join(hub, seat);
         entropy.join(own);
         doors.push_reserved(door);
-        failed = failed || matches!(report.stop, Stop::DoorFault);
-        starved = starved || report.starved;
+        failed = has_failed(failed, report.stop);
+        starved = either(starved, report.starved);
     }
     workers.destroy_empty();
     Leaving {
