@@ -1,12 +1,22 @@
 -- Seats of one hub, joined one after another.
-use Rattle.std.proofs.Common.{◌≡◌, ◌+◌, ◌<◌, ◌≤◌, ◌==◌, ℕ, Bool, true, false, List, [], ◌∷◌, ◌++◌, map, refl, sym, ap, ◌∙◌, subst, arith, append_assoc, if◌then◌else◌}
+use Rattle.std.proofs.Common.{◌≡◌, ◌≢◌, ◌+◌, ◌<◌, ◌≤◌, ◌==◌, ℕ, Bool, true, false, List, [], ◌∷◌, ◌++◌, map, refl, sym, ap, ◌∙◌, subst, arith, append_assoc, if◌then◌else◌}
 use mathlib.Core.Logic.{dite}
 use native.Mathlib.Decide.{ℕ_discrete}
+use Rattle.std.proofs.lemmas.Bool.Decides.{nat_tests}
 use Rattle.std.proofs.lemmas.List.{append-nil}
-use Rattle.session_hub.specs.Lines.{lines_by, times}
+use Rattle.session_hub.specs.Lines.{equals, lines_by, times}
 use Rattle.session_hub.specs.Seats.{HubView, IsJoin, SeatView}
-use Rattle.session_hub.proofs.Counting.{same_else, same_here, times-append}
 use Rattle.tailnet_serve.specs.Crews.{AreJoined}
+
+pub same_here : (n : ℕ) → equals n n ≡ 1
+same_here n = grind (arith, nat_tests)
+
+same_else : (n x : ℕ) → n ≢ x → equals n x ≡ 0
+same_else n x p = grind (arith, nat_tests)
+
+times-append : (n : ℕ) (xs ys : List ℕ) → times n (xs ++ ys) ≡ times n xs + times n ys
+times-append n [] ys = omega arith
+times-append n (x ∷ xs) ys = let h = times-append n xs ys in omega arith
 
 names_joined : (a b t : SeatView) → IsJoin a b t → t.names ≡ a.names ++ b.names
 names_joined a b t j = ap (λ (z : SeatView). z.names) j.new_is

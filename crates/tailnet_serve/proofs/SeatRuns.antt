@@ -1,6 +1,7 @@
 -- Turns of a seat, one after another.
 use Rattle.std.proofs.Common.{◌≡◌, ℕ, ◌==◌, Bool, true, List, [], ◌∷◌, ◌++◌, map, refl, sym, ap, ◌∙◌, subst, arith, append_assoc, if◌then◌else◌}
 use Rattle.std.proofs.lemmas.List.{append-nil}
+use Rattle.std.proofs.lemmas.List.Elements.{filter-append}
 use Rattle.std.proofs.lemmas.Bool.Decides.{nat_tests}
 use Rattle.tailnet_desk.specs.Chains.{Chain, Turned, turned_of}
 use Rattle.tailnet_desk.specs.declared.entry.Event.{Event}
@@ -8,7 +9,6 @@ use Rattle.tailnet_desk.specs.declared.reply.Reply.{Reply}
 use Rattle.session_hub.specs.declared.known.Line.{Line}
 use Rattle.session_hub.specs.Lines.{AreLegal, lines_by}
 use Rattle.session_hub.specs.Seats.{IsSeatTurn, SeatView, with_seen}
-use Rattle.session_hub.proofs.Histories.{lines_by-append}
 use Rattle.tailnet_serve.specs.Runs.{IsSeatRun, IsSeatStep, turns_by}
 
 map-append : {A B : Type 0} (f : A → B) (xs ys : List A) → map f (xs ++ ys) ≡ map f xs ++ map f ys
@@ -17,6 +17,9 @@ map-append f (x ∷ xs) ys = ap (λ z. f x ∷ z) (map-append f xs ys)
 
 abbrev turned_in : Line → Turned
 turned_in l = turned_of l.entry
+
+lines_by-append : (n : ℕ) (xs ys : List Line) → lines_by n (xs ++ ys) ≡ lines_by n xs ++ lines_by n ys
+lines_by-append n xs ys = filter-append (λ (l : Line). l.by == n) xs ys
 
 alone : (n : ℕ) (l : Line) → l.by ≡ n → lines_by n (l ∷ []) ≡ l ∷ []
 alone n l e = go (l.by == n) (grind (arith, nat_tests))

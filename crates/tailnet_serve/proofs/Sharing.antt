@@ -14,8 +14,7 @@ use Rattle.tailnet_serve.specs.Visits.{Drawing, visit_turns}
 use Rattle.tailnet_serve.specs.Works.{DoorTold, HasPlaces, IsWorked, Standing}
 use Rattle.tailnet_serve.specs.declared.worker.Report.{Report}
 use Rattle.tailnet_serve.specs.declared.worker.WorkLimits.{WorkLimits}
-use Rattle.tailnet_serve.proofs.Crewing.{AreSingle, lines_taken, names_differ, no_others, seat_names}
-use Rattle.session_hub.proofs.Counting.{same_here}
+use Rattle.tailnet_serve.proofs.Crewing.{AreSingle, lines_taken, names_differ, no_others, same_here, seat_names}
 
 -- ---- lists by place
 

@@ -1,5 +1,6 @@
 //! The workers of a hub.
 ghost use Rattle.io_edge.specs.Edge.{RoseBy};
+ghost use Rattle.session_hub.specs.Seats.{IsSplit};
 ghost use Rattle.std.specs.Prelude.{◌≡◌, ◌≤◌, ◌<◌, ◌||◌, ℕ, [], All, length, map, slice_index_or, vec_capacity};
 ghost use Rattle.tailnet_serve.specs.Crews.{AreJoined, AreSeated, IsReady, all_word_faults, has_any_starved, is_any_failed, is_door_fault};
 ghost use Rattle.tailnet_serve.specs.Works.{IsWorked, door_told, standing};
@@ -22,6 +23,32 @@ const UNBEGUN: Report = Report {
     starved: false,
 };
 
+/// A worker for a door, with a seat split from the first.
+fn seat_worker<R: Wait, K: Keeper, D, C, N>(
+    rt: &R,
+    hub: &Hub<K>,
+    first: &mut Seat<K>,
+    door: D,
+    outfit: Outfit<C, N>,
+) -> Worker<K, D, C, N>
+    requires hub { first.old.hub ≡ hub.now }
+    ensures same { first.new ≡ first.old }
+    ensures split { IsSplit first.old result.seat }
+    ensures door { result.door ≡ door }
+    ensures clock { result.clock ≡ outfit.clock }
+    ensures entropy { result.entropy ≡ outfit.entropy }
+{
+    let Outfit { clock, entropy } = outfit;
+    let seat = first.split(rt, hub);
+    Worker {
+        seat,
+        door,
+        clock,
+        entropy,
+        report: UNBEGUN,
+    }
+}
+
 /// Gives each door a worker, with a seat split from the first.
 pub(crate) fn seat_workers<R: Wait, K: Keeper, D: Door, C: Clock, N: Entropy>(
     rt: &R,
@@ -41,17 +68,10 @@ pub(crate) fn seat_workers<R: Wait, K: Keeper, D: Door, C: Clock, N: Entropy>(
     let mut doors = doors.into_iter();
     let mut outfits = outfits.into_iter();
     while let Some(door) = doors.next() {
-        let Some(Outfit { clock, entropy }) = outfits.next() else {
+        let Some(outfit) = outfits.next() else {
             unreachable!()
         };
-        let seat = first.split(rt, hub);
-        workers.push_reserved(Worker {
-            seat,
-            door,
-            clock,
-            entropy,
-            report: UNBEGUN,
-        });
+        workers.push_reserved(seat_worker(rt, hub, first, door, outfit));
     }
     doors.destroy_empty();
     outfits.destroy_empty();

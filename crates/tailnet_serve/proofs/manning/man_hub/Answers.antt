@@ -23,7 +23,7 @@ join_workers-leaving-requires-clause-hub g c =
     c.args.hub _ _ _ _ c.seat_workers-workers.ensures.seated (ap (λ z. z.hub) c.requires.first) c.requires.places in (
       ap (λ (z : SeatView). z.hub) (c.seat_workers-workers.ensures.same ∙ c.requires.first),
       stay g.D.Door.coming g.D.Door.finished g.D.Door.number g.D.Door.faults g.C.Clock.answer g.N.Entropy.word g.N.Entropy.faults
-      c.args.front.now c.args.limits.now c.args.hub c.seat_workers-workers.result.items c.work_all.new.workers (search rules) sit c.work_all.ensures.worked,
+          c.args.front.now c.args.limits.now c.args.hub c.seat_workers-workers.result.items c.work_all.new.workers (search rules) sit c.work_all.ensures.worked,
     )
 
 pub join_workers-leaving-requires-clause-room : goal.join_workers-leaving-requires-clause-room
