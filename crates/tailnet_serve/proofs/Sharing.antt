@@ -30,7 +30,7 @@ both_of R [] (y ∷ ys) e each = absurd (omega (arith, e))
 both_of R (x ∷ xs) [] e each = absurd (omega (arith, e))
 both_of R (x ∷ xs) (y ∷ ys) e each = (each 0 x (omega arith), both_of R xs ys (omega (arith, e)) (λ i d lt. each (suc i) d (omega (arith, lt))))
 
-all_tail : {X : Type 0} (P : X → Type 0) (x : X) (xs : List X) → All P (x ∷ xs) → All P xs
+pub all_tail : {X : Type 0} (P : X → Type 0) (x : X) (xs : List X) → All P (x ∷ xs) → All P xs
 all_tail P x xs all k d lt = all (suc k) d (omega (arith, lt))
 
 -- each of these doors has the connections that are told for its place
@@ -54,6 +54,17 @@ opened_each {D} at told place (d ∷ ds) each fresh = (
     others : (t : Option (List (List (List ℕ)))) → AreEachOpened at t place (d ∷ ds) → AreEachOpened at t (place + 1) ds
     others None h = tt
     others (Some all) h = λ i. subst (λ n. IfSome (slice_get ds i) (λ d. IsOpenedWith (for_place all n) (at d).coming (at d).finished (at d).number)) (omega arith) (h (suc i))
+
+-- the same of all doors, the first of them at place 0
+from_first : {D : Type 0} (at : D → DoorTold) (told : Option (List (List (List ℕ)))) (ds : List D)
+    → IfSome told (λ all. (i : ℕ) → IfSome (slice_get ds i) (λ d. IsOpenedWith (for_place all i) (at d).coming (at d).finished (at d).number)) → AreEachOpened at told 0 ds
+from_first at None ds h = tt
+from_first at (Some all) ds h = λ i. subst (λ n. IfSome (slice_get ds i) (λ d. IsOpenedWith (for_place all n) (at d).coming (at d).finished (at d).number)) (omega arith) (h i)
+
+pub opened_first : {D : Type 0} (at : D → DoorTold) (told : Option (List (List (List ℕ)))) (ds : List D)
+    → IfSome told (λ all. (i : ℕ) → IfSome (slice_get ds i) (λ d. IsOpenedWith (for_place all i) (at d).coming (at d).finished (at d).number))
+    → All (λ d. (at d).faults ≡ 0) ds → AreOpenedAt told 0 (map at ds)
+opened_first at told ds h fresh = opened_each at told 0 ds (from_first at told ds h) fresh
 
 -- ---- shifts
 
@@ -186,3 +197,8 @@ places_each at (Some all) place [] each none k d lt = absurd (omega (arith, lt))
 places_each at (Some all) place (d ∷ ds) each none zero e lt = places_opened (for_place all (place + 0)) (at d) (each 0)
 places_each at (Some all) place (d ∷ ds) each none (suc k) e lt =
     places_each at (Some all) (place + 1) ds (λ i. subst (λ n. IfSome (slice_get ds i) (λ b. IsOpenedWith (for_place all n) (at b).coming (at b).finished (at b).number)) (omega arith) (each (suc i))) (λ bad. absurd (let no : Some all ≡ None = bad in cc)) k e (omega (arith, lt))
+
+pub places_first : {D : Type 0} (at : D → DoorTold) (told : Option (List (List (List ℕ)))) (ds : List D)
+    → IfSome told (λ all. (i : ℕ) → IfSome (slice_get ds i) (λ d. IsOpenedWith (for_place all i) (at d).coming (at d).finished (at d).number))
+    → (told ≡ None → All (λ d. (at d).coming ≡ None) ds) → All (λ d. HasPlaces (at d)) ds
+places_first at told ds h none = places_each at told 0 ds (from_first at told ds h) none

@@ -7,7 +7,7 @@ pub finish-requires : goal.finish-requires
 finish-requires g c =
     let took = c.in-Ok-Some.ensures in
     let some = rw c.in-Ok-Some.field-0-is at took.some in
-    record { room = has_room_still _ _ _ _ _ _ _ _ _ some took.finished took.number c.requires.places }
+    record { room = has_room_still _ _ _ _ _ _ _ _ 0 some took.finished took.number c.requires.places }
 
 pub returns-in-Ok-Some : goal.returns-in-Ok-Some
 returns-in-Ok-Some g c =
