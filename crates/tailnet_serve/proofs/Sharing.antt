@@ -30,6 +30,10 @@ both_of R [] (y ∷ ys) e each = absurd (omega (arith, e))
 both_of R (x ∷ xs) [] e each = absurd (omega (arith, e))
 both_of R (x ∷ xs) (y ∷ ys) e each = (each 0 x (omega arith), both_of R xs ys (omega (arith, e)) (λ i d lt. each (suc i) d (omega (arith, lt))))
 
+pub nil_of : {X : Type 0} (xs : List X) → length xs ≡ 0 → xs ≡ []
+nil_of [] e = refl
+nil_of (x ∷ xs) e = absurd (omega (arith, e))
+
 pub all_tail : {X : Type 0} (P : X → Type 0) (x : X) (xs : List X) → All P (x ∷ xs) → All P xs
 all_tail P x xs all k d lt = all (suc k) d (omega (arith, lt))
 

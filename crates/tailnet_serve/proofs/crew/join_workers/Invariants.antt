@@ -14,6 +14,7 @@ invariant-loop-worker g l =
     record {
       hub : (l.first.hub ≡ l.hub) × All (λ w. w.seat.hub ≡ l.hub) left;
       room : (vec_len l.doors + into_iter_len l.workers ≡ length all) × (vec_capacity l.doors ≡ vec_capacity l.fn.room);
+      full : into_iter_len l.workers ≡ length left;
       joined : (t : SeatView) → AreJoined l.first (map (λ w. w.seat) left) t → AreJoined l.fn.first (map (λ w. w.seat) all) t;
       doors : l.doors.items ++ map (λ w. w.door) left ≡ map (λ w. w.door) all;
       failed : (l.failed || is_any_failed left) ≡ is_any_failed all;

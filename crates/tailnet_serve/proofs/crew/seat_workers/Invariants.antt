@@ -9,6 +9,7 @@ abbrev pub invariant-loop-door : goal.invariant-loop-door
 invariant-loop-door g l = record {
   same : l.first ≡ l.fn.first;
   alike : into_iter_len l.outfits ≡ into_iter_len l.doors;
+  full : (into_iter_len l.doors ≡ length (into_iter_items l.doors)) × (into_iter_len l.outfits ≡ length (into_iter_items l.outfits));
   room : vec_len l.workers + into_iter_len l.doors ≡ length l.fn.doors.items;
   capacity : vec_capacity l.workers ≡ vec_capacity l.fn.room;
   rest : (more : List _) → AreSeated l.fn.first (into_iter_items l.doors) (into_iter_items l.outfits) more → AreSeated l.fn.first l.fn.doors.items l.fn.outfits.items (l.workers.items ++ more);

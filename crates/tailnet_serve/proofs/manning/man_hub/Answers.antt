@@ -13,7 +13,7 @@ pub work_all-requires-clause-threads : goal.work_all-requires-clause-threads
 work_all-requires-clause-threads g c = let e = seated_length _ _ _ _ c.seat_workers-workers.ensures.seated in omega (arith, e, c.requires.some)
 
 pub work_all-requires-clause-ready : goal.work_all-requires-clause-ready
-work_all-requires-clause-ready g c =
+work_all-requires-clause-ready g c = λ κs.
     ready g.D.Door.coming g.D.Door.finished g.D.Door.number g.D.Door.faults g.C.Clock.answer g.N.Entropy.word g.N.Entropy.faults
     _ _ _ _ _ c.seat_workers-workers.ensures.seated (ap (λ z. z.hub) c.requires.first) c.requires.places
 
