@@ -79,7 +79,7 @@ pub(crate) fn seat_workers<R: Wait, K: Keeper, D: Door, C: Clock, N: Entropy>(
 }
 
 /// Each worker serves its door, in a thread of its own.
-pub(crate) fn work_all<
+fn work_all<
     R: Threads + Wait + Sync,
     K: Keeper + Send,
     D: Door + Send,
@@ -102,6 +102,7 @@ where
     requires some { 0 < limits.now.requests }
     requires ready { All (λ w. IsReady hub.now w.seat
         (door_told D.coming D.finished D.number D.faults w.door)) workers.old }
+    ensures same { length workers.new ≡ length workers.old }
     ensures worked { let at = standing D.coming D.finished D.number D.faults
         C.answer N.word N.faults in
         (i : ℕ) (d : _) → i < length workers.old → IsWorked front.now limits.now
@@ -124,6 +125,42 @@ where
             work(rt, alloc, front, limits, hub, pause, worker);
         },
     );
+}
+
+/// The workers when each has served its door in a thread of its own.
+pub(crate) fn put_to_work<
+    R: Threads + Wait + Sync,
+    K: Keeper + Send,
+    D: Door + Send,
+    C: Clock + Send,
+    N: Entropy + Send,
+    A: Pause + Sync,
+>(
+    rt: &R,
+    alloc: Global,
+    front: &Front,
+    limits: &WorkLimits,
+    hub: &Hub<K>,
+    pause: &A,
+    workers: Vec<Worker<K, D, C, N>>,
+) -> Vec<Worker<K, D, C, N>>
+where
+    D::In: Send,
+    D::Out: Send,
+    requires threads { 0 < length workers.items }
+    requires some { 0 < limits.now.requests }
+    requires ready { All (λ w. IsReady hub.now w.seat
+        (door_told D.coming D.finished D.number D.faults w.door)) workers.items }
+    ensures same { length result.items ≡ length workers.items }
+    ensures worked { let at = standing D.coming D.finished D.number D.faults
+        C.answer N.word N.faults in
+        (i : ℕ) (d : _) → i < length workers.items → IsWorked front.now limits.now
+        (at (slice_index_or workers.items i d)) (at (slice_index_or result.items i d))
+        (slice_index_or result.items i d).report }
+{
+    let mut workers = workers;
+    work_all(rt, alloc, front, limits, hub, pause, workers.as_mut_slice());
+    workers
 }
 
 /// What workers leave when they have stopped.

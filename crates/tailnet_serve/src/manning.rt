@@ -6,7 +6,7 @@ ghost use Rattle.tailnet_serve.specs.Service.{AreOpenedAt, IsManned};
 ghost use Rattle.tailnet_serve.specs.Visits.{Drawing};
 ghost use Rattle.tailnet_serve.specs.Works.{HasPlaces, door_told, drawing};
 
-use crate::crew::{Leaving, join_workers, seat_workers, work_all};
+use crate::crew::{Leaving, join_workers, put_to_work, seat_workers};
 use crate::outfits::Outfit;
 use crate::rooms::Rooms;
 use crate::worker::WorkLimits;
@@ -70,16 +70,8 @@ where
         workers: room,
         doors: places,
     } = rooms;
-    let mut workers = seat_workers(rt, &hub, &mut first, doors, outfits, room);
-    work_all(
-        rt,
-        alloc,
-        front,
-        limits,
-        &hub,
-        pause,
-        workers.as_mut_slice(),
-    );
+    let workers = seat_workers(rt, &hub, &mut first, doors, outfits, room);
+    let workers = put_to_work(rt, alloc, front, limits, &hub, pause, workers);
     let leaving = join_workers(&hub, &mut first, entropy, workers, places);
     (hub.close(rt, first), leaving)
 }

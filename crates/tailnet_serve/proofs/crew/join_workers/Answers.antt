@@ -33,5 +33,5 @@ join-requires g c = record { hub = (c.loop-worker.invariant.hub.0, (rw c.in-Some
 
 pub returns-clause-rose : goal.returns-clause-rose
 returns-clause-rose g c =
-    let none : into_iter_items c.loop-worker.workers ≡ [] = nil_of (into_iter_items c.loop-worker.workers) (omega (arith, c.loop-worker.invariant.full, c.in-None.ensures.cases.0)) in
+    let none : into_iter_items c.loop-worker.workers ≡ [] = nil_of (into_iter_items c.loop-worker.workers) (omega (arith, c.loop-worker.invariant.full, c.in_default.ensures.cases.0)) in
     c.loop-worker.invariant.rose (g.N.Entropy.faults c.loop-worker.entropy) (rw none (omega arith))

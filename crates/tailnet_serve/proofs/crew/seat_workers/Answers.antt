@@ -27,8 +27,8 @@ loop-door-preserved g c =
 pub returns : goal.returns
 returns g c =
     let inv = c.loop-door.invariant in
-    let d : into_iter_items c.loop-door.doors ≡ [] = nil_of (into_iter_items c.loop-door.doors) (omega (arith, inv.full.0, c.in-None.ensures.cases.0)) in
-    let o : into_iter_items c.loop-door.outfits ≡ [] = nil_of (into_iter_items c.loop-door.outfits) (omega (arith, inv.full.1, inv.alike, c.in-None.ensures.cases.0)) in
+    let d : into_iter_items c.loop-door.doors ≡ [] = nil_of (into_iter_items c.loop-door.doors) (omega (arith, inv.full.0, c.in_default.ensures.cases.0)) in
+    let o : into_iter_items c.loop-door.outfits ≡ [] = nil_of (into_iter_items c.loop-door.outfits) (omega (arith, inv.full.1, inv.alike, c.in_default.ensures.cases.0)) in
     record {
       same = inv.same;
       seated = subst (λ z. AreSeated c.args.first.now c.args.doors.items c.args.outfits.items z) (append-nil c.loop-door.workers.items) (inv.rest [] (rw (d, o) tt));

@@ -5,7 +5,7 @@ use Rattle.tailnet_serve.proofs.Sharing.{opened_first, places_first}
 use Rattle.tailnet_serve.proofs.running.serve_with_outfits.Goals as goal
 
 pub serve_at_doors-requires-clause-places : goal.serve_at_doors-requires-clause-places
-serve_at_doors-requires-clause-places g c = λ κs.
+serve_at_doors-requires-clause-places g c = λ κs lives.
     places_first (door_told g.D.Door.Door.coming g.D.Door.Door.finished g.D.Door.Door.number g.D.Door.Door.faults) _ _ c.in-Ok-open.ensures.opened c.in-Ok-open.ensures.untold
 
 pub returns-in-Ok-open-clause-served : goal.returns-in-Ok-open-clause-served
