@@ -78,6 +78,7 @@ fn call_of(alloc: Global, words: &str) -> Result<OperatorCall, Fail> {
         Some(Invocation::Operator(call)) => Ok(call),
         Some(Invocation::Pipe { .. }) => Err(Fail::from("pipe")),
         Some(Invocation::PolicyCheck { .. }) => Err(Fail::from("policy-check")),
+        Some(Invocation::Load { .. }) => Err(Fail::from("load")),
         None => Err(Fail::from("no command")),
     }
 }

@@ -15,6 +15,8 @@ pipe -- a.toml = pipe a.toml
 pipe -- -a = pipe -a
 pipe --seed=-k a.toml = pipe a.toml -k
 policy-check a.hujson = policy-check a.hujson
+load 1 0 = load 1 0
+load 512 100000 = load 512 100000
 user-list --server s --token t = GET /api/v1/user
 user-list --token=t --server=s = GET /api/v1/user
 user-add Ann --server s --token t = POST /api/v1/user {"name":"Ann"}
@@ -51,7 +53,13 @@ help = none
 -h = none
 --version = none
 serve a.toml = none
-load 1 1 = none
+load = none
+load 1 = none
+load 0 1 = none
+load 513 1 = none
+load 01 1 = none
+load 1 100001 = none
+load 1 1 1 = none
 pipe = none
 pipe a.toml b = none
 pipe --seed a.toml = none
@@ -110,6 +118,9 @@ fn asked_line(alloc: Global, words: &[String]) -> Result<String, Fail> {
         Some(Invocation::PolicyCheck { file }) => {
             line.push_str("policy-check ")?;
             line.push_str(file.as_str())?;
+        }
+        Some(Invocation::Load { machines, events }) => {
+            return Ok(format!(in alloc; "load {machines} {events}")?);
         }
         Some(Invocation::Pipe { settings, seed }) => {
             line.push_str("pipe ")?;

@@ -1,0 +1,4 @@
+mod Serving
+mod Watching
+mod Stepping
+mod Loading
