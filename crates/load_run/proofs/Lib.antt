@@ -2,3 +2,5 @@ mod Serving
 mod Watching
 mod Stepping
 mod Loading
+mod Taking
+mod Rules

@@ -12,7 +12,12 @@ use Rattle.tailnet_desk.proofs.Histories.{Chain-append}
 use Rattle.connections.specs.Exchanges.{Exchange, IsAnswered, IsExchange, IsUnanswered, turns_of}
 use Rattle.load_run.specs.Counting.{is_starved}
 use Rattle.load_run.specs.Steps.{IsStep, Runs, Stand, Steps}
+use Rattle.load_run.specs.Messages.{kind_message, message, task_message}
+use Rattle.load_run.specs.declared.known.Known.{Known}
 use Rattle.load_run.specs.declared.task.Plan.{Plan}
+use Rattle.load_run.specs.declared.task.Task.{Task}
+use Rattle.load_run.specs.declared.task.TaskKind.{TaskKind}
+use Rattle.load_run.specs.declared.task.TaskKind.TheVariants as kind
 
 -- an answer of want of memory is seen by its status
 busy_seen : (body : List ℕ) (close : Bool) → is_starved (answer 503 body close) ≡ true
@@ -45,3 +50,21 @@ runs_none plan site s = record { exchanges = []; steps = refl }
 pub steps_chain : (plan : Plan) (site : FrontSettings) (s : Stand) (xs : List Exchange) (t : Stand) → Steps plan site s xs t → Chain IsTurn s.point (turns_of xs) t.point
 steps_chain plan site s [] t e = ap (λ (a : Stand). a.point) e
 steps_chain plan site s (x ∷ xs) t (u, step, rest) = Chain-append IsTurn s.point x.turns (turns_of xs) u.point t.point step.chain (steps_chain plan site u xs t rest)
+
+some_more : (b : ℕ) (bs : List ℕ) → 0 < length (b ∷ bs)
+some_more b bs = omega arith
+
+kind_some : (machine : ℕ) (k : TaskKind) (known : Known) → 0 < length (kind_message machine k known)
+unfolding message
+kind_some machine kind.Register known = some_more _ _
+kind_some machine (kind.Point last) known = some_more _ _
+kind_some machine kind.Poll known = some_more _ _
+kind_some machine (kind.Save chosen) known = some_more _ _
+kind_some machine (kind.Announce second) known = some_more _ _
+kind_some machine kind.Approve known = some_more _ _
+kind_some machine (kind.Rename number) known = some_more _ _
+
+-- a request has bytes
+pub message_some : (task : Task) (known : Known) → 0 < length (task_message task known)
+unfolding task_message
+message_some task known = kind_some task.machine task.kind known

@@ -9,8 +9,7 @@ use Rattle.tailnet_desk.specs.declared.reply.Loss.TheVariants.{NoMemory}
 use Rattle.tailnet_desk.specs.declared.reply.Reply.{Reply}
 use Rattle.tailnet_desk.specs.declared.reply.Reply.TheVariants.{Lost}
 use Rattle.tailnet_desk.proofs.Histories.{Chain-map}
-use Rattle.load_run.specs.Hearing.{IsHeard, hear, hear_turns}
-use Rattle.load_run.specs.Steps.{HadMemory}
+use Rattle.load_run.specs.Hearing.{HadMemory, IsHeard, hear, hear_turns}
 use Rattle.load_run.specs.Watching.{IsWatchedTurn, Watched}
 use Rattle.load_run.specs.declared.heard.Heard.{Heard}
 

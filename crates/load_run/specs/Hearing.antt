@@ -64,3 +64,8 @@ pub record IsHeard (old : Heard) (reply : Reply) (new : Heard) : Type 0 where
 abbrev pub hear_turns : Heard → List Turned → Heard
 hear_turns h [] = h
 hear_turns h (t ∷ ts) = hear_turns (hear h t.reply) ts
+
+-- none of the replies is want of memory
+abbrev pub HadMemory : List Turned → Type 0
+HadMemory [] = Unit {0}
+HadMemory (t ∷ ts) = (t.reply ≡ Lost NoMemory → ⊥) × HadMemory ts

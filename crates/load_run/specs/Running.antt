@@ -8,10 +8,10 @@ use Rattle.tailnet_desk.specs.Turns.{IsTurn}
 use Rattle.connections.specs.Exchanges.{Exchange, IsAnswered}
 use Rattle.connections.specs.Tellings.{MomentsTold, WordsTold, drawn, failed_draws, from_number}
 use Rattle.load_run.specs.Counting.{counted}
-use Rattle.load_run.specs.Hearing.{hear_turns}
+use Rattle.load_run.specs.Hearing.{HadMemory, hear_turns}
 use Rattle.load_run.specs.Knowing.{known_of, with_known}
 use Rattle.load_run.specs.Outside as outside
-use Rattle.load_run.specs.Steps.{Begins, HadMemory, IsStep, Stand, known_after}
+use Rattle.load_run.specs.Steps.{Begins, IsStep, Stand, known_after}
 use Rattle.load_run.specs.declared.counts.Counts.{Counts}
 use Rattle.load_run.specs.declared.heard.Heard.{Heard}
 use Rattle.load_run.specs.declared.known.Known.{Known}

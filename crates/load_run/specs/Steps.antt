@@ -5,15 +5,13 @@ use Rattle.http_front.specs.declared.request.Request.{Request}
 use Rattle.tailnet_desk.specs.Chains.{Chain, Turned}
 use Rattle.tailnet_desk.specs.Seated.{Point}
 use Rattle.tailnet_desk.specs.Turns.{IsTurn}
-use Rattle.tailnet_desk.specs.declared.reply.Loss.TheVariants.{NoMemory}
-use Rattle.tailnet_desk.specs.declared.reply.Reply.TheVariants.{Lost}
 use Rattle.desk_front.specs.Wanted.{wanted_of}
 use Rattle.desk_front.specs.declared.front_settings.FrontSettings.{FrontSettings}
 use Rattle.connections.specs.Exchanges.{Exchange, IsAnswered}
 use Rattle.connections.specs.Tellings.{MomentsTold, WordsTold, drawn, failed_draws, from_number}
 use Rattle.load_run.specs.Counting.{counted, is_starved}
 use Rattle.load_run.specs.Draws.{first_source}
-use Rattle.load_run.specs.Hearing.{hear_turns}
+use Rattle.load_run.specs.Hearing.{HadMemory, hear_turns}
 use Rattle.load_run.specs.Knowing.{known_of, nothing, with_known}
 use Rattle.load_run.specs.Messages.{task_message}
 use Rattle.load_run.specs.Outside as outside
@@ -56,11 +54,6 @@ pub record Begins (bytes : List ℕ) (request : Request) : Type 0 where
   pub bytes_are : bytes ≡ read ++ unread
   pub behind : List ℕ
   pub whole : Leads read (request ∷ []) behind
-
--- none of the replies is want of memory
-abbrev pub HadMemory : List Turned → Type 0
-HadMemory [] = Unit {0}
-HadMemory (t ∷ ts) = (t.reply ≡ Lost NoMemory → ⊥) × HadMemory ts
 
 -- the route that a machine told of last, after a request of this kind
 abbrev pub route_after : TaskKind → Option ℕ → Option ℕ
