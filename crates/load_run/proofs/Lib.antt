@@ -4,3 +4,4 @@ mod Stepping
 mod Loading
 mod Taking
 mod Rules
+mod Hearing

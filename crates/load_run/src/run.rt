@@ -175,13 +175,13 @@ impl<K: Keeper> Run<K> {
         let Ok(message) = task_message(alloc, &task, self.roll.of(task.machine)) else {
             return Err(Stopped::NoMemory);
         };
-        if self.listen(alloc, task.machine).is_err() {
+        let Ok(()) = self.listen(alloc, task.machine) else {
             return Err(Stopped::NoMemory);
-        }
+        };
         self.serve_task(alloc, front, &message, moment_at(plan, number))?;
-        if self.learn(alloc, &task).is_err() {
+        let Ok(()) = self.learn(alloc, &task) else {
             return Err(Stopped::NoMemory);
-        }
+        };
         self.source = source_after(plan, number, self.source);
         Ok(())
     }
