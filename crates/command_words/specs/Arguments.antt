@@ -101,9 +101,9 @@ asked_of kind.Load rows = load_of rows
 asked_of (kind.Operator k) rows = operator_of k rows
 
 -- a load has a machine
-abbrev pub HasMachine : Option Invocation → Type 0
-HasMachine None = Unit {0}
-HasMachine (Some (asked.Load machines events)) = 0 < machines
-HasMachine (Some (asked.Pipe settings seed)) = Unit {0}
-HasMachine (Some (asked.PolicyCheck file)) = Unit {0}
-HasMachine (Some (asked.Operator call)) = Unit {0}
+abbrev pub HasLoadMachine : Option Invocation → Type 0
+HasLoadMachine None = Unit {0}
+HasLoadMachine (Some (asked.Load machines events)) = 0 < machines
+HasLoadMachine (Some (asked.Pipe settings seed)) = Unit {0}
+HasLoadMachine (Some (asked.PolicyCheck file)) = Unit {0}
+HasLoadMachine (Some (asked.Operator call)) = Unit {0}

@@ -2,7 +2,7 @@
 ghost use Rattle.std.specs.Prelude.{◌≡◌, ◌&&◌, IfOk, nat_le};
 ghost use Rattle.std.specs.List.{list_all};
 ghost use Rattle.clap.specs.Words.{first_of, found_of, rows_of};
-ghost use Rattle.command_words.specs.Arguments.{HasMachine, asked_of, call_of, is_seed_key, load_of, operator_of, pipe_of, given_text};
+ghost use Rattle.command_words.specs.Arguments.{HasLoadMachine, asked_of, call_of, is_seed_key, load_of, operator_of, pipe_of, given_text};
 
 use crate::argument::Argument;
 use crate::invocation::{Invocation, OperatorCall, OperatorCommand};
@@ -29,7 +29,7 @@ fn is_seed_key(text: &[u8]) -> bool
 
 fn pipe_of(alloc: Global, matches: &ArgMatches<'_>) -> Result<Option<Invocation>, NoMemory>
     ensures value { IfOk result (λ asked. asked ≡ pipe_of (rows_of (found_of matches.now))) }
-    ensures machine { IfOk result HasMachine }
+    ensures machine { IfOk result HasLoadMachine }
 {
     let settings = given_text(alloc, matches, Argument::Settings)?;
     let seed = given_option(alloc, matches, Argument::Seed)?;
@@ -51,7 +51,7 @@ fn policy_check_of(alloc: Global, matches: &ArgMatches<'_>) -> Result<Invocation
 
 fn load_of(matches: &ArgMatches<'_>) -> Option<Invocation>
     ensures value { result ≡ load_of (rows_of (found_of matches.now)) }
-    ensures machine { HasMachine result }
+    ensures machine { HasLoadMachine result }
 {
     let machines = given_machines(matches)?;
     let events = given_events(matches)?;
@@ -81,7 +81,7 @@ fn operator_of(
 ) -> Result<Option<Invocation>, NoMemory>
     ensures value { IfOk result (λ asked. asked
         ≡ operator_of kind (rows_of (found_of matches.now))) }
-    ensures machine { IfOk result HasMachine }
+    ensures machine { IfOk result HasLoadMachine }
 {
     match operator_command_of(alloc, matches, kind)? {
         Some(command) => Ok(Some(Invocation::Operator(call_of(alloc, matches, command)?))),
@@ -97,7 +97,7 @@ pub(crate) fn asked_of(
     kind: CommandKind,
 ) -> Result<Option<Invocation>, NoMemory>
     ensures value { IfOk result (λ asked. asked ≡ asked_of kind (rows_of (found_of matches.now))) }
-    ensures machine { IfOk result HasMachine }
+    ensures machine { IfOk result HasLoadMachine }
 {
     match kind {
         CommandKind::Pipe => pipe_of(alloc, matches),

@@ -11,10 +11,10 @@ use Rattle.tailnet_desk.specs.Turns.{IsTurn}
 use Rattle.tailnet_desk.proofs.Histories.{Chain-append}
 use Rattle.connections.specs.Exchanges.{Exchange, IsAnswered, IsExchange, IsUnanswered, turns_of}
 use Rattle.load_run.specs.Counting.{is_starved}
-use Rattle.load_run.specs.Steps.{IsStep, Runs, Stand, Steps}
+use Rattle.load_run.specs.Steps.{IsStep, Runs, Stand, LoadSteps}
 use Rattle.load_run.specs.Messages.{kind_message, message, task_message}
-use Rattle.load_run.specs.declared.known.Known.{Known}
-use Rattle.load_run.specs.declared.task.Plan.{Plan}
+use Rattle.load_run.specs.declared.known.MachineMemory.{MachineMemory}
+use Rattle.load_run.specs.declared.task.LoadPlan.{LoadPlan}
 use Rattle.load_run.specs.declared.task.Task.{Task}
 use Rattle.load_run.specs.declared.task.TaskKind.{TaskKind}
 use Rattle.load_run.specs.declared.task.TaskKind.TheVariants as kind
@@ -40,21 +40,21 @@ answered_of site x is fed = elim is [
 ]
 
 -- one request more before the others
-pub runs_more : (plan : Plan) (site : FrontSettings) (s : Stand) (x : Exchange) (u t : Stand) → IsStep plan site s x u → Runs plan site u t → Runs plan site s t
+pub runs_more : (plan : LoadPlan) (site : FrontSettings) (s : Stand) (x : Exchange) (u t : Stand) → IsStep plan site s x u → Runs plan site u t → Runs plan site s t
 runs_more plan site s x u t step runs = record { exchanges = x ∷ runs.exchanges; steps = (u, step, runs.steps) }
 
-pub runs_none : (plan : Plan) (site : FrontSettings) (s : Stand) → Runs plan site s s
+pub runs_none : (plan : LoadPlan) (site : FrontSettings) (s : Stand) → Runs plan site s s
 runs_none plan site s = record { exchanges = []; steps = refl }
 
 -- the turns of all requests, at the desk
-pub steps_chain : (plan : Plan) (site : FrontSettings) (s : Stand) (xs : List Exchange) (t : Stand) → Steps plan site s xs t → Chain IsTurn s.point (turns_of xs) t.point
+pub steps_chain : (plan : LoadPlan) (site : FrontSettings) (s : Stand) (xs : List Exchange) (t : Stand) → LoadSteps plan site s xs t → Chain IsTurn s.point (turns_of xs) t.point
 steps_chain plan site s [] t e = ap (λ (a : Stand). a.point) e
 steps_chain plan site s (x ∷ xs) t (u, step, rest) = Chain-append IsTurn s.point x.turns (turns_of xs) u.point t.point step.chain (steps_chain plan site u xs t rest)
 
 some_more : (b : ℕ) (bs : List ℕ) → 0 < length (b ∷ bs)
 some_more b bs = omega arith
 
-kind_some : (machine : ℕ) (k : TaskKind) (known : Known) → 0 < length (kind_message machine k known)
+kind_some : (machine : ℕ) (k : TaskKind) (known : MachineMemory) → 0 < length (kind_message machine k known)
 unfolding message
 kind_some machine kind.Register known = some_more _ _
 kind_some machine (kind.Point last) known = some_more _ _
@@ -65,6 +65,6 @@ kind_some machine kind.Approve known = some_more _ _
 kind_some machine (kind.Rename number) known = some_more _ _
 
 -- a request has bytes
-pub message_some : (task : Task) (known : Known) → 0 < length (task_message task known)
+pub message_some : (task : Task) (known : MachineMemory) → 0 < length (task_message task known)
 unfolding task_message
 message_some task known = kind_some task.machine task.kind known

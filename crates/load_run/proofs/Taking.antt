@@ -6,14 +6,14 @@ use Rattle.load_run.specs.Counting.{counted, is_starved}
 use Rattle.load_run.specs.Hearing.{hear_turns}
 use Rattle.load_run.specs.Knowing.{with_known}
 use Rattle.load_run.specs.Messages.{task_message}
-use Rattle.load_run.specs.Running.{IsNext, IsTaken, Taking}
+use Rattle.load_run.specs.Running.{IsNextRequest, IsTaken, Taking}
 use Rattle.load_run.specs.Served.{IsServed}
 use Rattle.load_run.specs.Steps.{Begins, Stand, known_after, next_heard, next_known, next_task}
 use Rattle.load_run.specs.Tasks.{moment_at, source_after}
 use Rattle.load_run.specs.Watching.{IsWatchedTurn, Watched}
 use Rattle.load_run.specs.declared.counts.Counts.{Counts}
 use Rattle.load_run.specs.declared.heard.Heard.{Heard}
-use Rattle.load_run.specs.declared.task.Plan.{Plan}
+use Rattle.load_run.specs.declared.task.LoadPlan.{LoadPlan}
 use Rattle.load_run.proofs.Stepping.{answered_of}
 use Rattle.load_run.proofs.Watching.{desk_turns, turns_fed, turns_heard}
 
@@ -46,7 +46,7 @@ taken site message moment old new bytes served fed answered counts sum =
     }
 
 -- where a load stands that heard and counted this
-abbrev pub stand_with : Plan → Stand → Heard → ℕ → Counts → Point → Stand
+abbrev pub stand_with : LoadPlan → Stand → Heard → ℕ → Counts → Point → Stand
 stand_with plan s heard words counts point = record {
   number = s.number + 1;
   source = source_after plan s.number s.source;
@@ -58,11 +58,11 @@ stand_with plan s heard words counts point = record {
 }
 
 -- it is the next step of the load
-pub stepped : (plan : Plan) (site : FrontSettings) (s : Stand) (starved : Bool) (message : List ℕ) (heard : Heard) (words : ℕ) (counts : Counts) (point : Point) → starved ≡ false → message ≡ task_message (next_task plan s) (next_known plan s)
+pub stepped : (plan : LoadPlan) (site : FrontSettings) (s : Stand) (starved : Bool) (message : List ℕ) (heard : Heard) (words : ℕ) (counts : Counts) (point : Point) → starved ≡ false → message ≡ task_message (next_task plan s) (next_known plan s)
     → IsTaken site message (moment_at plan s.number)
     (record { point = s.point; heard = record { handle = (next_known plan s).handle; seq = (next_known plan s).seq; frames = s.frames; starved = starved }; words = s.words; counts = s.counts })
     (record { point = point; heard = heard; words = words; counts = counts })
-    → IsNext plan site s (stand_with plan s heard words counts point)
+    → IsNextRequest plan site s (stand_with plan s heard words counts point)
 stepped plan site s starved message heard words counts point fed made t =
     let x = t.exchange in
     let task = next_task plan s in

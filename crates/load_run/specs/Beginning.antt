@@ -11,14 +11,14 @@ use Rattle.load_run.specs.Steps.{first_stand}
 use Rattle.load_run.specs.Watching.{Watched}
 use Rattle.load_run.specs.declared.heard.Heard.{Heard}
 use Rattle.load_run.specs.declared.run.Run.{Run}
-use Rattle.load_run.specs.declared.task.Plan.{Plan}
+use Rattle.load_run.specs.declared.task.LoadPlan.{LoadPlan}
 
 -- nothing was heard
 abbrev pub unheard : Heard
 unheard = record { handle = []; seq = 0; frames = 0; starved = false }
 
 -- the seed was asked, and memory wasn't refused to it
-pub record IsSeeded (p q : Watched) : Type 0 where
+pub record IsLoadSeeded (p q : Watched) : Type 0 where
   pub reply : Reply
   pub memory : reply ≡ Lost NoMemory → ⊥
   pub seeds : IsTurn p.point (seeding reply).event reply q.point
@@ -26,7 +26,7 @@ pub record IsSeeded (p q : Watched) : Type 0 where
   pub uncounted : q.heard.frames ≡ 0
 
 -- a load before its first request
-pub record IsBegun {K : Type 0} (plan : Plan) (point : Seated K → Point) (run : Run K) : Type 0 where
+pub record IsBegun {K : Type 0} (plan : LoadPlan) (point : Seated K → Point) (run : Run K) : Type 0 where
   pub keeping : Keeping
   pub reply : Reply
   pub memory : reply ≡ Lost NoMemory → ⊥

@@ -10,5 +10,5 @@ unfoldable pub next_source : ℕ → ℕ
 next_source x = (x * 6364136223846793005 + 1442695040888963407) % 2 ^ 64
 
 -- what the draw that left the source so gives
-abbrev pub drawn : ℕ → ℕ
-drawn x = x / 2 ^ 33
+abbrev pub number_drawn : ℕ → ℕ
+number_drawn x = x / 2 ^ 33

@@ -12,13 +12,13 @@ use Rattle.tailnet_desk.specs.declared.reply.Reply.TheVariants.{Done, Attached, 
 use Rattle.load_run.specs.declared.heard.Heard.{Heard}
 
 -- one frame more; the count stands still at its type's end
-abbrev pub one_more : ℕ → ℕ
-one_more n = min (n + 1) (2 ^ 64 - 1)
+abbrev pub one_frame_more : ℕ → ℕ
+one_frame_more n = min (n + 1) (2 ^ 64 - 1)
 
 -- a frame with a number is counted, and its number is the last
 abbrev pub hear_seq : Heard → Option ℕ → Heard
 hear_seq h None = h
-hear_seq h (Some seq) = record h { seq = seq; frames = one_more h.frames }
+hear_seq h (Some seq) = record h { seq = seq; frames = one_frame_more h.frames }
 
 abbrev pub hear_response : Heard → Response → Heard
 hear_response h r = hear_seq h r.seq
@@ -33,7 +33,7 @@ hear_attached h handle seq = record h { handle = handle; seq = seq }
 
 -- a map that is no stream is a frame
 abbrev pub hear_machine : Heard → MachineAnswer → Heard
-hear_machine h (machine.Map view) = record h { frames = one_more h.frames }
+hear_machine h (machine.Map view) = record h { frames = one_frame_more h.frames }
 hear_machine h (machine.Registered profile expired) = h
 hear_machine h (machine.LoginAt pending) = h
 hear_machine h machine.Updated = h

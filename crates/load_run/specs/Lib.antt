@@ -8,7 +8,7 @@ pub mod Watching
 pub mod Given
 pub mod Counting
 pub mod Report
-pub mod Steps
+pub mod LoadSteps
 pub mod Loads
 pub mod Served
 pub mod Running

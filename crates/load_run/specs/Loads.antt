@@ -21,27 +21,27 @@ use Rattle.load_run.specs.Given.{load_settings}
 use Rattle.load_run.specs.Report.{report}
 use Rattle.load_run.specs.Steps.{Runs, Stand, first_stand}
 use Rattle.load_run.specs.Tasks.{request_count}
-use Rattle.load_run.specs.declared.task.Plan.{Plan}
+use Rattle.load_run.specs.declared.task.LoadPlan.{LoadPlan}
 
 -- what the front of a load is told
 abbrev pub load_site : FrontSettings
 load_site = front_settings load_settings
 
 -- when the seed and the registrations come
-abbrev pub first_moment : ℤ
-first_moment = clamped (pos 1000000000)
+abbrev pub load_moment : ℤ
+load_moment = clamped (pos 1000000000)
 
 -- the desk over empty tables
 abbrev pub opening_point : Keeping → Point
-opening_point keeping = record { state = opening load_settings empty_rows first_moment; keeping = keeping }
+opening_point keeping = record { state = opening load_settings empty_rows load_moment; keeping = keeping }
 
 -- the seed and its reply
 abbrev pub seeding : Reply → Turned
-seeding reply = record { event = event.Ask (ask.Seed (codes "k1")) first_moment None; reply = reply }
+seeding reply = record { event = event.Ask (ask.Seed (codes "k1")) load_moment None; reply = reply }
 
 -- A load: from empty tables the seed and then each request, as the replies so far say. All of it is one legal history of a
 -- keeper that never failed.
-pub record IsLoad (plan : Plan) (final : Stand) : Type 0 where
+pub record IsLoad (plan : LoadPlan) (final : Stand) : Type 0 where
   pub keeping : Keeping
   pub reply : Reply
   pub memory : reply ≡ Lost NoMemory → ⊥
@@ -54,17 +54,17 @@ pub record IsLoad (plan : Plan) (final : Stand) : Type 0 where
   pub faultless : (keeping.faults ≡ 0) × (final.point.keeping.faults ≡ 0)
 
 -- the six lines of a load
-pub record IsLoadText (plan : Plan) (text : List ℕ) : Type 0 where
+pub record IsLoadText (plan : LoadPlan) (text : List ℕ) : Type 0 where
   pub final : Stand
   pub load : IsLoad plan final
   pub text_is : text ≡ report plan final.counts final.frames
 
 -- nothing was written
-abbrev pub IsUnwritten : Option (List ℕ) → Option (List ℕ) → ℕ → ℕ → Type 0
-IsUnwritten old new before now = (new ≡ old) × (now ≡ before)
+abbrev pub IsLoadUnwritten : Option (List ℕ) → Option (List ℕ) → ℕ → ℕ → Type 0
+IsLoadUnwritten old new before now = (new ≡ old) × (now ≡ before)
 
 -- the six lines of a load were written or, where a write failed, a front of them
-pub record IsReported (plan : Plan) (ended : Status) (old new : Option (List ℕ)) (before now : ℕ) : Type 0 where
+pub record IsReported (plan : LoadPlan) (ended : Status) (old new : Option (List ℕ)) (before now : ℕ) : Type 0 where
   pub final : Stand
   pub load : IsLoad plan final
   pub failed : Bool
@@ -72,11 +72,11 @@ pub record IsReported (plan : Plan) (ended : Status) (old new : Option (List ℕ
   pub status_is : ended ≡ (if failed then status.WriteFault else status.Ok)
 
 -- what a status says, with the output and its count
-abbrev pub Loaded : Plan → Status → Option (List ℕ) → Option (List ℕ) → ℕ → ℕ → Type 0
+abbrev pub Loaded : LoadPlan → Status → Option (List ℕ) → Option (List ℕ) → ℕ → ℕ → Type 0
 Loaded plan status.Ok old new before now = IsReported plan status.Ok old new before now
 Loaded plan status.WriteFault old new before now = IsReported plan status.WriteFault old new before now
-Loaded plan status.NoMemory old new before now = IsUnwritten old new before now
-Loaded plan status.Early old new before now = IsUnwritten old new before now
+Loaded plan status.NoMemory old new before now = IsLoadUnwritten old new before now
+Loaded plan status.Early old new before now = IsLoadUnwritten old new before now
 Loaded plan status.Usage old new before now = ⊥
 Loaded plan status.Settings old new before now = ⊥
 Loaded plan status.ReadFault old new before now = ⊥

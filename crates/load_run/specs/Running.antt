@@ -14,9 +14,9 @@ use Rattle.load_run.specs.Outside as outside
 use Rattle.load_run.specs.Steps.{Begins, IsStep, Stand, known_after}
 use Rattle.load_run.specs.declared.counts.Counts.{Counts}
 use Rattle.load_run.specs.declared.heard.Heard.{Heard}
-use Rattle.load_run.specs.declared.known.Known.{Known}
+use Rattle.load_run.specs.declared.known.MachineMemory.{MachineMemory}
 use Rattle.load_run.specs.declared.run.Run.{Run}
-use Rattle.load_run.specs.declared.task.Plan.{Plan}
+use Rattle.load_run.specs.declared.task.LoadPlan.{LoadPlan}
 use Rattle.load_run.specs.declared.task.Task.{Task}
 
 -- the parts of a load that a request changes when it is served
@@ -58,7 +58,7 @@ pub record IsTaken (site : FrontSettings) (message : List ℕ) (moment : ℤ) (o
   pub sum : new.counts.ok + new.counts.refused ≡ old.counts.ok + old.counts.refused + 1
 
 -- a load whose replies are heard over this
-abbrev pub heard_by : {K : Type 0} → Known → Run K → Run K
+abbrev pub heard_by : {K : Type 0} → MachineMemory → Run K → Run K
 heard_by known run = record run { watched = record run.watched { heard = record run.watched.heard { handle = known.handle; seq = known.seq } } }
 
 -- a load in which the machine of a task knows what was heard
@@ -66,12 +66,12 @@ abbrev pub run_with_known : {K : Type 0} → Task → Run K → Run K
 run_with_known task run = record run { roll = with_known run.roll task.machine (known_after task (known_of run.roll task.machine) run.watched.heard) }
 
 -- one request led from one to the other
-pub record IsNext (plan : Plan) (site : FrontSettings) (s t : Stand) : Type 0 where
+pub record IsNextRequest (plan : LoadPlan) (site : FrontSettings) (s t : Stand) : Type 0 where
   pub exchange : Exchange
   pub step : IsStep plan site s exchange t
 
 -- so many requests were served and counted, and memory was refused to none
-pub record IsReady {K : Type 0} (plan : Plan) (number : ℕ) (run : Run K) : Type 0 where
+pub record IsReady {K : Type 0} (plan : LoadPlan) (number : ℕ) (run : Run K) : Type 0 where
   pub roll : length run.roll ≡ plan.machines
   pub fed : run.watched.heard.starved ≡ false
   pub sum : run.counts.ok + run.counts.refused ≡ number

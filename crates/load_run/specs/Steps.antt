@@ -18,8 +18,8 @@ use Rattle.load_run.specs.Outside as outside
 use Rattle.load_run.specs.Tasks.{moment_at, source_after, task_at}
 use Rattle.load_run.specs.declared.counts.Counts.{Counts}
 use Rattle.load_run.specs.declared.heard.Heard.{Heard}
-use Rattle.load_run.specs.declared.known.Known.{Known}
-use Rattle.load_run.specs.declared.task.Plan.{Plan}
+use Rattle.load_run.specs.declared.known.MachineMemory.{MachineMemory}
+use Rattle.load_run.specs.declared.task.LoadPlan.{LoadPlan}
 use Rattle.load_run.specs.declared.task.Task.{Task}
 use Rattle.load_run.specs.declared.task.TaskKind.{TaskKind}
 use Rattle.load_run.specs.declared.task.TaskKind.TheVariants as kind
@@ -29,14 +29,14 @@ use Rattle.load_run.specs.declared.task.TaskKind.TheVariants as kind
 pub record Stand : Type 0 where
   pub number : ℕ
   pub source : ℕ
-  pub roll : List Known
+  pub roll : List MachineMemory
   pub words : ℕ
   pub counts : Counts
   pub frames : ℕ
   pub point : Point
 
 -- before the first request
-abbrev pub first_stand : Plan → ℕ → Point → Stand
+abbrev pub first_stand : LoadPlan → ℕ → Point → Stand
 first_stand plan frames point = record {
   number = 0;
   source = first_source plan.machines plan.events;
@@ -66,25 +66,25 @@ route_after kind.Approve route = route
 route_after (kind.Rename number) route = route
 
 -- what the next request asks, and what its machine knows
-abbrev pub next_task : Plan → Stand → Task
+abbrev pub next_task : LoadPlan → Stand → Task
 next_task plan s = task_at plan s.number s.source
 
-abbrev pub next_known : Plan → Stand → Known
+abbrev pub next_known : LoadPlan → Stand → MachineMemory
 next_known plan s = known_of s.roll (next_task plan s).machine
 
 -- what is heard of its replies, beginning with the handle and the number that the machine has
-abbrev pub heard_from : ℕ → Known → List Turned → Heard
+abbrev pub heard_from : ℕ → MachineMemory → List Turned → Heard
 heard_from frames known turns = hear_turns (record { handle = known.handle; seq = known.seq; frames = frames; starved = false }) turns
 
-abbrev pub next_heard : Plan → Stand → List Turned → Heard
+abbrev pub next_heard : LoadPlan → Stand → List Turned → Heard
 next_heard plan s turns = heard_from s.frames (next_known plan s) turns
 
 -- what its machine knows then
-abbrev pub known_after : Task → Known → Heard → Known
+abbrev pub known_after : Task → MachineMemory → Heard → MachineMemory
 known_after task known heard = record { handle = heard.handle; seq = heard.seq; route = route_after task.kind known.route }
 
 -- where the load stands then
-abbrev pub stand_after : Plan → Stand → Exchange → ℕ → Point → Stand
+abbrev pub stand_after : LoadPlan → Stand → Exchange → ℕ → Point → Stand
 stand_after plan s x words point = record {
   number = s.number + 1;
   source = source_after plan s.number s.source;
@@ -97,7 +97,7 @@ stand_after plan s x words point = record {
 
 -- One request: it is made of where the load stands, and served as the last of a connection. Its turns come at its moment,
 -- with the random words that are next, and memory was refused to none.
-pub record IsStep (plan : Plan) (site : FrontSettings) (s : Stand) (x : Exchange) (t : Stand) : Type 0 where
+pub record IsStep (plan : LoadPlan) (site : FrontSettings) (s : Stand) (x : Exchange) (t : Stand) : Type 0 where
   pub request : Begins (task_message (next_task plan s) (next_known plan s)) x.request
   pub answered : IsAnswered site 0 true (wanted_of site x.request) x.turns x.bytes x.ended x.broken
   pub memory : HadMemory x.turns
@@ -109,11 +109,11 @@ pub record IsStep (plan : Plan) (site : FrontSettings) (s : Stand) (x : Exchange
   pub next : t ≡ stand_after plan s x t.words t.point
 
 -- requests, one after the other
-abbrev pub Steps : Plan → FrontSettings → Stand → List Exchange → Stand → Type 0
-Steps plan site s [] t = s ≡ t
-Steps plan site s (x ∷ xs) t = (u : Stand) × IsStep plan site s x u × Steps plan site u xs t
+abbrev pub LoadSteps : LoadPlan → FrontSettings → Stand → List Exchange → Stand → Type 0
+LoadSteps plan site s [] t = s ≡ t
+LoadSteps plan site s (x ∷ xs) t = (u : Stand) × IsStep plan site s x u × LoadSteps plan site u xs t
 
 -- some requests lead from one to the other
-pub record Runs (plan : Plan) (site : FrontSettings) (s t : Stand) : Type 0 where
+pub record Runs (plan : LoadPlan) (site : FrontSettings) (s t : Stand) : Type 0 where
   pub exchanges : List Exchange
-  pub steps : Steps plan site s exchanges t
+  pub steps : LoadSteps plan site s exchanges t

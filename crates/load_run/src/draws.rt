@@ -21,8 +21,8 @@ pub(crate) fn next_source(source: u64) -> u64
 }
 
 /// What the draw that left the source so gives.
-pub(crate) fn drawn(source: u64) -> u32
-    ensures value { result ≡ spec.drawn source }
+pub(crate) fn number_drawn(source: u64) -> u32
+    ensures value { result ≡ spec.number_drawn source }
 {
     (source / LAST_BITS) as u32
 }

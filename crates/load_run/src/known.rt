@@ -9,7 +9,7 @@ use tail_base::{NoMemory, Text};
 /// What a machine knows: the handle and the number of its last poll, and the route that it told of
 /// last.
 #[derive(Drop)]
-pub struct Known {
+pub struct MachineMemory {
     /// The handle of its session; it is empty before the first poll.
     pub handle: Text,
     /// The last number that it was sent.
@@ -18,12 +18,12 @@ pub struct Known {
     pub route: Option<u8>,
 }
 
-impl Known {
+impl MachineMemory {
     /// Nothing is known.
-    pub(crate) fn nothing(alloc: Global) -> Known
+    pub(crate) fn nothing(alloc: Global) -> MachineMemory
         ensures value { result ≡ spec.nothing }
     {
-        Known {
+        MachineMemory {
             handle: Text::new(alloc),
             seq: 0,
             route: None,
@@ -34,14 +34,14 @@ impl Known {
 /// What all machines know, seen as a list: the first is that of machine 1.
 #[derive(Drop)]
 pub struct Roll {
-    machines: Vec<Known>,
+    machines: Vec<MachineMemory>,
 }
 
 impl Model for Roll {
-    ghost use Rattle.load_run.specs.declared.known.Known.{Known};
+    ghost use Rattle.load_run.specs.declared.known.MachineMemory.{MachineMemory};
     ghost use Rattle.std.specs.Prelude.{List};
 
-    ghost Value = { List Known };
+    ghost Value = { List MachineMemory };
 
     ghost view = { λ a. a.machines.items };
 }
@@ -54,14 +54,14 @@ impl Roll {
         let mut roll = Vec::new(alloc);
         let mut made = 0;
         while made < machines {
-            roll.push(Known::nothing(alloc))?;
+            roll.push(MachineMemory::nothing(alloc))?;
             made += 1;
         }
         Ok(Roll { machines: roll })
     }
 
     /// What this machine knows.
-    pub(crate) fn of(&self, machine: u32) -> &Known
+    pub(crate) fn of(&self, machine: u32) -> &MachineMemory
         requires least { 1 ≤ machine }
         requires most { machine ≤ length self.now }
         ensures value { result.now ≡ spec.known_of self.now machine }
@@ -70,7 +70,7 @@ impl Roll {
     }
 
     /// This machine knows that from now on.
-    pub(crate) fn set(&mut self, machine: u32, known: Known)
+    pub(crate) fn set(&mut self, machine: u32, known: MachineMemory)
         requires least { 1 ≤ machine }
         requires most { machine ≤ length self.old }
         ensures value { self.new ≡ spec.with_known self.old machine known }

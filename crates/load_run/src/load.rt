@@ -4,9 +4,9 @@ ghost use Rattle.net_rows.specs.Rows.{empty_rows};
 ghost use Rattle.run_ends.specs.Lines.{Noted};
 ghost use Rattle.tailnet_desk.specs.Opening.{opening};
 ghost use Rattle.tailnet_desk.specs.Seated.{point_of};
-ghost use Rattle.load_run.specs.Beginning.{IsBegun, IsSeeded, unheard};
+ghost use Rattle.load_run.specs.Beginning.{IsBegun, IsLoadSeeded, unheard};
 ghost use Rattle.load_run.specs.Given as given;
-ghost use Rattle.load_run.specs.Loads.{IsLoadText, Loaded, first_moment, load_line, load_site};
+ghost use Rattle.load_run.specs.Loads.{IsLoadText, Loaded, load_moment, load_line, load_site};
 ghost use Rattle.load_run.specs.Watching.{watched_of};
 
 use crate::counts::Counts;
@@ -19,7 +19,7 @@ use crate::messages::SEED;
 use crate::outside::CountedWords;
 use crate::report::report;
 use crate::run::{Run, Stopped};
-use crate::task::Plan;
+use crate::task::LoadPlan;
 use crate::watched::WatchedDesk;
 use desk_front::Front;
 use io_edge::Sink;
@@ -36,7 +36,7 @@ const FIRST_MOMENT: i64 = 1_000_000_000;
 
 /// A desk over empty tables, of whose replies nothing was heard.
 fn open_desk(alloc: Global, settings: Settings) -> Result<WatchedDesk<SureKeeper>, NoMemory>
-    ensures state { IfOk result (λ w. w.desk.state ≡ opening settings empty_rows first_moment) }
+    ensures state { IfOk result (λ w. w.desk.state ≡ opening settings empty_rows load_moment) }
     ensures heard { IfOk result (λ w. w.heard ≡ unheard) }
 {
     match Desk::open(
@@ -60,7 +60,7 @@ fn open_desk(alloc: Global, settings: Settings) -> Result<WatchedDesk<SureKeeper
 
 /// Hands the key to the desk that machines register with. Of its reply nothing is counted.
 fn seed<K: Keeper>(alloc: Global, watched: &mut WatchedDesk<K>) -> Result<(), NoMemory>
-    ensures seeded { OnOk result (IsSeeded
+    ensures seeded { OnOk result (IsLoadSeeded
         (watched_of (point_of K.told K.faults K.calls) watched.old)
         (watched_of (point_of K.told K.faults K.calls) watched.new)) }
 {
@@ -76,7 +76,7 @@ fn seed<K: Keeper>(alloc: Global, watched: &mut WatchedDesk<K>) -> Result<(), No
 }
 
 /// A load that has begun, under these settings.
-fn begin(alloc: Global, settings: Settings, plan: &Plan) -> Result<Run<SureKeeper>, NoMemory>
+fn begin(alloc: Global, settings: Settings, plan: &LoadPlan) -> Result<Run<SureKeeper>, NoMemory>
     requires settings { settings ≡ given.load_settings }
     ensures begun { IfOk result (λ run. IsBegun plan.now
         (point_of ⟦<SureKeeper as Keeper>⟧.told ⟦<SureKeeper as Keeper>⟧.faults
@@ -97,7 +97,7 @@ fn begin(alloc: Global, settings: Settings, plan: &Plan) -> Result<Run<SureKeepe
 fn finish(
     alloc: Global,
     front: &Front,
-    plan: &Plan,
+    plan: &LoadPlan,
     run: &mut Run<SureKeeper>,
 ) -> Result<Text, Stopped>
     requires machines { 0 < plan.now.machines }
@@ -125,7 +125,7 @@ fn prepare(alloc: Global) -> Result<(Front, Settings), NoMemory>
 }
 
 /// Runs a load, and gives its six lines.
-fn run(alloc: Global, plan: &Plan) -> Result<Text, Stopped>
+fn run(alloc: Global, plan: &LoadPlan) -> Result<Text, Stopped>
     requires machines { 0 < plan.now.machines }
     ensures text { IfOk result (IsLoadText plan.now) }
 {
@@ -159,7 +159,7 @@ fn load_line(status: Status) -> &'static str
 }
 
 /// Runs a load and writes its six lines.
-fn write_load<O: Sink>(alloc: Global, plan: &Plan, output: &mut O) -> Status
+fn write_load<O: Sink>(alloc: Global, plan: &LoadPlan, output: &mut O) -> Status
     requires machines { 0 < plan.now.machines }
     ensures loaded { Loaded plan.now result (O.holds output.old) (O.holds output.new)
         (O.write_faults output.old) (O.write_faults output.new) }
@@ -190,7 +190,7 @@ pub fn load_command<O: Sink, E: Sink>(
     ensures noted { Noted (load_line result) false (E.holds errors.old) (E.holds errors.new)
         (E.write_faults errors.old) (E.write_faults errors.new) }
 {
-    let plan = Plan { machines, events };
+    let plan = LoadPlan { machines, events };
     let status = write_load(alloc, &plan, output);
     note_line(errors, load_line(status));
     status

@@ -2,7 +2,7 @@
 ghost use Rattle.std.specs.Prelude.{◌≡◌, ◌+◌, IfOk, codes, ◌^◌};
 ghost use Rattle.load_run.specs.Messages as spec;
 
-use crate::known::Known;
+use crate::known::MachineMemory;
 use crate::task::{PolicyChoice, Task, TaskKind};
 use std::alloc::Global;
 use tail_base::{NoMemory, Text};
@@ -14,9 +14,9 @@ pub(crate) const TOKEN: &str = "secret";
 pub(crate) const SEED: &str = "k1";
 
 /// A head and the 64 digits of a key: the number, its first byte the highest.
-#[tactic(auto, unfolding(crate::specs::Messages::key_text))]
-fn key_text(alloc: Global, head: &str, number: u64) -> Result<Text, NoMemory>
-    ensures value { IfOk result (λ text. text ≡ spec.key_text head.now number) }
+#[tactic(auto, unfolding(crate::specs::Messages::numbered_key))]
+fn numbered_key(alloc: Global, head: &str, number: u64) -> Result<Text, NoMemory>
+    ensures value { IfOk result (λ text. text ≡ spec.numbered_key head.now number) }
 {
     let mut text = Text::from_str(alloc, head)?;
     text.push("000000000000000000000000000000000000000000000000")?;
@@ -29,14 +29,14 @@ fn key_text(alloc: Global, head: &str, number: u64) -> Result<Text, NoMemory>
 fn machine_line(alloc: Global, machine: u32) -> Result<Text, NoMemory>
     ensures value { IfOk result (λ text. text ≡ spec.machine_line machine) }
 {
-    key_text(alloc, "Ts-Machine-Key: mkey:", u64::from(machine))
+    numbered_key(alloc, "Ts-Machine-Key: mkey:", u64::from(machine))
 }
 
 /// The node key of a machine.
-fn node_text(alloc: Global, machine: u32) -> Result<Text, NoMemory>
-    ensures value { IfOk result (λ text. text ≡ spec.node_text machine) }
+fn node_key_of(alloc: Global, machine: u32) -> Result<Text, NoMemory>
+    ensures value { IfOk result (λ text. text ≡ spec.node_key_of machine) }
 {
-    key_text(alloc, "nodekey:", u64::from(machine) + 0x1_0000_0000)
+    numbered_key(alloc, "nodekey:", u64::from(machine) + 0x1_0000_0000)
 }
 
 /// A request of these parts.
@@ -94,7 +94,7 @@ fn register_body(alloc: Global, node: &str) -> Result<Text, NoMemory>
 fn register_message(alloc: Global, machine: u32) -> Result<Text, NoMemory>
     ensures value { IfOk result (λ text. text ≡ spec.register_message machine) }
 {
-    let node = node_text(alloc, machine)?;
+    let node = node_key_of(alloc, machine)?;
     let body = register_body(alloc, node.as_str())?;
     machine_message(alloc, machine, "/machine/register", body.as_str())
 }
@@ -115,7 +115,7 @@ fn point_body(alloc: Global, last: u8, node: &str) -> Result<Text, NoMemory>
 fn point_message(alloc: Global, machine: u32, last: u8) -> Result<Text, NoMemory>
     ensures value { IfOk result (λ text. text ≡ spec.point_message machine last) }
 {
-    let node = node_text(alloc, machine)?;
+    let node = node_key_of(alloc, machine)?;
     let body = point_body(alloc, last, node.as_str())?;
     machine_message(alloc, machine, "/machine/map", body.as_str())
 }
@@ -139,7 +139,7 @@ fn announce_body(alloc: Global, second: u8, node: &str) -> Result<Text, NoMemory
 fn announce_message(alloc: Global, machine: u32, second: u8) -> Result<Text, NoMemory>
     ensures value { IfOk result (λ text. text ≡ spec.announce_message machine second) }
 {
-    let node = node_text(alloc, machine)?;
+    let node = node_key_of(alloc, machine)?;
     let body = announce_body(alloc, second, node.as_str())?;
     machine_message(alloc, machine, "/machine/map", body.as_str())
 }
@@ -159,11 +159,11 @@ fn poll_body(alloc: Global, handle: &str, seq: u64, node: &str) -> Result<Text, 
     Ok(text)
 }
 
-fn poll_message(alloc: Global, machine: u32, known: &Known) -> Result<Text, NoMemory>
+fn poll_message(alloc: Global, machine: u32, known: &MachineMemory) -> Result<Text, NoMemory>
     ensures value { IfOk result (λ text.
         text ≡ spec.poll_message machine known.now) }
 {
-    let node = node_text(alloc, machine)?;
+    let node = node_key_of(alloc, machine)?;
     let body = poll_body(alloc, known.handle.as_str(), known.seq, node.as_str())?;
     machine_message(alloc, machine, "/machine/map", body.as_str())
 }
@@ -215,7 +215,11 @@ fn rename_message(alloc: Global, machine: u32, number: u32) -> Result<Text, NoMe
 
 /// The bytes of the request that asks this, of a machine that knows so much.
 #[tactic(auto, unfolding(crate::specs::Messages::task_message))]
-pub(crate) fn task_message(alloc: Global, task: &Task, known: &Known) -> Result<Text, NoMemory>
+pub(crate) fn task_message(
+    alloc: Global,
+    task: &Task,
+    known: &MachineMemory,
+) -> Result<Text, NoMemory>
     ensures value { IfOk result (λ text. text ≡ spec.task_message task.now known.now) }
 {
     let machine = task.machine;

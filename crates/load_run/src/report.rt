@@ -3,7 +3,7 @@ ghost use Rattle.std.specs.Prelude.{◌≡◌, ◌++◌, IfOk, OnOk};
 ghost use Rattle.load_run.specs.Report as spec;
 
 use crate::counts::Counts;
-use crate::task::{Plan, request_count};
+use crate::task::{LoadPlan, request_count};
 use std::alloc::Global;
 use tail_base::{NoMemory, Text};
 
@@ -26,7 +26,7 @@ fn add_line(alloc: Global, text: &mut Text, name: &str, number: u64) -> Result<(
 #[tactic(auto, unfolding(crate::specs::Report::report))]
 pub(crate) fn report(
     alloc: Global,
-    plan: &Plan,
+    plan: &LoadPlan,
     counts: &Counts,
     frames: u64,
 ) -> Result<Text, NoMemory>

@@ -3,7 +3,7 @@ ghost use Rattle.std.specs.Prelude.{◌≡◌, ◌<◌, ◌≤◌, ◌+◌, ◌^
 ghost use Rattle.tailnet_desk.specs.Seated.{point_of};
 ghost use Rattle.load_run.specs.Knowing.{known_of, with_known};
 ghost use Rattle.load_run.specs.Messages.{task_message};
-ghost use Rattle.load_run.specs.Running.{IsNext, IsReady, IsTaken, heard_by, run_with_known, stand_of, taking_of};
+ghost use Rattle.load_run.specs.Running.{IsNextRequest, IsReady, IsTaken, heard_by, run_with_known, stand_of, taking_of};
 ghost use Rattle.load_run.specs.Served.{IsServed};
 ghost use Rattle.load_run.specs.Steps as spec;
 ghost use Rattle.load_run.specs.Steps.{Runs};
@@ -12,10 +12,10 @@ ghost use Rattle.load_run.specs.Watching.{IsWatchedTurn, watched_of};
 
 use crate::counts::{Counts, is_starved};
 use crate::heard::Heard;
-use crate::known::{Known, Roll};
+use crate::known::{MachineMemory, Roll};
 use crate::messages::task_message;
 use crate::outside::{CountedWords, StillClock};
-use crate::task::{Plan, Task, TaskKind, moment_at, request_count, source_after, task_at};
+use crate::task::{LoadPlan, Task, TaskKind, moment_at, request_count, source_after, task_at};
 use crate::watched::WatchedDesk;
 use connections::serve;
 use desk_front::Front;
@@ -146,7 +146,7 @@ impl<K: Keeper> Run<K> {
         let route = route_after(task.kind, self.roll.of(task.machine).route);
         self.roll.set(
             task.machine,
-            Known {
+            MachineMemory {
                 handle,
                 seq: self.watched.heard.seq,
                 route,
@@ -160,13 +160,13 @@ impl<K: Keeper> Run<K> {
         &mut self,
         alloc: Global,
         front: &Front,
-        plan: &Plan,
+        plan: &LoadPlan,
         number: u64,
     ) -> Result<(), Stopped>
         requires machines { 0 < plan.now.machines }
         requires within { number < tasks.request_count plan.now }
         requires ready { IsReady plan.now number self.old }
-        ensures next { OnOk result (IsNext plan.now front.now
+        ensures next { OnOk result (IsNextRequest plan.now front.now
             (stand_of (point_of K.told K.faults K.calls) number self.old)
             (stand_of (point_of K.told K.faults K.calls) (number + 1) self.new)) }
         ensures ready { OnOk result (IsReady plan.now (number + 1) self.new) }
@@ -191,7 +191,7 @@ impl<K: Keeper> Run<K> {
         &mut self,
         alloc: Global,
         front: &Front,
-        plan: &Plan,
+        plan: &LoadPlan,
     ) -> Result<(), Stopped>
         requires machines { 0 < plan.now.machines }
         requires ready { IsReady plan.now 0 self.old }

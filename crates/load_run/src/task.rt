@@ -2,11 +2,11 @@
 ghost use Rattle.std.specs.Prelude.{◌≡◌, ◌<◌, ◌≤◌, ◌+◌, ◌*◌, ◌&&◌, nat_le, nat_lt};
 ghost use Rattle.load_run.specs.Tasks as spec;
 
-use crate::draws::{drawn, next_source};
+use crate::draws::{next_source, number_drawn};
 
 /// How large a load is.
 #[derive(Clone, Copy, Debug, PartialEq, Eq)]
-pub struct Plan {
+pub struct LoadPlan {
     /// How many machines register, and poll at last.
     pub machines: u32,
     /// How many events come between.
@@ -51,14 +51,14 @@ pub struct Task {
 }
 
 /// How many requests a load has.
-pub(crate) fn request_count(plan: &Plan) -> u64
+pub(crate) fn request_count(plan: &LoadPlan) -> u64
     ensures value { result ≡ spec.request_count plan.now }
 {
     2 * u64::from(plan.machines) + u64::from(plan.events)
 }
 
 /// Whether the request of this number, counted from 0, is an event that is drawn.
-pub(crate) fn is_drawn(plan: &Plan, number: u64) -> bool
+pub(crate) fn is_drawn(plan: &LoadPlan, number: u64) -> bool
     ensures value { result ≡ spec.is_drawn plan.now number }
 {
     u64::from(plan.machines) <= number && number < u64::from(plan.machines) + u64::from(plan.events)
@@ -96,7 +96,7 @@ fn kind_of(kind: u32, value: u32) -> TaskKind
 }
 
 /// The event that three draws give: its kind, its machine, and a value.
-fn drawn_task(plan: &Plan, source: u64) -> Task
+fn drawn_task(plan: &LoadPlan, source: u64) -> Task
     requires some { 0 < plan.now.machines }
     ensures value { result ≡ spec.drawn_task plan.now source }
 {
@@ -104,15 +104,15 @@ fn drawn_task(plan: &Plan, source: u64) -> Task
     let second = next_source(first);
     let third = next_source(second);
     Task {
-        machine: drawn(second) % plan.machines + 1,
-        kind: kind_of(drawn(first), drawn(third)),
+        machine: number_drawn(second) % plan.machines + 1,
+        kind: kind_of(number_drawn(first), number_drawn(third)),
     }
 }
 
 /// What the request of this number asks: first each machine registers, then come the events, and at
 /// last each machine polls.
 #[tactic(auto, unfolding(crate::specs::Tasks::task_at))]
-pub(crate) fn task_at(plan: &Plan, number: u64, source: u64) -> Task
+pub(crate) fn task_at(plan: &LoadPlan, number: u64, source: u64) -> Task
     requires some { 0 < plan.now.machines }
     requires within { number < spec.request_count plan.now }
     ensures value { result ≡ spec.task_at plan.now number source }
@@ -137,7 +137,7 @@ pub(crate) fn task_at(plan: &Plan, number: u64, source: u64) -> Task
 
 /// The source behind the request of this number.
 #[tactic(auto, unfolding(crate::specs::Tasks::source_after))]
-pub(crate) fn source_after(plan: &Plan, number: u64, source: u64) -> u64
+pub(crate) fn source_after(plan: &LoadPlan, number: u64, source: u64) -> u64
     ensures value { result ≡ spec.source_after plan.now number source }
 {
     if is_drawn(plan, number) {
@@ -151,7 +151,7 @@ pub(crate) fn source_after(plan: &Plan, number: u64, source: u64) -> u64
 const FIRST_MOMENT: i64 = 1_000_000_000;
 
 /// How many events have come when the request of this number comes, itself among them.
-fn events_by(plan: &Plan, number: u64) -> u64
+fn events_by(plan: &LoadPlan, number: u64) -> u64
     requires within { number < spec.request_count plan.now }
     ensures value { result ≡ spec.events_by plan.now number }
     ensures most { result ≤ plan.now.events }
@@ -166,7 +166,7 @@ fn events_by(plan: &Plan, number: u64) -> u64
 
 /// The moment of the request of this number.
 #[tactic(auto, unfolding(crate::specs::Tasks::moment_at))]
-pub(crate) fn moment_at(plan: &Plan, number: u64) -> i64
+pub(crate) fn moment_at(plan: &LoadPlan, number: u64) -> i64
     requires within { number < spec.request_count plan.now }
     ensures value { result ≡ spec.moment_at plan.now number }
 {

@@ -1,6 +1,6 @@
 //! The top call.
 ghost use Rattle.std.specs.Prelude.{◌≡◌, false, map, option_map, string_bytes};
-ghost use Rattle.command_words.specs.Arguments.{HasMachine};
+ghost use Rattle.command_words.specs.Arguments.{HasLoadMachine};
 ghost use Rattle.command_words.specs.Words.{invocation_of};
 ghost use Rattle.tailnet_commands.specs.Outside.{doors_told, link_told, outside};
 ghost use Rattle.tailnetd.specs.Top.{WordsDone, Top, asks_link};
@@ -51,7 +51,7 @@ fn run_asked<
     doors: &mut D,
     link: &mut L,
 ) -> Status
-    requires machine { HasMachine asked.now }
+    requires machine { HasLoadMachine asked.now }
     ensures ran { let at = outside I.left I.read_faults O.holds O.write_faults
         E.holds E.write_faults F.holds F.faults P.told P.asked P.faults C.answer N.word N.faults in
         let doors_at = doors_told D.coming D.finished D.asked D.faults in
