@@ -38,7 +38,7 @@ end_some crlf = omega arith
 end_some lf = omega arith
 
 -- a line takes three bytes
-few : (fields : List Field) → AllByRecursion IsField fields → 3 * length fields ≤ length (flat_map print_field fields)
+pub few : (fields : List Field) → AllByRecursion IsField fields → 3 * length fields ≤ length (flat_map print_field fields)
 few [] each = omega arith
 few (f ∷ fields) each =
     let below = few fields each.1 in

@@ -1,5 +1,5 @@
 //! Bytes that were read and not yet served.
-ghost use Rattle.std.specs.Prelude.{◌≡◌, ◌≤◌, ◌↔◌, [], drop, vec_len, IfOk, IsTrue};
+ghost use Rattle.std.specs.Prelude.{◌≡◌, ◌≤◌, ◌↔◌, [], drop, length, vec_len, IfOk, IsTrue};
 ghost use Rattle.io_edge.specs.Edge.{Rose};
 ghost use Rattle.http_front.specs.Taking.{IsStepOf, Refills};
 ghost use Rattle.http_front.specs.declared.buffer.Refill.TheVariants.{Failed};
@@ -104,6 +104,21 @@ impl Buffer {
         self.at == self.bytes.len()
     }
 
+    /// The bytes held.
+    pub fn held(&self) -> &[u8]
+        ensures value { result.now ≡ self.now }
+    {
+        &self.bytes[self.at..]
+    }
+
+    /// Takes the first bytes as served.
+    pub fn serve(&mut self, count: usize)
+        requires within { count ≤ length self.old }
+        ensures value { self.new ≡ drop count self.old }
+    {
+        self.at += count;
+    }
+
     /// Serves the request that the bytes begin with, if it is whole.
     pub(crate) fn step(&mut self, alloc: Global) -> Step
         ensures steps { IsStepOf self.old self.new result }
@@ -123,7 +138,7 @@ impl Buffer {
     }
 
     /// Reads a piece behind the bytes held.
-    pub(crate) fn refill<I: Source>(&mut self, input: &mut I) -> Refill
+    pub fn refill<I: Source>(&mut self, input: &mut I) -> Refill
         ensures refills { Refills (I.left input.old) (I.left input.new) self.old self.new result }
         ensures later { I.read_faults input.old ≤ I.read_faults input.new }
         ensures cause { result ≡ Failed → Rose (I.read_faults input.old) (I.read_faults input.new) }

@@ -42,7 +42,7 @@ fn are_digits(bytes: &[u8]) -> bool
 }
 
 /// The number that 1 to 10 digits write.
-fn length_value(digits: &[u8]) -> Option<u64>
+pub fn length_value(digits: &[u8]) -> Option<u64>
     ensures value { result ≡ length_value digits.now }
 {
     if !digits.is_empty() && digits.len() <= 10 && are_digits(digits) {

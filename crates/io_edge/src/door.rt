@@ -63,7 +63,8 @@ pub trait Doors {
     ghost faults: { Self → ℕ };
 
     /// Opens so many doors at an address, which a host's name or an IP address and a port make up.
-    /// While they are open, nothing is said of what the whole tells to come or to have finished.
+    /// A door tells what comes only where the whole told it. While they are open, nothing is said of
+    /// what the whole tells to come or to have finished.
     fn open(
         &mut self,
         alloc: Global,
@@ -73,6 +74,7 @@ pub trait Doors {
         ensures count { IfOk result (λ doors. length doors.items ≡ count) }
         ensures fresh { IfOk result (λ doors. All (λ d. Self.Door.faults d ≡ 0) doors.items) }
         ensures opened { IfOk result (λ doors. IfSome (coming self.old) (λ told. (i : ℕ) → IfSome (slice_get doors.items i) (λ d. IsOpenedWith (for_place told i) (Self.Door.coming d) (Self.Door.finished d) (Self.Door.number d)))) }
+        ensures untold { IfOk result (λ doors. coming self.old ≡ None → All (λ d. Self.Door.coming d ≡ None) doors.items) }
         ensures err { OnErr result ((coming self.new ≡ coming self.old) × (finished self.new ≡ finished self.old)) }
         ensures asked { IsAsked result (record { address = address.now; count = count }) (asked self.old) (asked self.new) }
         ensures later { faults self.old ≤ faults self.new }

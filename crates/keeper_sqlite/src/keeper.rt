@@ -1,18 +1,24 @@
 //! A keeper over a connection to a database.
-ghost use Rattle.std.specs.Prelude.{◌≡◌, ◌≤◌, None, Err, false, IsTrue, OnOk, OnErr, IsErrOf};
+ghost use Rattle.std.specs.Prelude.{◌≡◌, ◌≤◌, None, Err, false, is_ok, IsTrue, IfOk, IfErr, OnOk, OnErr, IsErrOf};
 ghost use Rattle.io_edge.specs.Edge.{Rose};
-ghost use Rattle.keeper_sqlite.specs.Pending.{IsSettled, Leaves};
+ghost use Rattle.net_rows.specs.Damage.{damage};
+ghost use Rattle.net_rows.specs.Rows.{after, empty_rows};
+ghost use Rattle.net_rows.specs.declared.rows.Rows.{Rows};
+ghost use Rattle.store_commits.specs.Kept.{AreStored, HoldsMade, Keeps, Makes};
+ghost use Rattle.store_commits.specs.Pending.{IsSettled, Leaves};
+ghost use Rattle.store_reads.specs.Readable.{AreReadable, IsOutside};
+ghost use Rattle.store_reads.specs.Seen.{IsSeen};
+ghost use Rattle.store_texts.specs.Schema.{no_schema, schema_1};
 ghost use Rattle.sqlite.specs.Held.{state};
-ghost use Rattle.sqlite.specs.State.{HasCleanDisk};
+ghost use Rattle.sqlite.specs.State.{HasCleanDisk, Survives};
 
-use crate::commit::commit;
-use crate::fault::Fault;
 use crate::load::load;
 use io_edge::EdgeFault;
 use net_rows::{Change, Tables};
 use row_keeper::{Keeper, LoadFault};
 use sqlite::{Alter, Connection};
 use std::alloc::Global;
+use store_commits::{Fault, commit};
 
 /// Keeps the tables in the database of a connection. Before it has loaded them it takes no change.
 #[derive(Drop)]
@@ -63,14 +69,53 @@ impl<S: Alter> SqliteKeeper<S> {
         self.faults = self.faults.saturating_add(1);
     }
 
+    /// The tables that the database keeps; from then on changes are taken.
+    fn read(&mut self, alloc: Global) -> Result<Tables, LoadFault>
+        ensures loaded { HasCleanDisk (state S.Store self.new.conn) → (rows : Rows)
+            → Keeps (state S.Store self.old.conn).now rows → AreReadable rows
+            → damage rows ≡ None → IfOk result (λ tables. tables.rows ≡ rows) }
+        ensures whole { HasCleanDisk (state S.Store self.new.conn) → (rows : Rows)
+            → Keeps (state S.Store self.old.conn).now rows → AreReadable rows
+            → damage rows ≡ None → IfErr result IsOutside }
+        ensures seen { (state S.Store self.old.conn).now.schema ≡ schema_1
+            → IsSeen schema_1 (state S.Store self.old.conn) (state S.Store self.new.conn)
+            (is_ok result) }
+        ensures first { HasCleanDisk (state S.Store self.new.conn)
+            → (state S.Store self.old.conn).now.schema ≡ no_schema
+            → IfOk result (λ tables. tables.rows ≡ empty_rows) }
+        ensures first_whole { HasCleanDisk (state S.Store self.new.conn)
+            → (state S.Store self.old.conn).now.schema ≡ no_schema → IfErr result IsOutside }
+        ensures first_crash { HasCleanDisk (state S.Store self.new.conn)
+            → (state S.Store self.old.conn).now.schema ≡ no_schema
+            → Survives (state S.Store self.old.conn) (state S.Store self.new.conn)
+            (λ trees. AreStored trees empty_rows) }
+        ensures taken { OnOk result (IsTrue self.new.is_loaded) }
+        ensures calls { self.new.calls ≡ self.old.calls }
+        ensures later { self.old.faults ≤ self.new.faults }
+        ensures cause { IsErrOf result LoadFault.Failed → Rose self.old.faults self.new.faults }
+    {
+        let loaded = load(&mut self.conn, alloc);
+        match &loaded {
+            Ok(_) => self.is_loaded = true,
+            Err(LoadFault::Failed) => self.raise(),
+            Err(LoadFault::Damaged { .. } | LoadFault::NoMemory) => {}
+        }
+        loaded
+    }
+
     /// Keeps the change. Before the tables were loaded it fails, and nothing is asked of the store.
     fn keep(&mut self, alloc: Global, change: &Change) -> Result<(), EdgeFault>
         ensures waits { self.old.is_loaded ≡ false
             → (result ≡ Err EdgeFault.Failed) × (self.new.conn ≡ self.old.conn) }
         ensures ok { HasCleanDisk (state S.Store self.new.conn)
             → OnOk result (IsSettled (state S.Store self.new.conn)) }
+        ensures made { HasCleanDisk (state S.Store self.new.conn) → OnOk result (Makes
+            (state S.Store self.old.conn).now (state S.Store self.new.conn).now
+            (λ rows. after rows change.now)) }
         ensures err { HasCleanDisk (state S.Store self.new.conn)
             → OnErr result (Leaves (state S.Store self.old.conn) (state S.Store self.new.conn)) }
+        ensures crash { Survives (state S.Store self.old.conn) (state S.Store self.new.conn)
+            (HoldsMade (state S.Store self.old.conn).now (λ rows. after rows change.now)) }
         ensures calls { self.new.calls ≡ self.old.calls }
         ensures later { self.old.faults ≤ self.new.faults }
         ensures cause { IsErrOf result EdgeFault.Failed → Rose self.old.faults self.new.faults }
@@ -99,13 +144,7 @@ impl<S: Alter + Drop> Keeper for SqliteKeeper<S> {
 
     fn load(&mut self, alloc: Global) -> Result<Tables, LoadFault> {
         self.calls = self.calls.saturating_add(1);
-        let loaded = load(&mut self.conn, alloc);
-        match &loaded {
-            Ok(_) => self.is_loaded = true,
-            Err(LoadFault::Failed) => self.raise(),
-            Err(LoadFault::Damaged { .. } | LoadFault::NoMemory) => {}
-        }
-        loaded
+        self.read(alloc)
     }
 
     fn commit(&mut self, alloc: Global, change: &Change) -> Result<(), EdgeFault> {

@@ -1,19 +1,13 @@
 //! The tables of a tailnet in a SQLite database: keepers over a store, and what opens them.
 #![tactic(auto)]
 
-mod cells;
-mod commit;
-mod create;
-mod fault;
 mod forms;
 mod host_keeper;
 mod host_opener;
 mod keeper;
-mod kept;
 mod load;
 mod opener;
 mod schema;
-mod sql;
 
 pub use host_keeper::HostKeeper;
 pub use host_opener::HostOpener;

@@ -1,242 +1,180 @@
 //! The tables that a database keeps.
-ghost use Rattle.std.specs.Prelude.{◌≡◌, OnOk};
+ghost use Rattle.std.specs.Prelude.{◌≡◌, None, Ok, IfOk, IfErr, OnOk, is_ok};
+ghost use Rattle.net_rows.specs.Damage.{damage};
+ghost use Rattle.net_rows.specs.Rows.{empty_rows};
+ghost use Rattle.net_rows.specs.declared.rows.Rows.{Rows};
 ghost use Rattle.sqlite.specs.Held.{state};
-ghost use Rattle.store_texts.specs.Schema.{schema_1};
+ghost use Rattle.sqlite.specs.State.{HasCleanDisk, Survives};
+ghost use Rattle.store_commits.specs.Kept.{AreStored, Keeps};
+ghost use Rattle.store_reads.specs.Readable.{AreReadable, Fills, IsOutside};
+ghost use Rattle.store_reads.specs.Seen.{IsSeen};
+ghost use Rattle.store_texts.specs.Schema.{no_schema, schema_1};
 
-use crate::cells::cells_of;
-use crate::create::{FIRST, create};
-use crate::fault::Fault;
-use crate::kept::Kept;
 use crate::schema::{is_empty, is_schema_1};
-use crate::sql::rows_of;
-use net_rows::{Counters, Damage, Kind, Rows, Tables};
+use net_rows::{Damage, Kind, Rows, Tables};
 use row_keeper::LoadFault;
-use sqlite::types::ValueRef;
 use sqlite::{Alter, Connection, Row};
 use std::alloc::Global;
-use store_rows::{read_extra, read_meta, read_policy_text};
-use store_texts::{select_extras, select_meta, select_policy};
-use tail_base::{Items, Text};
-use tailcfg::DnsExtra;
+use store_commits::{Fault, create};
+use store_reads::{load_fault, read_rows, rows_of};
+use store_texts::select_schema;
 
-/// Damage of what has no id.
-fn damaged(kind: Kind) -> LoadFault {
-    LoadFault::Damaged { kind, id: 0 }
-}
-
-/// The id that a row shows; 0 where it shows none.
-fn id_of(row: &Row) -> u32 {
-    match row.get_ref(0) {
-        Ok(ValueRef::Int(n)) => u32::try_from(n).unwrap_or(0),
-        _ => 0,
-    }
-}
-
-/// The row of an id that stands so in the database, if it is one.
-fn read_row<T: Kept>(alloc: Global, row: &Row) -> Result<Option<T>, Fault> {
-    let cells = cells_of(alloc, row)?;
-    Ok(T::read(alloc, cells.as_slice())?)
-}
-
-/// The rows of a kind; the first that is no stored row is damaged.
-fn rows_in<T: Kept>(alloc: Global, rows: &[Row]) -> Result<Items<T>, LoadFault> {
-    let mut all = Items::new(alloc);
-    for row in rows {
-        let Some(read) = read_row(alloc, row)? else {
-            return Err(LoadFault::Damaged {
-                kind: T::kind(),
-                id: id_of(row),
-            });
-        };
-        if all.push(read).is_err() {
-            return Err(LoadFault::NoMemory);
-        }
-    }
-    Ok(all)
-}
-
-/// The rows of a kind that the database keeps.
-fn read_all<T: Kept, S: Alter>(
-    conn: &mut Connection<S>,
-    alloc: Global,
-) -> Result<Items<T>, LoadFault> {
-    let rows = rows_of(conn, T::select())?;
-    rows_in(alloc, rows.as_slice())
-}
-
-/// The counters in the one row that holds them, if it is such a row.
-fn next_in(alloc: Global, rows: &[Row]) -> Result<Option<Counters>, Fault> {
-    let [row] = rows else {
-        return Ok(None);
-    };
-    let cells = cells_of(alloc, row)?;
-    Ok(read_meta(alloc, cells.as_slice())?)
-}
-
-/// The counters that the database keeps.
-fn read_next<S: Alter>(conn: &mut Connection<S>, alloc: Global) -> Result<Counters, LoadFault> {
-    let rows = rows_of(conn, select_meta())?;
-    match next_in(alloc, rows.as_slice())? {
-        Some(next) => Ok(next),
-        None => Err(damaged(Kind::Meta)),
-    }
-}
-
-/// The extra record of a place that stands so in the database, if it is one.
-fn extra_in(alloc: Global, place: u32, row: &Row) -> Result<Option<DnsExtra>, Fault> {
-    let cells = cells_of(alloc, row)?;
-    Ok(read_extra(alloc, place, cells.as_slice())?)
-}
-
-/// The extra records of these rows, whose places count from 1.
-fn extras_in(alloc: Global, rows: &[Row]) -> Result<Items<DnsExtra>, LoadFault> {
-    let mut extras = Items::new(alloc);
-    let mut place = 0u32;
-    for row in rows {
-        place = place.saturating_add(1);
-        let Some(extra) = extra_in(alloc, place, row)? else {
-            return Err(damaged(Kind::Extras));
-        };
-        if extras.push(extra).is_err() {
-            return Err(LoadFault::NoMemory);
-        }
-    }
-    Ok(extras)
-}
-
-/// The extra records that the database keeps.
-fn read_extras<S: Alter>(
-    conn: &mut Connection<S>,
-    alloc: Global,
-) -> Result<Items<DnsExtra>, LoadFault> {
-    let rows = rows_of(conn, select_extras())?;
-    extras_in(alloc, rows.as_slice())
-}
-
-/// The policy's text in the one row that holds it, if it is such a row.
-fn policy_in(alloc: Global, row: &Row) -> Result<Option<Text>, Fault> {
-    let cells = cells_of(alloc, row)?;
-    Ok(read_policy_text(alloc, cells.as_slice())?)
-}
-
-/// The policy's text that the database keeps; None before the first is kept.
-fn read_policy<S: Alter>(
-    conn: &mut Connection<S>,
-    alloc: Global,
-) -> Result<Option<Text>, LoadFault> {
-    let rows = rows_of(conn, select_policy())?;
-    match rows.as_slice() {
-        [] => Ok(None),
-        [row] => match policy_in(alloc, row)? {
-            Some(text) => Ok(Some(text)),
-            None => Err(damaged(Kind::Policy)),
-        },
-        _ => Err(damaged(Kind::Policy)),
-    }
-}
-
-/// No rows, and counters at 1.
-fn no_rows(alloc: Global) -> Rows {
-    Rows {
-        users: Items::new(alloc),
-        keys: Items::new(alloc),
-        pending: Items::new(alloc),
-        machines: Items::new(alloc),
-        extras: Items::new(alloc),
-        policy: None,
-        next: FIRST,
-    }
-}
-
-/// Reads the counters, the users and the keys.
-fn read_users<S: Alter>(
-    conn: &mut Connection<S>,
-    alloc: Global,
-    rows: &mut Rows,
-) -> Result<(), LoadFault> {
-    rows.next = read_next(conn, alloc)?;
-    rows.users = read_all(conn, alloc)?;
-    rows.keys = read_all(conn, alloc)?;
-    Ok(())
-}
-
-/// Reads the pending entries and the machines.
-fn read_machines<S: Alter>(
-    conn: &mut Connection<S>,
-    alloc: Global,
-    rows: &mut Rows,
-) -> Result<(), LoadFault> {
-    rows.pending = read_all(conn, alloc)?;
-    rows.machines = read_all(conn, alloc)?;
-    Ok(())
-}
-
-/// Reads the extra records and the policy.
-fn read_texts<S: Alter>(
-    conn: &mut Connection<S>,
-    alloc: Global,
-    rows: &mut Rows,
-) -> Result<(), LoadFault> {
-    rows.extras = read_extras(conn, alloc)?;
-    rows.policy = read_policy(conn, alloc)?;
-    Ok(())
-}
-
-/// Reads all rows, in this order.
-fn read_each<S: Alter>(
-    conn: &mut Connection<S>,
-    alloc: Global,
-    rows: &mut Rows,
-) -> Result<(), LoadFault> {
-    read_users(conn, alloc, rows)?;
-    read_machines(conn, alloc, rows)?;
-    read_texts(conn, alloc, rows)
-}
-
-/// All rows that the database keeps. The first in the order of reading that is no stored row is
-/// damaged.
-fn read_rows<S: Alter>(conn: &mut Connection<S>, alloc: Global) -> Result<Rows, LoadFault> {
-    let mut rows = no_rows(alloc);
-    match read_each(conn, alloc, &mut rows) {
-        Ok(()) => Ok(rows),
-        Err(fault) => Err(fault),
-    }
+/// What a database lists, whatever it is.
+fn listed<S: Alter>(conn: &mut Connection<S>) -> Result<Vec<Row>, Fault>
+    ensures seen { IsSeen no_schema (state S.Store conn.old) (state S.Store conn.new)
+        (is_ok result) }
+{
+    rows_of(conn, select_schema())
 }
 
 /// Makes the tables in a database that has nothing. One that has what the store doesn't read is left
 /// as it is.
-fn make<S: Alter>(conn: &mut Connection<S>, alloc: Global) -> Result<(), Fault> {
-    let listed = rows_of(conn, "SELECT name FROM sqlite_schema")?;
-    if listed.is_empty() {
-        create(conn, alloc)
+fn make<S: Alter>(conn: &mut Connection<S>, alloc: Global) -> Result<(), Fault>
+    ensures made { HasCleanDisk (state S.Store conn.new)
+        → (state S.Store conn.old).now.schema ≡ no_schema
+        → OnOk result (Keeps (state S.Store conn.new).now empty_rows) }
+    ensures crash { HasCleanDisk (state S.Store conn.new)
+        → (state S.Store conn.old).now.schema ≡ no_schema
+        → Survives (state S.Store conn.old) (state S.Store conn.new)
+        (λ trees. AreStored trees empty_rows) }
+{
+    match listed(conn) {
+        Ok(listed) if listed.is_empty() => create(conn, alloc),
+        Ok(_) => Err(Fault::Failed),
+        Err(fault) => Err(fault),
+    }
+}
+
+/// Sees that the database has our tables and nothing else.
+fn require_ours<S: Alter>(conn: &Connection<S>) -> Result<(), LoadFault>
+    ensures ours { OnOk result ((state S.Store conn.now).now.schema ≡ schema_1) }
+    ensures there { (state S.Store conn.now).now.schema ≡ schema_1 → result ≡ Ok tt }
+{
+    if is_schema_1(conn.schema()) {
+        Ok(())
     } else {
-        Err(Fault::Failed)
+        Err(LoadFault::Damaged {
+            kind: Kind::Meta,
+            id: 0,
+        })
+    }
+}
+
+/// Makes the tables in a database that has nothing, and sees that it has them.
+fn make_first<S: Alter>(conn: &mut Connection<S>, alloc: Global) -> Result<(), LoadFault>
+    ensures ours { OnOk result ((state S.Store conn.new).now.schema ≡ schema_1) }
+    ensures first { HasCleanDisk (state S.Store conn.new)
+        → (state S.Store conn.old).now.schema ≡ no_schema
+        → Fills result (Keeps (state S.Store conn.new).now empty_rows) }
+    ensures crash { HasCleanDisk (state S.Store conn.new)
+        → (state S.Store conn.old).now.schema ≡ no_schema
+        → Survives (state S.Store conn.old) (state S.Store conn.new)
+        (λ trees. AreStored trees empty_rows) }
+{
+    match make(conn, alloc) {
+        Ok(()) => require_ours(conn),
+        Err(fault) => Err(load_fault(fault)),
     }
 }
 
 /// Sees that the database has our tables and nothing else, and makes them where it has nothing.
+#[tactic(auto, using(crate::proofs::Schemas::none_is_not_ours))]
 fn prepare<S: Alter>(conn: &mut Connection<S>, alloc: Global) -> Result<(), LoadFault>
     ensures ours { OnOk result ((state S.Store conn.new).now.schema ≡ schema_1) }
+    ensures there { (state S.Store conn.old).now.schema ≡ schema_1
+        → (result ≡ Ok tt) × (conn.new ≡ conn.old) }
+    ensures first { HasCleanDisk (state S.Store conn.new)
+        → (state S.Store conn.old).now.schema ≡ no_schema
+        → Fills result (Keeps (state S.Store conn.new).now empty_rows) }
+    ensures crash { HasCleanDisk (state S.Store conn.new)
+        → (state S.Store conn.old).now.schema ≡ no_schema
+        → Survives (state S.Store conn.old) (state S.Store conn.new)
+        (λ trees. AreStored trees empty_rows) }
 {
     if is_empty(conn.schema()) {
-        make(conn, alloc)?;
-    }
-    if is_schema_1(conn.schema()) {
-        Ok(())
+        make_first(conn, alloc)
     } else {
-        Err(damaged(Kind::Meta))
+        require_ours(conn)
     }
 }
 
-/// The tables that the database keeps. Where it has nothing, they are made first.
-pub(crate) fn load<S: Alter>(conn: &mut Connection<S>, alloc: Global) -> Result<Tables, LoadFault> {
-    if !conn.is_autocommit() {
-        return Err(LoadFault::Failed);
-    }
-    prepare(conn, alloc)?;
-    let rows = read_rows(conn, alloc)?;
+/// The tables of these rows; the first rule that they break is their damage.
+fn tables_of(rows: Rows) -> Result<Tables, LoadFault>
+    ensures ok { IfOk result (λ tables. tables.rows ≡ rows) }
+    ensures whole { damage rows ≡ None → IfErr result IsOutside }
+{
     match Tables::checked(rows) {
         Ok(tables) => Ok(tables),
         Err(Damage { kind, id }) => Err(LoadFault::Damaged { kind, id }),
     }
+}
+
+/// The tables that a database of schema 1 keeps.
+fn read_tables<S: Alter>(conn: &mut Connection<S>, alloc: Global) -> Result<Tables, LoadFault>
+    ensures seen { IsSeen schema_1 (state S.Store conn.old) (state S.Store conn.new)
+        (is_ok result) }
+    ensures loaded { HasCleanDisk (state S.Store conn.new) → (rows : Rows)
+        → Keeps (state S.Store conn.old).now rows → AreReadable rows
+        → IfOk result (λ tables. tables.rows ≡ rows) }
+    ensures whole { HasCleanDisk (state S.Store conn.new) → (rows : Rows)
+        → Keeps (state S.Store conn.old).now rows → AreReadable rows → damage rows ≡ None
+        → IfErr result IsOutside }
+{
+    match read_rows(conn, alloc) {
+        Ok(rows) => tables_of(rows),
+        Err(fault) => Err(fault),
+    }
+}
+
+/// The same where the database may have nothing: its tables are made first.
+fn load_tables<S: Alter>(conn: &mut Connection<S>, alloc: Global) -> Result<Tables, LoadFault>
+    ensures seen { (state S.Store conn.old).now.schema ≡ schema_1
+        → IsSeen schema_1 (state S.Store conn.old) (state S.Store conn.new) (is_ok result) }
+    ensures loaded { HasCleanDisk (state S.Store conn.new) → (rows : Rows)
+        → Keeps (state S.Store conn.old).now rows → AreReadable rows
+        → IfOk result (λ tables. tables.rows ≡ rows) }
+    ensures whole { HasCleanDisk (state S.Store conn.new) → (rows : Rows)
+        → Keeps (state S.Store conn.old).now rows → AreReadable rows → damage rows ≡ None
+        → IfErr result IsOutside }
+    ensures first { HasCleanDisk (state S.Store conn.new)
+        → (state S.Store conn.old).now.schema ≡ no_schema
+        → IfOk result (λ tables. tables.rows ≡ empty_rows) }
+    ensures first_whole { HasCleanDisk (state S.Store conn.new)
+        → (state S.Store conn.old).now.schema ≡ no_schema → IfErr result IsOutside }
+    ensures first_crash { HasCleanDisk (state S.Store conn.new)
+        → (state S.Store conn.old).now.schema ≡ no_schema
+        → Survives (state S.Store conn.old) (state S.Store conn.new)
+        (λ trees. AreStored trees empty_rows) }
+{
+    match prepare(conn, alloc) {
+        Ok(()) => read_tables(conn, alloc),
+        Err(fault) => Err(fault),
+    }
+}
+
+/// The tables that the database keeps. Where it has nothing, they are made first.
+#[tactic(auto, using(crate::proofs::Firsts::untouched, crate::proofs::Firsts::unseen))]
+pub(crate) fn load<S: Alter>(conn: &mut Connection<S>, alloc: Global) -> Result<Tables, LoadFault>
+    ensures loaded { HasCleanDisk (state S.Store conn.new) → (rows : Rows)
+        → Keeps (state S.Store conn.old).now rows → AreReadable rows → damage rows ≡ None
+        → IfOk result (λ tables. tables.rows ≡ rows) }
+    ensures whole { HasCleanDisk (state S.Store conn.new) → (rows : Rows)
+        → Keeps (state S.Store conn.old).now rows → AreReadable rows → damage rows ≡ None
+        → IfErr result IsOutside }
+    ensures first { HasCleanDisk (state S.Store conn.new)
+        → (state S.Store conn.old).now.schema ≡ no_schema
+        → IfOk result (λ tables. tables.rows ≡ empty_rows) }
+    ensures first_whole { HasCleanDisk (state S.Store conn.new)
+        → (state S.Store conn.old).now.schema ≡ no_schema → IfErr result IsOutside }
+    ensures seen { (state S.Store conn.old).now.schema ≡ schema_1
+        → IsSeen schema_1 (state S.Store conn.old) (state S.Store conn.new) (is_ok result) }
+    ensures first_crash { HasCleanDisk (state S.Store conn.new)
+        → (state S.Store conn.old).now.schema ≡ no_schema
+        → Survives (state S.Store conn.old) (state S.Store conn.new)
+        (λ trees. AreStored trees empty_rows) }
+{
+    if !conn.is_autocommit() {
+        return Err(LoadFault::Failed);
+    }
+    load_tables(conn, alloc)
 }

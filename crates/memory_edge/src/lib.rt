@@ -1,10 +1,12 @@
-//! The outside in memory, for programs that are run on given connections: doors, and a pause.
+//! The outside in memory, for programs that are run on given bytes: doors, a link, and a pause.
 #![tactic(auto)]
 
 mod door;
 mod doors;
+mod link;
 mod pause;
 
 pub use door::MemoryDoor;
 pub use doors::{DoorPlan, MemoryDoors};
+pub use link::MemoryLink;
 pub use pause::MemoryPause;

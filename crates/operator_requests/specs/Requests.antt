@@ -1,5 +1,6 @@
 -- The request of each command.
-use Rattle.std.specs.Prelude.{ℕ, List, ◌++◌, Option, Some, None, codes}
+use Rattle.std.specs.Prelude.{ℕ, Bool, ◌||◌, ◌==◌, List, ◌++◌, Option, Some, None, codes}
+use Rattle.std.specs.Char.{is_ascii_alphanumeric}
 use Rattle.std.specs.Fmt.{decimal}
 use Rattle.percent_encoding.specs.Percent.{percent_encode}
 use Rattle.serde_json.specs.Data.{Data, string, object, no_members}
@@ -29,6 +30,10 @@ post_of path d = record { method = method.Post; path = path; body = Some (compac
 
 abbrev pub put_of : List ℕ → List ℕ → OperatorRequest
 put_of path file = record { method = method.Put; path = path; body = Some file }
+
+-- a byte of a login that stands in a path as it is: a letter, a digit, `.`, `_`, `+`, `-` or `@`
+abbrev pub is_login_byte : ℕ → Bool
+is_login_byte b = is_ascii_alphanumeric b || b == 46 || b == 95 || b == 43 || b == 45 || b == 64
 
 -- The path of a user. A login's bytes other than letters, digits, `.`, `_`, `+`, `-` and `@` are percent-encoded.
 abbrev pub user_path : List ℕ → List ℕ

@@ -1,10 +1,11 @@
 -- What flags say of machines is what their ends say.
 use Rattle.std.proofs.Common.{◌≡◌, ◌+◌, ◌&&◌, ◌||◌, ℕ, Bool, true, false, List, [], ◌∷◌, ◌++◌, ◌⊎◌, length, append_assoc, length-append, inl, inr, refl, sym, ap, ◌∙◌, not, subst, if◌then◌else◌}
-use Rattle.std.specs.Prelude.{Contains, Option, Some, filter, flat_map, slice_get}
+use Rattle.std.specs.Prelude.{Contains, Option, Some, filter, flat_map, slice_get, slice_index_or}
 use Rattle.std.specs.List.{list_any}
 use Rattle.std.specs.Option.{option_map_or}
 use Rattle.std.proofs.lemmas.Bool.{and_from, and_parts, cases_Bool, or_cases, or_left, or_right}
 use Rattle.std.proofs.lemmas.List.Elements.{Contains-append_cases, Contains-append_left}
+use Rattle.std.proofs.lemmas.Option.{get_or_from_slice_get}
 use Rattle.tail_base.proofs.Bools.{same_tests}
 use Rattle.net_rows.proofs.Members.{cut_member, first_member, list_any_found, list_any_is, no_member, rest_member}
 use Rattle.policy_rows.specs.Named.{members_of}
@@ -222,6 +223,29 @@ joins_by_ends : (groups : List Group) (r : Rule) (m : Site) (ds : List End) → 
 joins_by_ends groups r m ds =
     ap (λ (b : Bool). b && joins_machine m ds) (sends_by_ends groups r m)
     ∙ and_twice (some_source groups r (machine_end m m.v4)) (some_source groups r (machine_end m m.v6)) (joins_machine m ds)
+
+-- ---- what the code has at hand: a flag at two places, and a test behind it
+
+flag_is : (rules : List Rule) (sites : List Site) (at place : ℕ) (r : Rule) (m : Site) (test : Rule → Site → Bool) (flag : Bool) → slice_get rules at ≡ Some r → slice_get sites place ≡ Some m
+    → ((z : Rule) (y : Site) → flag ≡ test (slice_index_or rules at z) (slice_index_or sites place y)) → flag ≡ test r m
+flag_is rules sites at place r m test flag here there told =
+    told r m ∙ (λ i. test (get_or_from_slice_get rules at r r here i) (get_or_from_slice_get sites place m m there i))
+
+pub passes_behind : (rules : List Rule) (sites : List Site) (at place : ℕ) (r : Rule) (m : Site) (first : Rule → Site → Bool) (second : Site → Bool) (flag last : Bool)
+    → slice_get rules at ≡ Some r → slice_get sites place ≡ Some m → ((z : Rule) (y : Site) → flag ≡ first (slice_index_or rules at z) (slice_index_or sites place y))
+    → flag ≡ true → last ≡ second m → last ≡ passes_at sites (λ y. first r y && second y) place
+passes_behind rules sites at place r m first second flag last here there told set passes =
+    let both : true ≡ first r m = sym set ∙ flag_is rules sites at place r m first flag here there told in
+    let found = ap (λ (o : Option Site). option_map_or (λ y. first r y && second y) o false) there in
+    passes ∙ ((λ i. both i && second m) ∙ sym found)
+
+pub fails_before : (rules : List Rule) (sites : List Site) (at place : ℕ) (r : Rule) (m : Site) (first : Rule → Site → Bool) (second : Site → Bool) (flag : Bool)
+    → slice_get rules at ≡ Some r → slice_get sites place ≡ Some m → ((z : Rule) (y : Site) → flag ≡ first (slice_index_or rules at z) (slice_index_or sites place y))
+    → flag ≡ false → flag ≡ passes_at sites (λ y. first r y && second y) place
+fails_before rules sites at place r m first second flag here there told unset =
+    let none : false ≡ first r m = sym unset ∙ flag_is rules sites at place r m first flag here there told in
+    let found = ap (λ (o : Option Site). option_map_or (λ y. first r y && second y) o false) there in
+    unset ∙ ((λ i. none i && second m) ∙ sym found)
 
 -- ---- a destination, a rule, and all of them
 

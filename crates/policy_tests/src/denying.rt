@@ -1,6 +1,7 @@
 //! Whether deny entries pass: each rule is asked once, and of machines by its flags.
 ghost use Rattle.std.specs.Prelude.{◌≡◌, ◌&&◌, IfOk, Some, slice_get};
 ghost use Rattle.std.specs.List.{list_any};
+ghost use Rattle.std.specs.Option.{option_copied};
 ghost use Rattle.policy_sites.specs.ByRule.{sends};
 ghost use Rattle.policy_sites.specs.Covers.{covers, joins_own};
 ghost use Rattle.policy_sites.specs.Grants.{some_source};
@@ -25,12 +26,19 @@ struct RuleAt<'a> {
     ghost is: { slice_get x.now.rules at ≡ Some rule.now },
 }
 
+/// The machine at that place.
+fn machine_at<'a>(x: &'a Expanded, place: usize) -> Option<&'a Site>
+    ensures value { option_copied result ≡ slice_get x.now.sites place }
+{
+    x.sites().get(place)
+}
+
 /// Whether the machine at that place may send by the rule. One flag tells it of all its ends.
 fn place_sends(r: &RuleAt<'_>, place: usize) -> bool
     ensures value { result
         ≡ passes_at r.now.x.now.sites (sends r.now.x.now.groups r.now.rule.now) place }
 {
-    match r.x.sites().get(place) {
+    match machine_at(r.x, place) {
         Some(_) => r.x.sends(r.at, place),
         None => false,
     }
@@ -42,7 +50,7 @@ fn place_takes(r: &RuleAt<'_>, entry: &Dest, place: usize) -> bool
     ensures value { result
         ≡ passes_at r.now.x.now.sites (takes_by r.now.x.now.groups r.now.rule.now entry.now) place }
 {
-    match r.x.sites().get(place) {
+    match machine_at(r.x, place) {
         Some(site) => r.x.takes(r.at, place) && covers_site(r.x.groups(), site, &entry.to),
         None => false,
     }
@@ -73,7 +81,7 @@ fn place_joins(r: &RuleAt<'_>, dests: &[End], place: usize) -> bool
     ensures value { result ≡ passes_at r.now.x.now.sites
         (λ m. sends r.now.x.now.groups r.now.rule.now m && joins_machine m dests.now) place }
 {
-    match r.x.sites().get(place) {
+    match machine_at(r.x, place) {
         Some(site) => r.x.sends(r.at, place) && joins_machine(site, dests),
         None => false,
     }

@@ -107,8 +107,8 @@ fn add_users(alloc: Global, out: &mut Items<End>, logins: &[Login]) -> Result<()
     Ok(())
 }
 
-/// The ends that a subject or a destination stands for, over these machines, without theirs: the phantoms of
-/// a user, a group or a tag, and an address's end.
+/// The ends that a subject or a destination stands for without those of the machines of users and tags:
+/// the phantoms of a user, a group or a tag, and an address's end, with who of these machines holds it.
 pub(crate) fn core_of(
     alloc: Global,
     groups: &[Group],

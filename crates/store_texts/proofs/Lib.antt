@@ -4,8 +4,10 @@ pub mod Running
 pub mod Writes
 pub mod Puts
 pub mod Places
+pub mod Creates
 pub mod Deletes
 pub mod Inserts
 pub mod Meanings
 pub mod Selects
+pub mod Shows
 pub mod Updates

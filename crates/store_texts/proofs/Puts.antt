@@ -22,7 +22,8 @@ use Rattle.store_texts.specs.Means.{Means}
 use Rattle.store_texts.specs.Ran.{HasRun, IsPutBy}
 use Rattle.store_texts.specs.Schema.{schema_1, column_of}
 use Rattle.store_texts.proofs.Lists.{row_of, left}
-use Rattle.store_texts.proofs.Writes.{plain_table, SetsRows, inserts, deletes, replaces, empties}
+use Rattle.store_texts.specs.Standing.{AreTaken, SetsRows}
+use Rattle.store_texts.proofs.Writes.{plain_table, inserts, deletes, replaces, empties}
 
 -- no table of ours refers to another one
 calm_1 : (keys : Keys) (tree : ℕ) (olds news : List Row) → works schema_1 keys 0 tree olds news ≡ []
@@ -43,13 +44,6 @@ cast_nothing = either _ Null
 pub cast_bytes : (b : List ℕ) → cast Integer (Blob b) ≡ Blob b
 unfolding unary value_cmp
 cast_bytes b = refl
-
--- each column takes its value as it is
-abbrev pub AreTaken : List Column → Row → Type 0
-AreTaken [] [] = Unit {0}
-AreTaken [] (v ∷ vs) = ⊥
-AreTaken (c ∷ cs) [] = ⊥
-AreTaken (c ∷ cs) (v ∷ vs) = (cast c.kind v ≡ v) × AreTaken cs vs
 
 takes_all : (columns : List Column) (values : Row) → AreTaken columns values → cast_all columns values ≡ values
 takes_all [] [] h = refl

@@ -1,6 +1,6 @@
 -- What an INSERT of one row, a DELETE and an UPDATE by an id make of the trees: of any table that is as plain as ours.
-use Rattle.std.proofs.Common.{◌≡◌, ◌≢◌, ◌⊎◌, ◌/◌, inl, inr, ℕ, pos, List, [], ◌∷◌, ◌++◌, map, drop, flat_map, length, unwrap_or, slice_get, true, false, not, Some, Ok, Err, Result, refl, sym, ap, subst, ◌∙◌, arith, IsPermutation}
-use Rattle.std.specs.List.{AllByRecursion, list_all}
+use Rattle.std.proofs.Common.{◌≡◌, ◌⊎◌, ◌/◌, inl, inr, ℕ, pos, List, [], ◌∷◌, ◌++◌, map, drop, flat_map, length, unwrap_or, slice_get, true, false, not, Some, Ok, Err, Result, refl, sym, ap, subst, ◌∙◌, arith, IsPermutation}
+use Rattle.std.specs.List.{list_all}
 use Rattle.std.proofs.Common.{Ordering, Less, Equal, Greater}
 use Rattle.std.specs.Ordering.{match_ordering}
 use Rattle.std.proofs.lemmas.Int.{ints}
@@ -35,6 +35,7 @@ use Rattle.sqlite.specs.Rows.{Written}
 use Rattle.sqlite.specs.Effect.{Database, value_rows}
 use Rattle.sqlite.specs.Listing.{understood}
 use Rattle.store_texts.specs.Ran.{HasRun}
+use Rattle.store_texts.specs.Standing.{AreOthersKept, SetsRows}
 use Rattle.store_texts.proofs.Running.{wrote_as}
 use Rattle.sqlite.proofs.Callers.{IsPlain, command_of, one_step}
 use Rattle.store_texts.specs.Commands.{one_by_id, replaced_by_id, all_ids}
@@ -65,16 +66,6 @@ plain_table name tree columns uniques orders = record {
   stamps = record { places = []; terms = []; formats = [] };
   is_counted = false;
 }
-
--- the trees of the other tables are as they were
-abbrev pub AreOthersKept : Schema → ℕ → Trees → Trees → Type 0
-AreOthersKept schema tree old new = AllByRecursion (λ t. t.tree ≢ tree → new t.tree ≡ old t.tree) schema.tables
-
--- the rows of one tree are now these, and those of the other tables stay
-pub record SetsRows (schema : Schema) (tree : ℕ) (rows : List Row) (old new : Database) : Type 0 where
-  pub schema_is : new.schema ≡ schema
-  pub rows_are : new.trees tree ≡ rows
-  pub others : AreOthersKept schema tree old.trees new.trees
 
 given_rowid : (rows : List Row) (row : Row) → is_null (rowid row) ≡ false → with_rowid Chosen rows row ≡ row
 given_rowid rows row some = rw some refl

@@ -29,6 +29,10 @@ create_extras_text = codes "CREATE TABLE extras (place INTEGER PRIMARY KEY, name
 abbrev pub create_policy_text : List ℕ
 create_policy_text = codes "CREATE TABLE policy (k INTEGER PRIMARY KEY, body TEXT NOT NULL)"
 
+-- the names of all tables, indexes and views
+abbrev pub select_schema_text : List ℕ
+select_schema_text = codes "SELECT name FROM sqlite_schema"
+
 -- all rows of `meta`, by their keys
 abbrev pub select_meta_text : List ℕ
 select_meta_text = codes "SELECT k, version, next_user, next_key, next_pending, next_machine FROM meta ORDER BY k"

@@ -1,5 +1,7 @@
 //! What the statements mean. None of these functions does anything: each states a law.
-ghost use Rattle.std.specs.Prelude.{◌≡◌, Ok};
+ghost use Rattle.std.specs.Prelude.{◌≡◌, ◌∷◌, [], ℕ, Ok};
+ghost use Rattle.sqlite_value.specs.declared.value.Value.{Value};
+ghost use Rattle.store_texts.specs.Standing.{PutsRow, TakesAllOut, TakesRowOut};
 ghost use Rattle.sqlite_catalog.specs.Change.{created};
 ghost use Rattle.sqlite_resolve.specs.Compile.{table_defined_by};
 ghost use Rattle.store_texts.specs.Commands.{update_meta, update_users, update_auth_keys, update_pending, update_machines, update_policy, clear_extras, select_meta, select_users, select_auth_keys, select_pending, select_machines, select_extras, select_policy, insert_meta, insert_users, insert_auth_keys, insert_pending, insert_machines, insert_extras, insert_policy, delete_users, delete_auth_keys, delete_pending, delete_machines};
@@ -64,4 +66,37 @@ pub fn updates_replace_a_row()
     ensures machines { Means update_machines_text update_machines }
     ensures policy { Means update_policy_text update_policy }
     ensures extras { Means clear_extras_text clear_extras }
+{}
+
+/// An UPDATE that found a row, or one that found none with the INSERT behind it, puts the row of its
+/// parameters in its place by the id. The other tables stay.
+pub fn puts_replace_or_add()
+    ensures meta { (id : ℕ) (a b c d e : Value)
+        → PutsRow meta_table update_meta_text insert_meta_text id
+        (a ∷ b ∷ c ∷ d ∷ e ∷ []) }
+    ensures users { (id : ℕ) (a : Value)
+        → PutsRow users_table update_users_text insert_users_text id
+        (a ∷ []) }
+    ensures auth_keys { (id : ℕ) (a b c d e f g : Value)
+        → PutsRow auth_keys_table update_auth_keys_text insert_auth_keys_text id
+        (a ∷ b ∷ c ∷ d ∷ e ∷ f ∷ g ∷ []) }
+    ensures pending { (id : ℕ) (a b c d e f g h i : Value)
+        → PutsRow pending_table update_pending_text insert_pending_text id
+        (a ∷ b ∷ c ∷ d ∷ e ∷ f ∷ g ∷ h ∷ i ∷ []) }
+    ensures machines { (id : ℕ) (a b c d e f g h i j k l m n o p : Value)
+        → PutsRow machines_table update_machines_text insert_machines_text id
+        (a ∷ b ∷ c ∷ d ∷ e ∷ f ∷ g ∷ h ∷ i ∷ j ∷ k ∷ l ∷ m ∷ n ∷ o ∷ p ∷ []) }
+    ensures policy { (id : ℕ) (a : Value)
+        → PutsRow policy_table update_policy_text insert_policy_text id
+        (a ∷ []) }
+{}
+
+/// A DELETE that has run leaves the rows of the other ids, and that of the extra records none. The
+/// other tables stay.
+pub fn deletes_leave_the_others()
+    ensures users { TakesRowOut users_table delete_users_text }
+    ensures auth_keys { TakesRowOut auth_keys_table delete_auth_keys_text }
+    ensures pending { TakesRowOut pending_table delete_pending_text }
+    ensures machines { TakesRowOut machines_table delete_machines_text }
+    ensures extras { TakesAllOut extras_table clear_extras_text }
 {}

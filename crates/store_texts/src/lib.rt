@@ -18,12 +18,12 @@ pub use insert::{
     insert_users,
 };
 pub use laws::{
-    deletes_take_out_a_row, inserts_add_their_parameters, selects_show_all_rows,
-    the_texts_make_the_schema, updates_replace_a_row,
+    deletes_leave_the_others, deletes_take_out_a_row, inserts_add_their_parameters,
+    puts_replace_or_add, selects_show_all_rows, the_texts_make_the_schema, updates_replace_a_row,
 };
 pub use select::{
     select_auth_keys, select_extras, select_machines, select_meta, select_pending, select_policy,
-    select_users,
+    select_schema, select_users,
 };
 pub use update::{
     update_auth_keys, update_machines, update_meta, update_pending, update_policy, update_users,

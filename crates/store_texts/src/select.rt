@@ -1,6 +1,13 @@
 //! The texts that show rows.
 ghost use Rattle.std.specs.Prelude.{◌≡◌};
-ghost use Rattle.store_texts.specs.Texts.{select_meta_text, select_users_text, select_auth_keys_text, select_pending_text, select_machines_text, select_extras_text, select_policy_text};
+ghost use Rattle.store_texts.specs.Texts.{select_schema_text, select_meta_text, select_users_text, select_auth_keys_text, select_pending_text, select_machines_text, select_extras_text, select_policy_text};
+
+/// Shows the names of all tables, indexes and views, in a database of whatever tables.
+pub fn select_schema() -> &'static str
+    ensures value { result.now ≡ select_schema_text }
+{
+    "SELECT name FROM sqlite_schema"
+}
 
 /// Shows all rows of `meta`, by their keys.
 pub fn select_meta() -> &'static str

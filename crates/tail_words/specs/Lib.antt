@@ -1,3 +1,2 @@
 pub mod SettingsText
 pub mod SettingsValues
-pub mod Words

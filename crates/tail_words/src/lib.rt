@@ -1,4 +1,4 @@
-//! The settings file and the words of the command line, read.
+//! The settings file, read.
 #![tactic(auto)]
 
 mod dns;
@@ -9,8 +9,6 @@ mod rules;
 mod settings_file;
 mod table;
 mod values;
-mod words;
 
 pub use fault::{SettingsFault, SettingsRule};
 pub use settings_file::read_settings;
-pub use words::{Command, Pipe, read_command, read_words};

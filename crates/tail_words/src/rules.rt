@@ -13,7 +13,7 @@ pub(crate) fn is_base_domain(text: &[u8]) -> bool
 }
 
 /// Whether each byte is visible ASCII.
-pub(crate) fn has_visible_bytes(text: &[u8]) -> bool
+fn has_visible_bytes(text: &[u8]) -> bool
     ensures value { result ≡ list_all (λ b. nat_le 33 b && nat_le b 126) text.now }
 {
     text.iter().all(|b| 33 <= *b && *b <= 126)

@@ -1,4 +1,5 @@
 pub mod SeedLemmas
 pub mod RunLemmas
+pub mod OpenedLemmas
 pub mod PipeLemmas
 pub mod CompleteLemmas

@@ -1,9 +1,9 @@
 -- A run over settings.
-use Rattle.std.proofs.Common.{◌≡◌, ◌+◌, ◌-◌, ℕ, ℤ, Option, None, Some, List, [], ◌++◌, length, inr, refl, ap, sym, ◌∙◌, arith, subst}
+use Rattle.std.proofs.Common.{◌≡◌, ◌+◌, ◌-◌, ℕ, ℤ, Option, None, Some, List, [], ◌++◌, length, ap, sym, ◌∙◌, arith, subst}
 use Rattle.std.specs.Prelude.{IfSome}
 use Rattle.std.specs.Option.{option_map}
 use Rattle.moments.specs.Moments.{clamped}
-use Rattle.io_edge.specs.Edge.{Rose, RoseBy, IsWhereTold, StillTells}
+use Rattle.io_edge.specs.Edge.{RoseBy, IsWhereTold, StillTells}
 use Rattle.net_rows.specs.Damage.{damage}
 use Rattle.net_rows.specs.Sound.{AreSound}
 use Rattle.net_rows.proofs.Sounds.{sound_of}
@@ -14,8 +14,6 @@ use Rattle.tailnet_desk.specs.Opening.{opening}
 use Rattle.tailnet_desk.specs.Seated.{Keeping, Point}
 use Rattle.tailnet_desk.specs.Turns.{IsTurn}
 use Rattle.desk_state.specs.State.{State}
-use Rattle.tailnet_desk.specs.declared.desk.OpenFault.{OpenFault}
-use Rattle.tailnet_desk.specs.declared.desk.OpenFault.TheVariants as fault
 use Rattle.tailnet_desk.proofs.Histories.{Chain-append, history_of}
 use Rattle.tailnet_desk.proofs.SoundHistories.{legal_sound}
 use Rattle.tailnet_laws.proofs.Following.{opening_followed}
@@ -23,13 +21,12 @@ use Rattle.desk_front.specs.Wanted.{front_settings}
 use Rattle.connections.specs.Connection.{IsConnection}
 use Rattle.connections.specs.Exchanges.{turns_of}
 use Rattle.connections.specs.Tellings.{from_number}
-use Rattle.tailnet_commands.specs.Run.{Conversation, IsAskedFor, IsUnopened, Ran, Untouched, IsFaultOf}
+use Rattle.tailnet_commands.specs.Run.{Conversation, IsAskedFor}
 use Rattle.tailnet_commands.specs.Outside.{Outside}
 use Rattle.tailnet_commands.specs.Seeding.{IsSeeded}
 use Rattle.connections.proofs.Seen.{serves_from, with_answers}
 use Rattle.connections.proofs.Tellings.{same_moments}
 use Rattle.run_ends.specs.declared.closed.Closed.{Closed}
-use Rattle.run_ends.specs.declared.ended.Ended.{Ended}
 
 -- what is where an object tells, is where one still tells
 pub where_still : {A : Type 0} (x : A) (a b : Option A) → StillTells a b → IsWhereTold x a → IsWhereTold x b
@@ -107,10 +104,3 @@ conversed closed settings seed moment old new f g d keeping middle final hold wh
       final_rows = last;
       rose = rose;
     }
-
--- a desk that didn't open
-pub faulted : (f : OpenFault) (e : Ended) (settings : SettingsFields) (seed : Option (List ℕ)) (old new : Outside) → IsFaultOf f e → Untouched old new → IsAskedFor settings old new → (f ≡ fault.KeeperFault → Rose old.keeper_faults new.keeper_faults)
-    → ((kind : _) (id : ℕ) → f ≡ fault.Damaged kind id → IsUnopened kind id old.rows) → Ran e settings seed old new
-faulted fault.KeeperFault e settings seed old new is quiet asked rose damaged = rw is (quiet, asked, rose refl)
-faulted (fault.Damaged kind id) e settings seed old new is quiet asked rose damaged = rw is (quiet, asked, damaged kind id refl)
-faulted fault.NoMemory e settings seed old new is quiet asked rose damaged = rw is (quiet, inr asked)

@@ -2,6 +2,7 @@
 #![tactic(auto)]
 
 mod checking;
+mod desk_opening;
 mod law;
 mod limits;
 mod piping;
@@ -9,6 +10,7 @@ mod running;
 mod seeding;
 
 pub use checking::policy_check;
+pub use desk_opening::open_desk;
 pub use law::completeness;
 pub use limits::FILE_LIMIT;
-pub use piping::pipe_command;
+pub use piping::{pipe_command, settings_file};

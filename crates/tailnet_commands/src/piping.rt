@@ -16,7 +16,7 @@ use tail_base::{NoMemory, Text};
 use tail_words::{SettingsFault, read_settings};
 
 /// The settings of a file.
-fn settings_file<F: Files>(alloc: Global, files: &mut F, name: &str) -> Result<Settings, Ended>
+pub fn settings_file<F: Files>(alloc: Global, files: &mut F, name: &str) -> Result<Settings, Ended>
     ensures read { IsSettingsFile result (F.holds files.old name.now)
         (F.faults files.old) (F.faults files.new) }
 {

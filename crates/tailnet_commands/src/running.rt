@@ -2,30 +2,18 @@
 ghost use Rattle.std.specs.Prelude.{◌≡◌};
 ghost use Rattle.desk_front.specs.Wanted.{front_settings};
 ghost use Rattle.tailnet_commands.specs.Outside.{Outside, around};
-ghost use Rattle.tailnet_commands.specs.Run.{IsFaultOf, Ran};
+ghost use Rattle.tailnet_commands.specs.Run.{Ran};
 
+use crate::desk_opening::open_desk;
 use crate::seeding::seed_desk;
 use connections::serve_desk;
 use desk_front::Front;
-use io_edge::{Clock, EdgeFault, Entropy, Sink, Source};
-use moments::Moment;
+use io_edge::{Clock, Entropy, Sink, Source};
 use row_keeper::Opener;
 use run_ends::Ended;
 use settings::Settings;
 use std::alloc::Global;
 use tail_base::Text;
-use tailnet_desk::{Desk, OpenFault};
-
-/// How a run ends whose desk didn't open.
-fn ended_of(fault: OpenFault) -> Ended
-    ensures fault { IsFaultOf fault result }
-{
-    match fault {
-        OpenFault::KeeperFault => Ended::KeeperFault,
-        OpenFault::Damaged { kind, id } => Ended::Damaged { kind, id },
-        OpenFault::NoMemory => Ended::NoMemory,
-    }
-}
 
 /// Opens a desk over what the opener keeps, hands it the seed, if there is one, and serves one
 /// connection over it behind this front. What is told of the rest of the outside, before and after,
@@ -49,18 +37,9 @@ pub(crate) fn run<I: Source, O: Sink, P: Opener, C: Clock, N: Entropy>(
         (at before input.old output.old opener.old clock.old entropy.old)
         (at after input.new output.new opener.new clock.new entropy.new) }
 {
-    let moment = Moment::clamp(clock.seconds());
-    let fields = settings.fields();
-    let requests = fields.requests;
-    let keeper = match opener.open(alloc, fields.database.as_str()) {
-        Ok(keeper) => keeper,
-        Err(EdgeFault::Failed) => return Ended::KeeperFault,
-        Err(EdgeFault::NoMemory) => return Ended::NoMemory,
-    };
-    match Desk::open(alloc, settings, keeper, moment) {
+    let requests = settings.fields().requests;
+    match open_desk(alloc, settings, opener, clock) {
         Ok(mut desk) => {
-            // Its tables keep their rules, as those of each open desk do.
-            let _rules = desk.tables();
             seed_desk(alloc, &mut desk, clock, seed);
             let closed = serve_desk(
                 alloc, front, requests, &mut desk, input, output, clock, entropy,
@@ -68,9 +47,6 @@ pub(crate) fn run<I: Source, O: Sink, P: Opener, C: Clock, N: Entropy>(
             opener.close(desk.close());
             Ended::Closed(closed)
         }
-        Err((fault, keeper)) => {
-            opener.close(keeper);
-            ended_of(fault)
-        }
+        Err(ended) => ended,
     }
 }

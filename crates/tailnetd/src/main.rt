@@ -8,11 +8,12 @@ mod wordless;
 
 use crate::top::tailnetd;
 use crate::wordless::end_wordless;
-use io_edge::{HostClock, HostEntropy, HostFiles, NoDoors, NoLink, NoPause, ReadSource, WriteSink};
+use io_edge::{HostClock, HostEntropy, HostFiles, NoDoors, NoPause, ReadSource, WriteSink};
 use keeper_sqlite::HostOpener;
 use std::io::ErrorKind;
 use std::process::ExitCode;
 use std::{env, io};
+use tcp_edge::TcpLink;
 
 /// The words after the program's name.
 fn words_of(rt: &HostRuntime) -> io::Result<Vec<String>> {
@@ -48,7 +49,7 @@ fn main(rt: HostRuntime) -> ExitCode {
         &mut HostEntropy::new(rt),
         &mut NoDoors::new(),
         &NoPause,
-        &mut NoLink::new(),
+        &mut TcpLink::new(rt),
     );
     ExitCode::from(status.number())
 }

@@ -1,5 +1,7 @@
-//! The top call, policy files, and runs one behind the other.
+//! The top call, policy files, the operator's commands, and runs one behind the other.
 mod checks;
+mod operators;
+mod outside;
 mod reopened;
 mod words;
 

@@ -1,22 +1,90 @@
 //! The top call.
-ghost use Rattle.std.specs.Prelude.{◌≡◌, map, string_bytes};
-ghost use Rattle.tail_words.specs.Words.{command_of};
+ghost use Rattle.std.specs.Prelude.{◌≡◌, false, map, option_map, string_bytes};
+ghost use Rattle.command_words.specs.Words.{invocation_of};
 ghost use Rattle.tailnet_commands.specs.Outside.{doors_told, link_told, outside};
-ghost use Rattle.tailnetd.specs.Top.{Top};
+ghost use Rattle.tailnetd.specs.Top.{WordsDone, Top, asks_link};
 
+use crate::wordless::end_wordless;
+use command_words::{Invocation, read_invocation};
 use io_edge::{Clock, Doors, Entropy, Files, Link, Pause, Sink, Source};
+use operator_commands::operator_command;
 use row_keeper::Opener;
 use run_ends::{Status, note_usage};
 use std::alloc::Global;
 use std::sync::Wait;
 use std::thread::Threads;
-use tail_words::{Command, Pipe, read_command};
+use tail_base::Text;
 use tailnet_commands::{pipe_command, policy_check};
+
+fn text_of(text: &Option<Text>) -> Option<&str>
+    ensures value { option_map (λ t. t.now) result ≡ text.now }
+{
+    match text {
+        Some(text) => Some(text.as_str()),
+        None => None,
+    }
+}
+
+/// Does what was asked, or leaves the line of words that are no command.
+fn run_asked<
+    I: Source,
+    O: Sink,
+    E: Sink,
+    F: Files,
+    P: Opener,
+    C: Clock + Send,
+    N: Entropy + Send,
+    D: Doors,
+    L: Link,
+>(
+    alloc: Global,
+    asked: &Option<Invocation>,
+    input: &mut I,
+    output: &mut O,
+    errors: &mut E,
+    files: &mut F,
+    opener: &mut P,
+    clock: &mut C,
+    entropy: &mut N,
+    doors: &mut D,
+    link: &mut L,
+) -> Status
+    ensures ran { let at = outside I.left I.read_faults O.holds O.write_faults
+        E.holds E.write_faults F.holds F.faults P.told P.asked P.faults C.answer N.word N.faults in
+        let doors_at = doors_told D.coming D.finished D.asked D.faults in
+        let link_at = link_told L.left L.read_faults L.holds L.write_faults L.asked in
+        WordsDone asked.now result
+        (at (doors_at doors.old) (link_at link.old)
+        input.old output.old errors.old files.old opener.old clock.old entropy.old)
+        (at (doors_at doors.new) (link_at link.new)
+        input.new output.new errors.new files.new opener.new clock.new entropy.new) }
+    ensures doors { doors.new ≡ doors.old }
+    ensures link { asks_link asked.now ≡ false → link.new ≡ link.old }
+{
+    match asked {
+        Some(Invocation::Pipe { settings, seed }) => {
+            let (settings, seed) = (settings.as_str(), text_of(seed));
+            pipe_command(
+                alloc, settings, seed, input, output, errors, files, opener, clock, entropy,
+            )
+        }
+        Some(Invocation::PolicyCheck { file }) => {
+            policy_check(alloc, file.as_str(), output, errors, files)
+        }
+        Some(Invocation::Operator(call)) => {
+            operator_command(alloc, call, output, errors, files, link)
+        }
+        None => {
+            note_usage(errors);
+            Status::Usage
+        }
+    }
+}
 
 /// The whole program over its outside: the words after its name, and all that it may touch.
 ///
-/// `pipe` and `policy-check` are the commands so far. It waits for nobody, asks no door and no link,
-/// and starts no thread.
+/// `pipe`, `policy-check` and the operator's commands are those so far. It asks no door and starts no
+/// thread, and it waits for nobody but the link, which the operator's commands alone ask.
 pub fn tailnetd<
     R: Threads + Wait + Sync,
     I: Source,
@@ -48,22 +116,19 @@ pub fn tailnetd<
         E.holds E.write_faults F.holds F.faults P.told P.asked P.faults C.answer N.word N.faults in
         let doors_at = doors_told D.coming D.finished D.asked D.faults in
         let link_at = link_told L.left L.read_faults L.holds L.write_faults L.asked in
-        Top (command_of (map string_bytes words.now)) result
+        Top (invocation_of (map string_bytes words.now)) result
         (at (doors_at doors.old) (link_at link.old)
         input.old output.old errors.old files.old opener.old clock.old entropy.old)
         (at (doors_at doors.new) (link_at link.new)
         input.new output.new errors.new files.new opener.new clock.new entropy.new) }
     ensures doors { doors.new ≡ doors.old }
-    ensures link { link.new ≡ link.old }
+    ensures link { asks_link (invocation_of (map string_bytes words.now)) ≡ false
+        → link.new ≡ link.old }
 {
-    match read_command(words) {
-        Some(Command::Pipe(Pipe { file, seed })) => pipe_command(
-            alloc, file, seed, input, output, errors, files, opener, clock, entropy,
-        ),
-        Some(Command::PolicyCheck { file }) => policy_check(alloc, file, output, errors, files),
-        None => {
-            note_usage(errors);
-            Status::Usage
-        }
-    }
+    let Ok(asked) = read_invocation(alloc, words) else {
+        return end_wordless(alloc, errors);
+    };
+    run_asked(
+        alloc, &asked, input, output, errors, files, opener, clock, entropy, doors, link,
+    )
 }

@@ -19,3 +19,6 @@ mod registrations;
 mod rows;
 #[cfg(test)]
 mod settings_refused;
+mod tables;
+
+pub use tables::{POLLS, WORKED};

@@ -73,8 +73,8 @@ pub struct PipeRun {
     pub tables: Tables,
 }
 
-/// The list of that call, or of none.
-pub(crate) fn failing(alloc: Global, call: u32) -> Result<Items<u32>, NoMemory> {
+/// The list of the call with this number, or of none with 0.
+pub fn failing(alloc: Global, call: u32) -> Result<Items<u32>, NoMemory> {
     let mut calls = Items::new(alloc);
     if call > 0 {
         calls.push(call)?;
@@ -82,7 +82,8 @@ pub(crate) fn failing(alloc: Global, call: u32) -> Result<Items<u32>, NoMemory> 
     Ok(calls)
 }
 
-fn files_of(alloc: Global, text: &[u8], call: u32) -> Result<MemoryFiles, NoMemory> {
+/// The file `tailnet.toml` of this text; the read with this number fails, or none with 0.
+pub fn files_of(alloc: Global, text: &[u8], call: u32) -> Result<MemoryFiles, NoMemory> {
     let fails = failing(alloc, call)?;
     let name = Text::from_str(alloc, "tailnet.toml")?;
     let bytes = Bytes::from_slice(alloc, text)?;
@@ -92,7 +93,7 @@ fn files_of(alloc: Global, text: &[u8], call: u32) -> Result<MemoryFiles, NoMemo
 }
 
 /// The random words 1, 2, 3, 4 at each draw; the draw with this number fails, or none with 0.
-pub(crate) fn entropy_of(alloc: Global, call: u32) -> Result<MemoryEntropy, NoMemory> {
+pub fn entropy_of(alloc: Global, call: u32) -> Result<MemoryEntropy, NoMemory> {
     let fails = failing(alloc, call)?;
     let mut answers = Items::new(alloc);
     answers.push([1, 2, 3, 4])?;

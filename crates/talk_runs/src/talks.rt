@@ -19,17 +19,17 @@ use tail_base::{Items, NoMemory};
 
 /// What the program is given, and what it has to answer.
 #[derive(Drop)]
-struct Talk {
-    settings: Vec<u8>,
-    moments: Items<i64>,
-    plan: Plan,
-    tables: Tables,
-    input: Vec<u8>,
-    output: Vec<u8>,
+pub struct Talk {
+    pub settings: Vec<u8>,
+    pub moments: Items<i64>,
+    pub plan: Plan,
+    pub tables: Tables,
+    pub input: Vec<u8>,
+    pub output: Vec<u8>,
     /// Whether the last answer ends the connection.
-    early: bool,
+    pub early: bool,
     /// Whether a write fails behind what is answered.
-    is_cut: bool,
+    pub is_cut: bool,
 }
 
 /// The end of the answer to a registration of the seed's user.
@@ -271,22 +271,31 @@ fn is_held(alloc: Global, mut talk: Talk) -> Result<bool, NoMemory> {
     )
 }
 
-/// The name of the first conversation of the table that isn't held; None if all are.
-pub fn first_not_held(alloc: Global, table: &str) -> Result<Option<String>, NoMemory> {
-    let mut name = String::new(alloc);
-    let mut talk = new_talk(alloc)?;
+/// The conversations of a table, with their names. Lines before the first name are one without a name.
+pub fn talks_of(alloc: Global, table: &str) -> Result<Vec<(String, Talk)>, NoMemory> {
+    let mut talks = Vec::new(alloc);
     for line in table.lines() {
         match line.strip_prefix("= ") {
-            Some(next) => {
-                if !is_held(alloc, talk)? {
-                    return Ok(Some(name));
+            Some(name) => talks.push((String::from_str(alloc, name)?, new_talk(alloc)?))?,
+            None => {
+                if talks.is_empty() {
+                    talks.push((String::new(alloc), new_talk(alloc)?))?;
                 }
-                name = String::from_str(alloc, next)?;
-                talk = new_talk(alloc)?;
+                if let Some((_name, talk)) = talks.last_mut() {
+                    add_line(alloc, talk, line)?;
+                }
             }
-            None => add_line(alloc, &mut talk, line)?,
         }
     }
-    let held = is_held(alloc, talk)?;
-    Ok(if held { None } else { Some(name) })
+    Ok(talks)
+}
+
+/// The name of the first conversation of the table that isn't held; None if all are.
+pub fn first_not_held(alloc: Global, table: &str) -> Result<Option<String>, NoMemory> {
+    for (name, talk) in talks_of(alloc, table)? {
+        if !is_held(alloc, talk)? {
+            return Ok(Some(name));
+        }
+    }
+    Ok(None)
 }

@@ -1,9 +1,8 @@
-//! Settings files: their faults, defaults and keys; and the words of the command line.
+//! Settings files: their faults, defaults and keys.
 use settings::SettingsFields;
 use std::alloc::Global;
 use std::test::Fail;
-use tail_base::NoMemory;
-use tail_words::{Command, SettingsFault, read_command, read_settings};
+use tail_words::{SettingsFault, read_settings};
 use tailcfg::DnsSettings;
 
 /// Whether the fault is that of this rule at this key.
@@ -161,49 +160,4 @@ fn has_all_keys(alloc: Global) -> bool {
 #[test]
 fn all_keys_of_a_file(rt: HostRuntime) {
     assert!(rt; has_all_keys(rt.alloc()));
-}
-
-/// Words, and the command that they are.
-const WORDS: &str = "pipe => -
-pipe a.toml => pipe a.toml without a seed
-pipe a.toml --seed => -
-pipe a.toml --seed k1 => pipe a.toml with k1
-pipe a.toml --seed k1  => -
-policy-check => -
-policy-check a.hujson => policy-check a.hujson";
-
-fn words_of(alloc: Global, line: &str) -> Result<Vec<String>, NoMemory> {
-    let mut words = Vec::new(alloc);
-    for word in line.split(" ") {
-        words.push(String::from_str(alloc, word)?)?;
-    }
-    Ok(words)
-}
-
-/// The command in the words of the table.
-fn shown(alloc: Global, command: Option<Command<'_>>) -> Result<String, NoMemory> {
-    match command {
-        None => Ok(String::from_str(alloc, "-")?),
-        Some(Command::PolicyCheck { file }) => Ok(format!(in alloc; "policy-check {file}")?),
-        Some(Command::Pipe(words)) => match words.seed {
-            None => Ok(format!(in alloc; "pipe {} without a seed", words.file)?),
-            Some(seed) => Ok(format!(in alloc; "pipe {} with {seed}", words.file)?),
-        },
-    }
-}
-
-/// The command that a line of words is, in the words of the table.
-fn command_of(alloc: Global, line: &str) -> Result<String, NoMemory> {
-    let words = words_of(alloc, line)?;
-    shown(alloc, read_command(&words))
-}
-
-#[test]
-fn words_of_the_command_line(rt: HostRuntime) -> Result<(), Fail> {
-    for line in WORDS.lines() {
-        let (words, command) = line.split_once(" => ").ok_or("no command")?;
-        let found = command_of(rt.alloc(), words)?;
-        assert_eq!(rt; found.as_str(), command, "{line}");
-    }
-    Ok(())
 }

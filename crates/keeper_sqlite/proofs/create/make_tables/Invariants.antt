@@ -1,6 +1,0 @@
-use Rattle.std.proofs.Common.{◌≡◌, true}
-use Rattle.keeper_sqlite.specs.Pending.{IsPending}
-use Rattle.keeper_sqlite.proofs.create.make_tables.Given as goal
-
-abbrev pub invariant-loop-text : goal.invariant-loop-text
-invariant-loop-text g l = (l.tx.conn.ghost_name ≡ l.fn.tx.conn.ghost_name) × IsPending g.S.Store l.fn.tx.conn.now l.tx.conn.now true

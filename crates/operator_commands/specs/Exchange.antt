@@ -1,0 +1,107 @@
+-- One request over a link, and its answer.
+use Rattle.std.specs.Prelude.{◌≡◌, ◌⊎◌, ℕ, true, Option, List, [], Result, Ok, Err}
+use Rattle.io_edge.specs.Asked.{and_asked}
+use Rattle.io_edge.specs.Edge.{IsWhereTold, Rose, and_held, and_then_left}
+use Rattle.command_words.specs.declared.invocation.OperatorCall.{OperatorCall}
+use Rattle.http_client.specs.Answers.{IsBadAnswer, IsPartOfAnswer, IsWholeAnswer}
+use Rattle.http_client.specs.Asks.{ask_of}
+use Rattle.http_client.specs.declared.answer.ServerAnswer.{ServerAnswer}
+use Rattle.operator_commands.specs.declared.unanswered.Unanswered.{Unanswered}
+use Rattle.operator_commands.specs.declared.unanswered.Unanswered.TheVariants as fault
+use Rattle.operator_requests.specs.Requests.{command_request, method_name}
+use Rattle.operator_requests.specs.declared.request.OperatorRequest.{OperatorRequest}
+use Rattle.run_ends.specs.Pieces.{Wrote}
+
+-- the bytes of a request with a token
+abbrev pub request_bytes : List ℕ → OperatorRequest → List ℕ
+request_bytes token r = ask_of (method_name r.method) r.path token r.body
+
+-- the bytes that a command sends, with those of its file, if it has one
+unfoldable pub call_bytes : OperatorCall → List ℕ → List ℕ
+call_bytes call file = request_bytes call.token (command_request call.command file)
+
+-- what a link tells at a moment: its bytes left and written, the addresses that it was asked for, and its counts of faults
+pub record LinkPoint : Type 0 where
+  pub left : Option (List ℕ)
+  pub holds : Option (List ℕ)
+  pub asked : Option (List (List ℕ))
+  pub read_faults : ℕ
+  pub write_faults : ℕ
+
+abbrev pub link_point : {L : Type 0} → (L → Option (List ℕ)) → (L → ℕ) → (L → Option (List ℕ)) → (L → ℕ) → (L → Option (List (List ℕ))) → L → LinkPoint
+link_point left read_faults holds write_faults asked l = record {
+  left = left l;
+  holds = holds l;
+  asked = asked l;
+  read_faults = read_faults l;
+  write_faults = write_faults l;
+}
+
+-- the link was asked for the address; what is left and what was written stay
+pub record Met (address : List ℕ) (old new : LinkPoint) : Type 0 where
+  pub asked : new.asked ≡ and_asked old.asked address
+  pub left : new.left ≡ old.left
+  pub holds : new.holds ≡ old.holds
+
+-- the link was asked for nothing; what is left and what was written stay
+pub record Unmet (old new : LinkPoint) : Type 0 where
+  pub asked : new.asked ≡ old.asked
+  pub left : new.left ≡ old.left
+  pub holds : new.holds ≡ old.holds
+
+-- what a connect comes to
+abbrev pub IsConnected : List ℕ → LinkPoint → LinkPoint → Result (Unit {0}) Unanswered → Type 0
+IsConnected address old new (Ok done) = Met address old new
+IsConnected address old new (Err fault.ReadFault) = Met address old new × Rose old.read_faults new.read_faults
+IsConnected address old new (Err fault.NoMemory) = Unmet old new
+IsConnected address old new (Err fault.WriteFault) = ⊥
+IsConnected address old new (Err fault.FileFault) = ⊥
+IsConnected address old new (Err fault.TooLarge) = ⊥
+
+-- one whole answer was read
+pub record ReadWhole (left left_after : Option (List ℕ)) (answer : ServerAnswer) : Type 0 where
+  pub read : List ℕ
+  pub behind : List ℕ
+  pub moved : left ≡ and_then_left read left_after
+  pub whole : IsWholeAnswer read answer behind
+
+-- what was read is no answer, or less than one and the end of the input
+pub record ReadNone (left left_after : Option (List ℕ)) : Type 0 where
+  pub read : List ℕ
+  pub moved : left ≡ and_then_left read left_after
+  pub none : (IsPartOfAnswer read × IsWhereTold [] left_after) ⊎ IsBadAnswer read
+
+-- what reading an answer comes to
+abbrev pub IsAnswerRead : Option (List ℕ) → Option (List ℕ) → ℕ → ℕ → Result ServerAnswer Unanswered → Type 0
+IsAnswerRead left left_after faults faults_after (Ok answer) = ReadWhole left left_after answer
+IsAnswerRead left left_after faults faults_after (Err fault.ReadFault) = Rose faults faults_after ⊎ ReadNone left left_after
+IsAnswerRead left left_after faults faults_after (Err fault.NoMemory) = Unit {0}
+IsAnswerRead left left_after faults faults_after (Err fault.WriteFault) = ⊥
+IsAnswerRead left left_after faults faults_after (Err fault.FileFault) = ⊥
+IsAnswerRead left left_after faults faults_after (Err fault.TooLarge) = ⊥
+
+-- the link wasn't connected
+pub record Unconnected (address : List ℕ) (old new : LinkPoint) (answer : Result ServerAnswer Unanswered) : Type 0 where
+  pub why : Unanswered
+  pub connect : IsConnected address old new (Err why)
+  pub answer_is : answer ≡ Err why
+
+-- it was connected, and a write failed, so that a front of the bytes was written
+pub record Unwritten (address bytes : List ℕ) (old new : LinkPoint) (answer : Result ServerAnswer Unanswered) : Type 0 where
+  pub met : LinkPoint
+  pub connect : Met address old met
+  pub wrote : Wrote met.holds new.holds met.write_faults new.write_faults bytes true
+  pub answer_is : answer ≡ Err fault.WriteFault
+
+-- it was connected, all bytes were written, and an answer was read or none was
+pub record Replied (address bytes : List ℕ) (old new : LinkPoint) (answer : Result ServerAnswer Unanswered) : Type 0 where
+  pub met : LinkPoint
+  pub sent : LinkPoint
+  pub connect : Met address old met
+  pub whole : sent.holds ≡ and_held met.holds bytes
+  pub read : IsAnswerRead sent.left new.left sent.read_faults new.read_faults answer
+
+-- What became of a request. Between two of its steps the link is at a point that its own calls led to.
+abbrev pub Exchanged : List ℕ → List ℕ → LinkPoint → LinkPoint → Result ServerAnswer Unanswered → Type 0
+Exchanged address bytes old new answer =
+    Unconnected address old new answer ⊎ (Unwritten address bytes old new answer ⊎ Replied address bytes old new answer)

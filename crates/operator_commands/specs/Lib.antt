@@ -1,0 +1,3 @@
+pub mod Exchange
+pub mod Filed
+pub mod Operated

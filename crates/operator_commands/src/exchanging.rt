@@ -1,0 +1,54 @@
+//! One request over a link, and its answer.
+ghost use Rattle.operator_commands.specs.Exchange.{Exchanged, IsAnswerRead, IsConnected, link_point};
+
+use crate::unanswered::Unanswered;
+use http_client::{ServerAnswer, TakenAnswer, read_answer};
+use http_front::Buffer;
+use io_edge::{EdgeFault, Link};
+use run_ends::write_all;
+use std::alloc::Global;
+
+fn connect<L: Link>(alloc: Global, link: &mut L, address: &str) -> Result<(), Unanswered>
+    ensures connected { let at = link_point L.left L.read_faults L.holds L.write_faults L.asked in
+        IsConnected address.now (at link.old) (at link.new) result }
+{
+    match link.connect(alloc, address) {
+        Ok(()) => Ok(()),
+        Err(EdgeFault::Failed) => Err(Unanswered::ReadFault),
+        Err(EdgeFault::NoMemory) => Err(Unanswered::NoMemory),
+    }
+}
+
+/// The answer that the link gives.
+fn answer_of<L: Link>(alloc: Global, link: &mut L) -> Result<ServerAnswer, Unanswered>
+    ensures read { IsAnswerRead (L.left link.old) (L.left link.new)
+        (L.read_faults link.old) (L.read_faults link.new) result }
+{
+    let Ok(mut buffer) = Buffer::new(alloc) else {
+        return Err(Unanswered::NoMemory);
+    };
+    match read_answer(alloc, link, &mut buffer) {
+        TakenAnswer::Answer(answer) => Ok(answer),
+        TakenAnswer::Cut => Err(Unanswered::ReadFault),
+        TakenAnswer::Bad => Err(Unanswered::ReadFault),
+        TakenAnswer::ReadFault => Err(Unanswered::ReadFault),
+        TakenAnswer::NoMemory => Err(Unanswered::NoMemory),
+    }
+}
+
+/// Connects, writes the bytes whole, and reads one answer.
+pub(crate) fn exchange<L: Link>(
+    alloc: Global,
+    link: &mut L,
+    address: &str,
+    bytes: &[u8],
+) -> Result<ServerAnswer, Unanswered>
+    ensures exchanged { let at = link_point L.left L.read_faults L.holds L.write_faults L.asked in
+        Exchanged address.now bytes.now (at link.old) (at link.new) result }
+{
+    connect(alloc, link, address)?;
+    if write_all(link, bytes).is_err() {
+        return Err(Unanswered::WriteFault);
+    }
+    answer_of(alloc, link)
+}

@@ -1,0 +1,5 @@
+pub mod KeptChange
+pub mod KeptFirst
+pub mod KeptLists
+pub mod KeptSteps
+pub mod Pending

@@ -1,0 +1,50 @@
+use Rattle.std.proofs.Common.{◌≡◌, sym, subst, rules, arith}
+use Rattle.net_rows.specs.Rows.{after}
+use Rattle.net_rows.specs.declared.rows.Rows.{Rows}
+use Rattle.sqlite.specs.Effect.{Database}
+use Rattle.sqlite.specs.Held.{state}
+use Rattle.sqlite.specs.State.{HasCleanDisk, Survives}
+use Rattle.sqlite.specs.Tree.{Trees}
+use Rattle.sqlite.proofs.Callers.{survives_begin}
+use Rattle.sqlite.proofs.StateLemmas.{survives_then}
+use Rattle.store_commits.specs.Kept.{AreStored, HoldsMade, Keeps}
+use Rattle.store_commits.proofs.commits.commit.Goals as goal
+
+pub returns-clause-made : goal.returns-clause-made
+returns-clause-made g c clean = λ rows keeps.
+    let end = c.commit.new.self.0 in
+    let same : end ≡ c.conn-2-1.given.0 = search rules in
+    let late : HasCleanDisk (state g.S.Store end) = search rules in
+    let made = rw c.transaction-tx.ensures.begun at (c.in_ok-write.ensures.made (omega (arith, c.commit.ensures.survives.clean))) in
+    subst (λ h. Keeps (state g.S.Store h).now (after rows c.args.change.now)) same
+    (subst (λ (d : Database). Keeps d (after rows c.args.change.now)) (sym (c.in_ok-commit.ensures.ok late).1.now_is) (made rows keeps))
+
+pub returns-clause-crash : goal.returns-clause-crash
+returns-clause-crash g c =
+    let old = c.args.conn.now in
+    let last = c.write.new.tx.conn.now in
+    let end = c.commit.new.self.0 in
+    let P = HoldsMade (state g.S.Store old).now (λ (rows : Rows). after rows c.args.change.now) in
+    let inside : Survives (state g.S.Store c.transaction-tx.result.conn.now) (state g.S.Store last) (λ _. ⊥) = c.write.ensures.pending.survives in
+    let whole = survives_then (state g.S.Store old) (state g.S.Store last) (state g.S.Store end) _ _ P (λ _ db none. absurd none)
+    (λ clean db is rows keeps.
+    let made = rw c.transaction-tx.ensures.begun at (c.in_ok-write.ensures.made (omega (arith, c.commit.ensures.survives.clean))) in
+    subst (λ (t : Trees). AreStored t (after rows c.args.change.now)) (sym is) (made rows keeps).stored)
+    (survives_begin g.S.Store old (state g.S.Store last) _ (rw c.transaction-tx.ensures.begun at inside)) c.commit.ensures.survives in
+    let same : end ≡ c.conn-2-1.given.0 = search rules in
+    subst (λ h. Survives (state g.S.Store old) (state g.S.Store h) P) same whole
+
+pub returns-in_err-commit-clause-crash : goal.returns-in_err-commit-clause-crash
+returns-in_err-commit-clause-crash g c =
+    let old = c.args.conn.now in
+    let last = c.write.new.tx.conn.now in
+    let end = c.commit.new.self.0 in
+    let P = HoldsMade (state g.S.Store old).now (λ (rows : Rows). after rows c.args.change.now) in
+    let inside : Survives (state g.S.Store c.transaction-tx.result.conn.now) (state g.S.Store last) (λ _. ⊥) = c.write.ensures.pending.survives in
+    let whole = survives_then (state g.S.Store old) (state g.S.Store last) (state g.S.Store end) _ _ P (λ _ db none. absurd none)
+    (λ clean db is rows keeps.
+    let made = rw c.transaction-tx.ensures.begun at (c.in_ok-write.ensures.made (omega (arith, c.commit.ensures.survives.clean))) in
+    subst (λ (t : Trees). AreStored t (after rows c.args.change.now)) (sym is) (made rows keeps).stored)
+    (survives_begin g.S.Store old (state g.S.Store last) _ (rw c.transaction-tx.ensures.begun at inside)) c.commit.ensures.survives in
+    let same : end ≡ c.conn-2-1.given.0 = search rules in
+    subst (λ h. Survives (state g.S.Store old) (state g.S.Store h) P) same whole

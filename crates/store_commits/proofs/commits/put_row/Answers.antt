@@ -1,0 +1,52 @@
+use Rattle.std.proofs.Common.{◌≡◌, map, sym, subst}
+use Rattle.net_rows.specs.Rows.{put as put_of}
+use Rattle.net_rows.specs.declared.change.Row.{Row}
+use Rattle.net_rows.specs.declared.rows.Rows.{Rows}
+use Rattle.sqlite.specs.Held.{state}
+use Rattle.store_rows.specs.Rows.{auth_key_cells, machine_cells, pending_cells, policy_cells, user_cells}
+use Rattle.store_texts.specs.Ran.{IsPutBy}
+use Rattle.store_texts.specs.Texts.{insert_auth_keys_text, insert_machines_text, insert_pending_text, insert_policy_text, insert_users_text, update_auth_keys_text, update_machines_text, update_pending_text, update_policy_text, update_users_text}
+use Rattle.store_commits.specs.Kept.{Makes, value_of}
+use Rattle.store_commits.proofs.KeptChange.{where_ok}
+use Rattle.store_commits.proofs.KeptSteps.{key_put, machine_put, pending_put, policy_put, user_put}
+use Rattle.store_commits.proofs.commits.put_row.Goals as goal
+
+pub returns-in-User-clause-made : goal.returns-in-User-clause-made
+returns-in-User-clause-made g c clean =
+    let old = (state g.S.Store c.args.tx.now.conn.now).now in
+    let new = (state g.S.Store c.put.new.tx.conn.now).now in
+    let x = c.in-User.user in
+    where_ok c.put.result (IsPutBy update_users_text insert_users_text (map value_of (user_cells x)) old new) (Makes old new (λ (rows : Rows). put_of rows c.args.row.now))
+    (λ put. subst (λ (row : Row). Makes old new (λ (rows : Rows). put_of rows row)) (sym c.in-User.is) (user_put old new x put)) (c.put.ensures.put clean)
+
+pub returns-in-Key-clause-made : goal.returns-in-Key-clause-made
+returns-in-Key-clause-made g c clean =
+    let old = (state g.S.Store c.args.tx.now.conn.now).now in
+    let new = (state g.S.Store c.put-in-Key.new.tx.conn.now).now in
+    let x = c.in-Key.key in
+    where_ok c.put-in-Key.result (IsPutBy update_auth_keys_text insert_auth_keys_text (map value_of (auth_key_cells x)) old new) (Makes old new (λ (rows : Rows). put_of rows c.args.row.now))
+    (λ put. subst (λ (row : Row). Makes old new (λ (rows : Rows). put_of rows row)) (sym c.in-Key.is) (key_put old new x put)) (c.put-in-Key.ensures.put clean)
+
+pub returns-in-Pending-clause-made : goal.returns-in-Pending-clause-made
+returns-in-Pending-clause-made g c clean =
+    let old = (state g.S.Store c.args.tx.now.conn.now).now in
+    let new = (state g.S.Store c.put-in-Pending.new.tx.conn.now).now in
+    let x = c.in-Pending.entry in
+    where_ok c.put-in-Pending.result (IsPutBy update_pending_text insert_pending_text (map value_of (pending_cells x)) old new) (Makes old new (λ (rows : Rows). put_of rows c.args.row.now))
+    (λ put. subst (λ (row : Row). Makes old new (λ (rows : Rows). put_of rows row)) (sym c.in-Pending.is) (pending_put old new x put)) (c.put-in-Pending.ensures.put clean)
+
+pub returns-in-Machine-clause-made : goal.returns-in-Machine-clause-made
+returns-in-Machine-clause-made g c clean =
+    let old = (state g.S.Store c.args.tx.now.conn.now).now in
+    let new = (state g.S.Store c.put-in-Machine.new.tx.conn.now).now in
+    let x = c.in-Machine.machine in
+    where_ok c.put-in-Machine.result (IsPutBy update_machines_text insert_machines_text (map value_of (machine_cells x)) old new) (Makes old new (λ (rows : Rows). put_of rows c.args.row.now))
+    (λ put. subst (λ (row : Row). Makes old new (λ (rows : Rows). put_of rows row)) (sym c.in-Machine.is) (machine_put old new x put)) (c.put-in-Machine.ensures.put clean)
+
+pub returns-in-Policy-clause-made : goal.returns-in-Policy-clause-made
+returns-in-Policy-clause-made g c clean =
+    let old = (state g.S.Store c.args.tx.now.conn.now).now in
+    let new = (state g.S.Store c.put_policy.new.tx.conn.now).now in
+    let x = c.in-Policy.text in
+    where_ok c.put_policy.result (IsPutBy update_policy_text insert_policy_text (map value_of (policy_cells x)) old new) (Makes old new (λ (rows : Rows). put_of rows c.args.row.now))
+    (λ put. subst (λ (row : Row). Makes old new (λ (rows : Rows). put_of rows row)) (sym c.in-Policy.is) (policy_put old new x put)) (c.put_policy.ensures.put clean)

@@ -1,0 +1,262 @@
+//! A change of the tables as one transaction.
+ghost use Rattle.std.specs.Prelude.{◌≡◌, ◌∷◌, [], pos, map, is_ok, OnOk, OnErr};
+ghost use Rattle.net_rows.specs.Rows.{after, put as put_of, put_all as put_all_of, take_all_out, take_out};
+ghost use Rattle.store_rows.specs.Rows.{extra_cells, meta_cells, policy_cells};
+ghost use Rattle.store_texts.specs.Texts.{insert_meta_text, insert_policy_text, update_meta_text, update_policy_text};
+ghost use Rattle.sqlite.specs.State.{HasCleanDisk, Survives};
+ghost use Rattle.sqlite.specs.Held.{state};
+ghost use Rattle.store_texts.specs.Ran.{IsPutBy};
+ghost use Rattle.store_commits.specs.Gone.{gone_text, gone_id};
+ghost use Rattle.store_commits.specs.Kept.{HoldsMade, IsAdded, Makes, value_of};
+ghost use Rattle.store_commits.specs.Pending.{IsPending, IsSettled, Leaves};
+
+use crate::database_row::DatabaseRow;
+use crate::fault::Fault;
+use crate::sql::run;
+use crate::values::{id_value, values_of};
+use net_rows::{Change, Counters, Row, RowKey};
+use sqlite::{Alter, Connection, Transaction};
+use std::alloc::Global;
+use store_rows::{Cell, write_extra, write_meta, write_policy_text};
+use store_texts::{
+    clear_extras, delete_auth_keys, delete_machines, delete_pending, delete_users, insert_extras,
+    insert_meta, insert_policy, update_meta, update_policy,
+};
+use tail_base::Text;
+use tailcfg::DnsExtra;
+
+/// The text that takes out a row of this kind, and the id that it is given.
+fn goes_by(gone: RowKey) -> (&'static str, u32)
+    ensures text { result.0.now ≡ gone_text gone }
+    ensures id { result.1 ≡ gone_id gone }
+{
+    match gone {
+        RowKey::User(id) => (delete_users(), id),
+        RowKey::Key(id) => (delete_auth_keys(), id),
+        RowKey::Pending(id) => (delete_pending(), id),
+        RowKey::Machine(id) => (delete_machines(), id),
+    }
+}
+
+/// Takes out the row of an id.
+#[tactic(auto, using(crate::proofs::Pending::nothing, crate::proofs::Pending::then))]
+fn remove<S: Alter>(tx: &mut Transaction<'_, S>, gone: RowKey) -> Result<(), Fault>
+    ensures same_reference { tx.new.conn.ghost_name ≡ tx.old.conn.ghost_name }
+    ensures pending { IsPending S.Store tx.old.conn.now tx.new.conn.now (is_ok result) }
+    ensures made { HasCleanDisk (state S.Store tx.new.conn.now) → OnOk result (Makes
+        (state S.Store tx.old.conn.now).now (state S.Store tx.new.conn.now).now
+        (λ rows. take_out rows gone)) }
+{
+    let (text, id) = goes_by(gone);
+    let value = id_value(id);
+    run(tx, text, &[value])?;
+    Ok(())
+}
+
+#[tactic(auto, using(crate::proofs::Pending::nothing, crate::proofs::Pending::then))]
+fn remove_all<S: Alter>(tx: &mut Transaction<'_, S>, gone: &[RowKey]) -> Result<(), Fault>
+    ensures same_reference { tx.new.conn.ghost_name ≡ tx.old.conn.ghost_name }
+    ensures pending { IsPending S.Store tx.old.conn.now tx.new.conn.now (is_ok result) }
+    ensures made { HasCleanDisk (state S.Store tx.new.conn.now) → OnOk result (Makes
+        (state S.Store tx.old.conn.now).now (state S.Store tx.new.conn.now).now
+        (λ rows. take_all_out rows gone.now)) }
+{
+    for key in gone {
+        remove(tx, *key)?;
+    }
+    Ok(())
+}
+
+/// Replaces the row that has the key of these cells, and adds it where there is none.
+#[tactic(auto, using(crate::proofs::Pending::nothing, crate::proofs::Pending::then))]
+fn put_cells<S: Alter>(
+    tx: &mut Transaction<'_, S>,
+    alloc: Global,
+    update: &str,
+    insert: &str,
+    cells: &[Cell],
+) -> Result<(), Fault>
+    ensures same_reference { tx.new.conn.ghost_name ≡ tx.old.conn.ghost_name }
+    ensures pending { IsPending S.Store tx.old.conn.now tx.new.conn.now (is_ok result) }
+    ensures put { HasCleanDisk (state S.Store tx.new.conn.now) → OnOk result (IsPutBy
+        update.now insert.now (map value_of cells.now)
+        (state S.Store tx.old.conn.now).now (state S.Store tx.new.conn.now).now) }
+{
+    let values = values_of(alloc, cells)?;
+    let replaced = run(tx, update, values.as_slice())?;
+    if replaced > 0 {
+        return Ok(());
+    }
+    run(tx, insert, values.as_slice())?;
+    Ok(())
+}
+
+/// Puts the row of an id.
+#[tactic(auto, using(crate::proofs::Pending::nothing, crate::proofs::Pending::then))]
+fn put<T: DatabaseRow, S: Alter>(
+    tx: &mut Transaction<'_, S>,
+    alloc: Global,
+    row: &T,
+) -> Result<(), Fault>
+    ensures same_reference { tx.new.conn.ghost_name ≡ tx.old.conn.ghost_name }
+    ensures pending { IsPending S.Store tx.old.conn.now tx.new.conn.now (is_ok result) }
+    ensures put { HasCleanDisk (state S.Store tx.new.conn.now) → OnOk result (IsPutBy
+        T.update_text T.insert_text (map value_of (T.cells row.now))
+        (state S.Store tx.old.conn.now).now (state S.Store tx.new.conn.now).now) }
+{
+    let cells = row.write(alloc)?;
+    put_cells(tx, alloc, T::update(), T::insert(), cells.as_slice())
+}
+
+/// Adds the extra record of a place.
+#[tactic(auto, using(crate::proofs::Pending::nothing, crate::proofs::Pending::then))]
+fn add_extra<S: Alter>(
+    tx: &mut Transaction<'_, S>,
+    alloc: Global,
+    place: u32,
+    extra: &DnsExtra,
+) -> Result<(), Fault>
+    ensures same_reference { tx.new.conn.ghost_name ≡ tx.old.conn.ghost_name }
+    ensures pending { IsPending S.Store tx.old.conn.now tx.new.conn.now (is_ok result) }
+    ensures added { HasCleanDisk (state S.Store tx.new.conn.now) → OnOk result (IsAdded
+        (map value_of (extra_cells place extra.now))
+        (state S.Store tx.old.conn.now).now (state S.Store tx.new.conn.now).now) }
+{
+    let cells = write_extra(alloc, place, extra)?;
+    let values = values_of(alloc, cells.as_slice())?;
+    run(tx, insert_extras(), values.as_slice())?;
+    Ok(())
+}
+
+/// Puts the list of extra records: all rows go, and the new ones stand from place 1 on.
+#[tactic(auto, using(crate::proofs::Pending::nothing, crate::proofs::Pending::then))]
+fn put_extras<S: Alter>(
+    tx: &mut Transaction<'_, S>,
+    alloc: Global,
+    extras: &[DnsExtra],
+) -> Result<(), Fault>
+    ensures same_reference { tx.new.conn.ghost_name ≡ tx.old.conn.ghost_name }
+    ensures pending { IsPending S.Store tx.old.conn.now tx.new.conn.now (is_ok result) }
+    ensures made { HasCleanDisk (state S.Store tx.new.conn.now) → OnOk result (Makes
+        (state S.Store tx.old.conn.now).now (state S.Store tx.new.conn.now).now
+        (λ rows. record rows { extras = extras.now })) }
+{
+    run(tx, clear_extras(), &[])?;
+    let mut last = 0u32;
+    for extra in extras {
+        let place = last.checked_add(1).ok_or(Fault::Failed)?;
+        add_extra(tx, alloc, place, extra)?;
+        last = place;
+    }
+    Ok(())
+}
+
+#[tactic(auto, using(crate::proofs::Pending::nothing, crate::proofs::Pending::then))]
+fn put_policy<S: Alter>(
+    tx: &mut Transaction<'_, S>,
+    alloc: Global,
+    text: &Text,
+) -> Result<(), Fault>
+    ensures same_reference { tx.new.conn.ghost_name ≡ tx.old.conn.ghost_name }
+    ensures pending { IsPending S.Store tx.old.conn.now tx.new.conn.now (is_ok result) }
+    ensures put { HasCleanDisk (state S.Store tx.new.conn.now) → OnOk result (IsPutBy
+        update_policy_text insert_policy_text (map value_of (policy_cells text.now))
+        (state S.Store tx.old.conn.now).now (state S.Store tx.new.conn.now).now) }
+{
+    let cells = write_policy_text(alloc, text)?;
+    put_cells(
+        tx,
+        alloc,
+        update_policy(),
+        insert_policy(),
+        cells.as_slice(),
+    )
+}
+
+#[tactic(auto, using(crate::proofs::Pending::nothing, crate::proofs::Pending::then))]
+fn put_row<S: Alter>(tx: &mut Transaction<'_, S>, alloc: Global, row: &Row) -> Result<(), Fault>
+    ensures same_reference { tx.new.conn.ghost_name ≡ tx.old.conn.ghost_name }
+    ensures pending { IsPending S.Store tx.old.conn.now tx.new.conn.now (is_ok result) }
+    ensures made { HasCleanDisk (state S.Store tx.new.conn.now) → OnOk result (Makes
+        (state S.Store tx.old.conn.now).now (state S.Store tx.new.conn.now).now
+        (λ rows. put_of rows row.now)) }
+{
+    match row {
+        Row::User(user) => put(tx, alloc, user),
+        Row::Key(key) => put(tx, alloc, key),
+        Row::Pending(entry) => put(tx, alloc, entry),
+        Row::Machine(machine) => put(tx, alloc, machine),
+        Row::Extras(extras) => put_extras(tx, alloc, extras.as_slice()),
+        Row::Policy(text) => put_policy(tx, alloc, text),
+    }
+}
+
+#[tactic(auto, using(crate::proofs::Pending::nothing, crate::proofs::Pending::then))]
+fn put_all<S: Alter>(tx: &mut Transaction<'_, S>, alloc: Global, puts: &[Row]) -> Result<(), Fault>
+    ensures same_reference { tx.new.conn.ghost_name ≡ tx.old.conn.ghost_name }
+    ensures pending { IsPending S.Store tx.old.conn.now tx.new.conn.now (is_ok result) }
+    ensures made { HasCleanDisk (state S.Store tx.new.conn.now) → OnOk result (Makes
+        (state S.Store tx.old.conn.now).now (state S.Store tx.new.conn.now).now
+        (λ rows. put_all_of rows puts.now)) }
+{
+    for row in puts {
+        put_row(tx, alloc, row)?;
+    }
+    Ok(())
+}
+
+/// Puts the row of the counters.
+#[tactic(auto, using(crate::proofs::Pending::nothing, crate::proofs::Pending::then))]
+pub(crate) fn put_next<S: Alter>(
+    tx: &mut Transaction<'_, S>,
+    alloc: Global,
+    next: &Counters,
+) -> Result<(), Fault>
+    ensures same_reference { tx.new.conn.ghost_name ≡ tx.old.conn.ghost_name }
+    ensures pending { IsPending S.Store tx.old.conn.now tx.new.conn.now (is_ok result) }
+    ensures put { HasCleanDisk (state S.Store tx.new.conn.now) → OnOk result (IsPutBy
+        update_meta_text insert_meta_text (map value_of (meta_cells next.now))
+        (state S.Store tx.old.conn.now).now (state S.Store tx.new.conn.now).now) }
+{
+    let cells = write_meta(alloc, next)?;
+    put_cells(tx, alloc, update_meta(), insert_meta(), cells.as_slice())
+}
+
+/// Writes the change: gone rows go first, then the rows are put in order, and then the counters.
+#[tactic(auto, using(crate::proofs::Pending::nothing, crate::proofs::Pending::then))]
+fn write<S: Alter>(tx: &mut Transaction<'_, S>, alloc: Global, change: &Change) -> Result<(), Fault>
+    ensures same_reference { tx.new.conn.ghost_name ≡ tx.old.conn.ghost_name }
+    ensures pending { IsPending S.Store tx.old.conn.now tx.new.conn.now (is_ok result) }
+    ensures made { HasCleanDisk (state S.Store tx.new.conn.now) → OnOk result (Makes
+        (state S.Store tx.old.conn.now).now (state S.Store tx.new.conn.now).now
+        (λ rows. after rows change.now)) }
+{
+    remove_all(tx, change.gone.as_slice())?;
+    put_all(tx, alloc, change.puts.as_slice())?;
+    put_next(tx, alloc, &change.next)
+}
+
+/// Keeps the change in one transaction, which is rolled back where a statement fails.
+pub fn commit<S: Alter>(
+    conn: &mut Connection<S>,
+    alloc: Global,
+    change: &Change,
+) -> Result<(), Fault>
+    ensures ok { HasCleanDisk (state S.Store conn.new)
+        → OnOk result (IsSettled (state S.Store conn.new)) }
+    ensures made { HasCleanDisk (state S.Store conn.new) → OnOk result (Makes
+        (state S.Store conn.old).now (state S.Store conn.new).now
+        (λ rows. after rows change.now)) }
+    ensures err { HasCleanDisk (state S.Store conn.new)
+        → OnErr result (Leaves (state S.Store conn.old) (state S.Store conn.new)) }
+    ensures crash { Survives (state S.Store conn.old) (state S.Store conn.new)
+        (HoldsMade (state S.Store conn.old).now (λ rows. after rows change.now)) }
+{
+    if !conn.is_autocommit() {
+        return Err(Fault::Failed);
+    }
+    let mut tx = conn.transaction();
+    write(&mut tx, alloc, change)?;
+    tx.commit()?;
+    Ok(())
+}

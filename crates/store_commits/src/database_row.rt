@@ -1,0 +1,118 @@
+//! Rows that are kept under an id, each kind in a table of its own.
+ghost use Rattle.std.specs.Prelude.{◌≡◌, ℕ, List, IfOk};
+ghost use Rattle.store_rows.specs.Rows.{auth_key_cells, machine_cells, pending_cells, user_cells};
+ghost use Rattle.store_rows.specs.declared.cell.Cell.{Cell};
+ghost use Rattle.store_texts.specs.Texts.{insert_auth_keys_text, insert_machines_text, insert_pending_text, insert_users_text, update_auth_keys_text, update_machines_text, update_pending_text, update_users_text};
+
+use net_rows::{AuthKey, Machine, Pending, User};
+use std::alloc::Global;
+use store_rows::{Cell, write_auth_key, write_machine, write_pending, write_user};
+use store_texts::{
+    insert_auth_keys, insert_machines, insert_pending, insert_users, update_auth_keys,
+    update_machines, update_pending, update_users,
+};
+use tail_base::{Items, NoMemory};
+
+/// Rows that are kept under an id.
+pub trait DatabaseRow: Drop + Sized {
+    /// The row as it is stored.
+    ghost cells: { Self → List Cell };
+
+    /// The text that replaces the row of an id.
+    ghost update_text: { List ℕ };
+
+    /// The text that adds one.
+    ghost insert_text: { List ℕ };
+
+    /// The text that replaces the row of an id.
+    fn update() -> &'static str
+        ensures value { result.now ≡ update_text };
+
+    /// The text that adds one.
+    fn insert() -> &'static str
+        ensures value { result.now ≡ insert_text };
+
+    /// The row as it is stored.
+    fn write(&self, alloc: Global) -> Result<Items<Cell>, NoMemory>
+        ensures value { IfOk result (λ made. made ≡ cells self.now) };
+}
+
+impl DatabaseRow for User {
+    ghost cells = { user_cells };
+
+    ghost update_text = { update_users_text };
+
+    ghost insert_text = { insert_users_text };
+
+    fn update() -> &'static str {
+        update_users()
+    }
+
+    fn insert() -> &'static str {
+        insert_users()
+    }
+
+    fn write(&self, alloc: Global) -> Result<Items<Cell>, NoMemory> {
+        write_user(alloc, self)
+    }
+}
+
+impl DatabaseRow for AuthKey {
+    ghost cells = { auth_key_cells };
+
+    ghost update_text = { update_auth_keys_text };
+
+    ghost insert_text = { insert_auth_keys_text };
+
+    fn update() -> &'static str {
+        update_auth_keys()
+    }
+
+    fn insert() -> &'static str {
+        insert_auth_keys()
+    }
+
+    fn write(&self, alloc: Global) -> Result<Items<Cell>, NoMemory> {
+        write_auth_key(alloc, self)
+    }
+}
+
+impl DatabaseRow for Pending {
+    ghost cells = { pending_cells };
+
+    ghost update_text = { update_pending_text };
+
+    ghost insert_text = { insert_pending_text };
+
+    fn update() -> &'static str {
+        update_pending()
+    }
+
+    fn insert() -> &'static str {
+        insert_pending()
+    }
+
+    fn write(&self, alloc: Global) -> Result<Items<Cell>, NoMemory> {
+        write_pending(alloc, self)
+    }
+}
+
+impl DatabaseRow for Machine {
+    ghost cells = { machine_cells };
+
+    ghost update_text = { update_machines_text };
+
+    ghost insert_text = { insert_machines_text };
+
+    fn update() -> &'static str {
+        update_machines()
+    }
+
+    fn insert() -> &'static str {
+        insert_machines()
+    }
+
+    fn write(&self, alloc: Global) -> Result<Items<Cell>, NoMemory> {
+        write_machine(alloc, self)
+    }
+}

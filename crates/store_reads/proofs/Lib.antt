@@ -1,0 +1,4 @@
+pub mod GivenBack
+pub mod Lists
+pub mod Seen
+pub mod ShownRows

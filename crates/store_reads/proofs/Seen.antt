@@ -1,0 +1,80 @@
+-- Readings, one behind the other.
+use Rattle.std.proofs.Common.{◌≡◌, ℕ, Bool, true, false, List, [], None, Ok, Err, Result, is_ok, IfOk, IsSome, IsTrue, inl, inr, refl, sym, ap, subst, ◌∙◌, arith}
+use Rattle.std.proofs.lemmas.Bool.{true≢false}
+use Rattle.sqlite_value.specs.Order.{Row}
+use Rattle.sqlite.specs.declared.error.Error.{Error}
+use Rattle.net_rows.specs.declared.rows.Rows.{Rows}
+use Rattle.sqlite_schema.specs.declared.schema.Schema.{Schema}
+use Rattle.sqlite.specs.Effect.{Database}
+use Rattle.sqlite.specs.Listing.{understood}
+use Rattle.sqlite.specs.State.{State, HasCleanDisk, Survives, Shown, CommitsShowing}
+use Rattle.sqlite.specs.Tree.{Trees}
+use Rattle.sqlite.proofs.Callers.{IsPlain}
+use Rattle.sqlite.proofs.StateLemmas.{survives_then}
+use Rattle.store_commits.specs.Kept.{Keeps}
+use Rattle.store_texts.specs.Schema.{schema_1}
+use Rattle.store_reads.specs.Seen.{IsSeen}
+
+-- a text without RETURNING that showed rows left what the database shows
+shown_same : (text : List ℕ) (old new : State) (rows : List Row) → IsPlain (understood old.now.schema text) → Shown text [] old new rows → new.now ≡ old.now
+unfolding Shown
+shown_same text old new rows plain h =
+    let bare = subst IsPlain h.1.is plain in
+    (rw bare.0 at h.2).3.0.now_is
+
+-- nor may it commit
+commits_nothing : (text : List ℕ) (old : State) (db : Trees) → IsPlain (understood old.now.schema text) → CommitsShowing text [] old db → ⊥
+unfolding CommitsShowing
+commits_nothing text old db plain h =
+    let bare = subst IsPlain h.1.is plain in
+    true≢false (sym (rw bare.0 at h.2))
+
+-- what a query without RETURNING leaves
+pub seen_by : (schema : Schema) (text : List ℕ) (old new : State) (r : Result (List Row) Error) → IsPlain (understood schema text)
+    → (HasCleanDisk new → IfOk r (λ rows. Shown text [] old new rows)) → Survives old new (CommitsShowing text [] old) → IsSeen schema old new (is_ok r)
+seen_by schema text old new r plain shown survives = record {
+  clean = λ clean. omega (arith, survives.clean, clean);
+  same = λ clean has done. same_if r (shown clean) (subst (λ s. IsPlain (understood s text)) (sym has) plain) done;
+  survives = λ clean has. record {
+    clean = survives.clean;
+    shield = survives.shield;
+    counts = survives.counts;
+    limit = survives.limit;
+    closes = survives.closes;
+    crash = λ clean' db may. elim (survives.crash clean' db may) [
+      | inl before ↦ inl before
+      | inr made ↦ absurd (commits_nothing text old db (subst (λ s. IsPlain (understood s text)) (sym has) plain) made)
+    ];
+  };
+}
+  where
+    same_if : (q : Result (List Row) Error) → IfOk q (λ rows. Shown text [] old new rows) → IsPlain (understood old.now.schema text) → IsTrue (is_ok q) → new.now ≡ old.now
+    same_if (Ok rows) h here done = shown_same text old new rows here h
+    same_if (Err e) h here done = absurd cc
+
+-- before the first reading
+pub seen_none : (schema : Schema) (s : State) (done : Bool) → IsSeen schema s s done
+seen_none schema s done = record {
+  clean = λ clean. clean;
+  same = λ _ _ _. refl;
+  survives = λ _ _. record { clean = omega arith; shield = λ h. h; counts = omega arith; limit = refl; closes = λ _ o. inl o; crash = λ _ db left. inl left };
+}
+
+-- what comes behind a reading that went well
+pub seen_then : (schema : Schema) (a b c : State) (done : Bool) → IsSeen schema a b true → IsSeen schema b c done → IsSeen schema a c done
+seen_then schema a b c done one two =
+    let mid : HasCleanDisk c → a.now.schema ≡ schema → b.now ≡ a.now = λ clean has. one.same (two.clean clean) has refl in
+    let there : HasCleanDisk c → a.now.schema ≡ schema → b.now.schema ≡ schema = λ clean has. ap (λ d. d.schema) (mid clean has) ∙ has in
+    record {
+      clean = λ clean. one.clean (two.clean clean);
+      same = λ clean has so. two.same clean (there clean has) so ∙ mid clean has;
+      survives = λ clean has. survives_then a b c _ _ (λ _. ⊥) (λ _ db none. none) (λ _ db none. none) (one.survives (two.clean clean) has) (two.survives clean (there clean has));
+    }
+
+-- of a reading whose answer didn't serve
+pub seen_less : (schema : Schema) (a b : State) (done : Bool) → IsSeen schema a b true → IsSeen schema a b done
+seen_less schema a b done seen = record { clean = seen.clean; same = λ clean has _. seen.same clean has refl; survives = seen.survives }
+
+-- what a database keeps once it was read
+pub keeps_seen : (a b : State) (rows : Rows) → IsSeen schema_1 a b true → HasCleanDisk b → Keeps a.now rows → Keeps b.now rows
+keeps_seen a b rows seen clean keeps = subst (λ (d : Database). Keeps d rows) (sym (seen.same clean keeps.schema refl)) keeps

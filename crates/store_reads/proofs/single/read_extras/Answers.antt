@@ -1,0 +1,28 @@
+use Rattle.std.proofs.Common.{◌≡◌, List, [], sym, subst, is_ok, ◌∙◌}
+use Rattle.sqlite_value.specs.Order.{Row}
+use Rattle.sqlite.specs.Given.{IsPlain}
+use Rattle.sqlite.specs.Held.{state}
+use Rattle.sqlite.specs.Listing.{understood}
+use Rattle.sqlite.specs.State.{Shown}
+use Rattle.store_texts.specs.Schema.{schema_1}
+use Rattle.store_texts.proofs.Selects.{select_extras_means}
+use Rattle.store_reads.proofs.Seen.{seen_less}
+use Rattle.store_reads.proofs.ShownRows.{shown_records}
+use Rattle.store_reads.proofs.single.read_extras.Goals as goal
+
+pub returns-in-Ok-clause-seen : goal.returns-in-Ok-clause-seen
+returns-in-Ok-clause-seen g c =
+    seen_less schema_1 (state g.S.Store c.args.conn.now) (state g.S.Store c.rows_of.new.conn) (is_ok c.extras_in.result)
+    (c.in-Ok.ensures.seen schema_1 (subst (λ text. IsPlain (understood schema_1 text)) (sym c.select_extras.ensures.value) select_extras_means.plain))
+
+pub returns-in-Err-clause-seen : goal.returns-in-Err-clause-seen
+returns-in-Err-clause-seen g c =
+    c.in-Err.ensures.seen schema_1 (subst (λ text. IsPlain (understood schema_1 text)) (sym c.select_extras.ensures.value) select_extras_means.plain)
+
+pub returns-in-Ok-clause-read : goal.returns-in-Ok-clause-read
+returns-in-Ok-clause-read g c clean all keeps good =
+    let old = state g.S.Store c.args.conn.now in
+    let new = state g.S.Store c.rows_of.new.conn in
+    let rows : List Row = c.in-Ok.rows.items in
+    let shown = subst (λ text. Shown text [] old new rows) c.select_extras.ensures.value (c.in-Ok.ensures.shown clean) in
+    c.extras_in.ensures.read all.extras (c.as_slice.ensures.value ∙ shown_records old new all rows keeps shown) good.extras

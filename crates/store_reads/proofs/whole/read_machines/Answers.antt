@@ -1,0 +1,11 @@
+use Rattle.sqlite.specs.Held.{state}
+use Rattle.store_texts.proofs.Selects.{select_machines_means}
+use Rattle.store_reads.proofs.ShownRows.{shown_machines}
+use Rattle.store_reads.proofs.whole.read_machines.Goals as goal
+
+pub returns-clause-seen : goal.returns-clause-seen
+returns-clause-seen g c = c.read_all.ensures.seen select_machines_means.plain
+
+pub returns-clause-read : goal.returns-clause-read
+returns-clause-read g c clean all keeps good =
+    c.read_all.ensures.read clean all.machines (λ rows shown. shown_machines (state g.S.Store c.args.conn.now) (state g.S.Store c.read_all.new.conn) all rows keeps shown) good.machines

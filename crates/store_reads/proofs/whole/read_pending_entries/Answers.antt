@@ -1,0 +1,11 @@
+use Rattle.sqlite.specs.Held.{state}
+use Rattle.store_texts.proofs.Selects.{select_pending_means}
+use Rattle.store_reads.proofs.ShownRows.{shown_pending}
+use Rattle.store_reads.proofs.whole.read_pending_entries.Goals as goal
+
+pub returns-clause-seen : goal.returns-clause-seen
+returns-clause-seen g c = c.read_all.ensures.seen select_pending_means.plain
+
+pub returns-clause-read : goal.returns-clause-read
+returns-clause-read g c clean all keeps good =
+    c.read_all.ensures.read clean all.pending (λ rows shown. shown_pending (state g.S.Store c.args.conn.now) (state g.S.Store c.read_all.new.conn) all rows keeps shown) good.pending

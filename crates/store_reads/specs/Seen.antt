@@ -1,0 +1,10 @@
+-- What a reading leaves of a database.
+use Rattle.std.specs.Prelude.{◌≡◌, Bool, IsTrue}
+use Rattle.sqlite.specs.State.{State, HasCleanDisk, Survives}
+use Rattle.sqlite_schema.specs.declared.schema.Schema.{Schema}
+
+-- Under this schema nothing is committed, and where the reading went well the database shows what it showed.
+pub record IsSeen (schema : Schema) (old new : State) (done : Bool) : Type 0 where
+  pub clean : HasCleanDisk new → HasCleanDisk old
+  pub same : HasCleanDisk new → old.now.schema ≡ schema → IsTrue done → new.now ≡ old.now
+  pub survives : HasCleanDisk new → old.now.schema ≡ schema → Survives old new (λ _. ⊥)

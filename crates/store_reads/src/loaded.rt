@@ -1,0 +1,115 @@
+//! Rows of each kind as they are read from their table.
+ghost use Rattle.std.specs.Prelude.{◌≡◌, ℕ, List, IfOk};
+ghost use Rattle.store_rows.specs.Reads.{IsReadBack};
+ghost use Rattle.store_rows.specs.Rows.{IsTypedKey, IsTypedMachine, IsTypedPending, IsTypedUser, auth_key_cells, machine_cells, pending_cells, user_cells};
+ghost use Rattle.store_rows.specs.declared.cell.Cell.{Cell};
+ghost use Rattle.store_texts.specs.Texts.{select_auth_keys_text, select_machines_text, select_pending_text, select_users_text};
+
+use net_rows::{AuthKey, Kind, Machine, Pending, User};
+use std::alloc::Global;
+use store_rows::{Cell, read_auth_key, read_machine, read_pending, read_user};
+use store_texts::{select_auth_keys, select_machines, select_pending, select_users};
+use tail_base::NoMemory;
+
+/// Rows that are read from a table of their own.
+pub(crate) trait Loaded: Drop + Sized {
+    /// The row as it is stored.
+    ghost stored: { Self → List Cell };
+
+    /// The values of its type.
+    ghost Typed: { Self → Type 0 };
+
+    /// The text that shows all of them.
+    ghost select_text: { List ℕ };
+
+    /// Their kind.
+    fn kind() -> Kind;
+
+    /// The text that shows all of them.
+    fn select() -> &'static str
+        ensures value { result.now ≡ select_text };
+
+    /// The row that is stored so, if there is one.
+    fn read(alloc: Global, cells: &[Cell]) -> Result<Option<Self>, NoMemory>
+        ensures exact { IfOk result (λ found. IsReadBack stored Typed cells.now found) };
+}
+
+impl Loaded for User {
+    ghost stored = { user_cells };
+
+    ghost Typed = { IsTypedUser };
+
+    ghost select_text = { select_users_text };
+
+    fn kind() -> Kind {
+        Kind::User
+    }
+
+    fn select() -> &'static str {
+        select_users()
+    }
+
+    fn read(alloc: Global, cells: &[Cell]) -> Result<Option<Self>, NoMemory> {
+        read_user(alloc, cells)
+    }
+}
+
+impl Loaded for AuthKey {
+    ghost stored = { auth_key_cells };
+
+    ghost Typed = { IsTypedKey };
+
+    ghost select_text = { select_auth_keys_text };
+
+    fn kind() -> Kind {
+        Kind::Key
+    }
+
+    fn select() -> &'static str {
+        select_auth_keys()
+    }
+
+    fn read(alloc: Global, cells: &[Cell]) -> Result<Option<Self>, NoMemory> {
+        read_auth_key(alloc, cells)
+    }
+}
+
+impl Loaded for Pending {
+    ghost stored = { pending_cells };
+
+    ghost Typed = { IsTypedPending };
+
+    ghost select_text = { select_pending_text };
+
+    fn kind() -> Kind {
+        Kind::Pending
+    }
+
+    fn select() -> &'static str {
+        select_pending()
+    }
+
+    fn read(alloc: Global, cells: &[Cell]) -> Result<Option<Self>, NoMemory> {
+        read_pending(alloc, cells)
+    }
+}
+
+impl Loaded for Machine {
+    ghost stored = { machine_cells };
+
+    ghost Typed = { IsTypedMachine };
+
+    ghost select_text = { select_machines_text };
+
+    fn kind() -> Kind {
+        Kind::Machine
+    }
+
+    fn select() -> &'static str {
+        select_machines()
+    }
+
+    fn read(alloc: Global, cells: &[Cell]) -> Result<Option<Self>, NoMemory> {
+        read_machine(alloc, cells)
+    }
+}

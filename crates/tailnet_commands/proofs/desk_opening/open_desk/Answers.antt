@@ -1,0 +1,46 @@
+use Rattle.std.proofs.Common.{◌∙◌, ◌≡◌, ap, refl, rules, w64, sym, subst, ℤ, arith}
+use mir.Val.{SFits}
+use Rattle.std.specs.Option.{option_map}
+use Rattle.std.proofs.lemmas.Int.{to_z-of_z}
+use Rattle.io_edge.specs.Asked.{and_asked}
+use Rattle.io_edge.specs.Edge.{IsWhereTold}
+use Rattle.moments.specs.Moments.{clamped}
+use Rattle.settings.specs.declared.fields.SettingsFields.{SettingsFields}
+use Rattle.connections.proofs.AnswerLemmas.{clamped_told}
+use Rattle.tailnet_commands.proofs.RunLemmas.{given_some, kept_given, still_still, where_given}
+use Rattle.tailnet_commands.proofs.OpenedLemmas.{unopened}
+use Rattle.tailnet_commands.proofs.desk_opening.open_desk.Goals as goal
+
+pub returns-in-Ok-open : goal.returns-in-Ok-open
+returns-in-Ok-open g c =
+    let fits : SFits w64 c.seconds.result = search rules in
+    let at : c.clamp-moment.result ≡ clamped c.seconds.result = c.clamp-moment.ensures.value ∙ ap clamped (to_z-of_z w64 c.seconds.result fits) in
+    let opened = c.in-Ok-open.ensures in
+    record {
+      opened = record {
+        rules = c.fields-fields.ensures.rules;
+        moment = c.clamp-moment.result;
+        moment_told = subst (λ (z : ℤ). IsWhereTold z (option_map clamped (g.C.Clock.answer c.args.clock.now 0))) (sym at) (clamped_told _ _ c.seconds.ensures.took.first);
+        rest = c.seconds.ensures.took.rest;
+        state = opened.state;
+        whole = c.tables-rules.ensures.sound;
+        rows_told = where_given _ (g.P.Opener.told c.args.opener.now) _ c.in-Ok.ensures.gives opened.rows;
+        kept = kept_given (g.P.Opener.told c.args.opener.now) _ _ c.in-Ok.ensures.gives opened.still;
+        asked = c.in-Ok.ensures.asked ∙ ap (and_asked (g.P.Opener.asked c.args.opener.now)) (c.as_str.ensures.value ∙ ap (λ (f : SettingsFields). f.database) c.fields-fields.ensures.value);
+        later = c.in-Ok.ensures.later;
+      };
+      fault = tt;
+    }
+
+pub returns-in-Err : goal.returns-in-Err
+returns-in-Err g c =
+    let failed = c.in-Err.ensures in
+    let gives = c.in-Ok.ensures.gives in
+    record {
+      opened = tt;
+      fault = unopened c.in-Err.fault c.ended_of.result c.args.settings _ _ c.ended_of.ensures.fault
+          (kept_given (g.P.Opener.told c.args.opener.now) _ (g.P.Opener.told c.close.new.self) gives (still_still _ _ _ failed.kept c.close.ensures.told))
+          (c.close.ensures.asked ∙ c.in-Ok.ensures.asked ∙ ap (and_asked (g.P.Opener.asked c.args.opener.now)) (c.as_str.ensures.value ∙ ap (λ (f : SettingsFields). f.database) c.fields-fields.ensures.value))
+          (λ h. omega (arith, failed.fault h, c.close.ensures.faults, c.in-Ok.ensures.later, c.in-Ok.ensures.fresh))
+          (λ kind id h. given_some _ (g.P.Opener.told c.args.opener.now) _ gives (failed.damaged kind id h));
+    }

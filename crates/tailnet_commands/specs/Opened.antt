@@ -1,0 +1,55 @@
+-- A desk that was opened over what an opener keeps, or that wasn't.
+use Rattle.std.specs.Prelude.{◌≡◌, ◌≤◌, ◌+◌, ◌⊎◌, ℕ, ℤ, Option, None, List, IfSome}
+use Rattle.std.specs.Option.{option_map}
+use Rattle.moments.specs.Moments.{clamped}
+use Rattle.io_edge.specs.Asked.{and_asked}
+use Rattle.io_edge.specs.Edge.{Rose, IsWhereTold}
+use Rattle.net_rows.specs.Damage.{damage}
+use Rattle.net_rows.specs.declared.rows.Rows.{Rows}
+use Rattle.settings.specs.Settings.{AreSettings}
+use Rattle.settings.specs.declared.fields.SettingsFields.{SettingsFields}
+use Rattle.tailnet_desk.specs.Opening.{opening}
+use Rattle.tailnet_desk.specs.Seated.{Point}
+use Rattle.tailnet_commands.specs.Run.{IsUnopened}
+use Rattle.run_ends.specs.declared.ended.Ended.{Ended}
+use Rattle.run_ends.specs.declared.ended.Ended.TheVariants as ended
+
+-- what an opener tells: its rows, the names that it was asked for, and its count of faults
+pub record OpenerTold : Type 0 where
+  pub rows : Option Rows
+  pub asked : Option (List (List ℕ))
+  pub faults : ℕ
+
+abbrev pub opener_told : {P : Type 0} → (P → Option Rows) → (P → Option (List (List ℕ))) → (P → ℕ) → P → OpenerTold
+opener_told rows asked faults p = record { rows = rows p; asked = asked p; faults = faults p }
+
+-- the opener was asked once, for the database of the settings
+abbrev pub IsAskedOnce : SettingsFields → OpenerTold → OpenerTold → Type 0
+IsAskedOnce settings old new = new.asked ≡ and_asked old.asked settings.database
+
+-- its rows are as before, where they were and are told
+abbrev pub KeepsRows : OpenerTold → OpenerTold → Type 0
+KeepsRows old new = IfSome old.rows (λ rows. IsWhereTold rows new.rows)
+
+-- A desk stands in the opening state of the rows that the opener told and of the clock's first answer.
+pub record IsDeskOpened (settings : SettingsFields) (old new : OpenerTold) (answers after : ℕ → Option ℤ) (p : Point) : Type 0 where
+  pub rules : AreSettings settings
+  pub moment : ℤ
+  pub moment_told : IsWhereTold moment (option_map clamped (answers 0))
+  pub rest : (k : ℕ) → after k ≡ answers (k + 1)
+  pub state : p.state ≡ opening settings p.state.rows moment
+  pub whole : damage p.state.rows ≡ None
+  pub rows_told : IsWhereTold p.state.rows old.rows
+  pub kept : IfSome old.rows (λ rows. IsWhereTold rows p.keeping.told)
+  pub asked : IsAskedOnce settings old new
+  pub later : old.faults ≤ new.faults
+
+-- Why none was opened.
+abbrev pub IsDeskFault : Ended → SettingsFields → OpenerTold → OpenerTold → Type 0
+IsDeskFault ended.KeeperFault settings old new = KeepsRows old new × IsAskedOnce settings old new × Rose old.faults new.faults
+IsDeskFault (ended.Damaged kind id) settings old new = KeepsRows old new × IsAskedOnce settings old new × IsUnopened kind id old.rows
+IsDeskFault ended.NoMemory settings old new = KeepsRows old new × ((new.asked ≡ old.asked) ⊎ IsAskedOnce settings old new)
+IsDeskFault (ended.Closed closing) settings old new = ⊥
+IsDeskFault (ended.Settings rule key) settings old new = ⊥
+IsDeskFault ended.TooLarge settings old new = ⊥
+IsDeskFault ended.FileFault settings old new = ⊥

@@ -1,0 +1,59 @@
+//! A desk over what an opener keeps.
+ghost use Rattle.std.specs.Prelude.{IfErr, IfOk};
+ghost use Rattle.tailnet_commands.specs.Opened.{IsDeskFault, IsDeskOpened, opener_told};
+ghost use Rattle.tailnet_commands.specs.Run.{IsFaultOf};
+ghost use Rattle.tailnet_desk.specs.Seated.{point_of};
+
+use io_edge::{Clock, EdgeFault};
+use moments::Moment;
+use row_keeper::Opener;
+use run_ends::Ended;
+use settings::Settings;
+use std::alloc::Global;
+use tailnet_desk::{Desk, OpenFault};
+
+/// How a run ends whose desk didn't open.
+fn ended_of(fault: OpenFault) -> Ended
+    ensures fault { IsFaultOf fault result }
+{
+    match fault {
+        OpenFault::KeeperFault => Ended::KeeperFault,
+        OpenFault::Damaged { kind, id } => Ended::Damaged { kind, id },
+        OpenFault::NoMemory => Ended::NoMemory,
+    }
+}
+
+/// Opens a desk over what the opener keeps, at the clock's first answer. If none opens, the keeper is
+/// closed again.
+pub fn open_desk<P: Opener, C: Clock>(
+    alloc: Global,
+    settings: Settings,
+    opener: &mut P,
+    clock: &mut C,
+) -> Result<Desk<P::Keeper>, Ended>
+    ensures opened { let at = opener_told P.told P.asked P.faults in
+        IfOk result (λ desk. IsDeskOpened settings (at opener.old) (at opener.new)
+        (C.answer clock.old) (C.answer clock.new)
+        (point_of P.Keeper.told P.Keeper.faults P.Keeper.calls desk)) }
+    ensures fault { let at = opener_told P.told P.asked P.faults in
+        IfErr result (λ e. IsDeskFault e settings (at opener.old) (at opener.new)) }
+{
+    let moment = Moment::clamp(clock.seconds());
+    let fields = settings.fields();
+    let keeper = match opener.open(alloc, fields.database.as_str()) {
+        Ok(keeper) => keeper,
+        Err(EdgeFault::Failed) => return Err(Ended::KeeperFault),
+        Err(EdgeFault::NoMemory) => return Err(Ended::NoMemory),
+    };
+    match Desk::open(alloc, settings, keeper, moment) {
+        Ok(desk) => {
+            // Its tables keep their rules, as those of each open desk do.
+            let _rules = desk.tables();
+            Ok(desk)
+        }
+        Err((fault, keeper)) => {
+            opener.close(keeper);
+            Err(ended_of(fault))
+        }
+    }
+}
