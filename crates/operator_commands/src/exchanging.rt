@@ -1,5 +1,8 @@
 //! One request over a link, and its answer.
 ghost use Rattle.std.specs.Prelude.{◌≡◌};
+ghost use Rattle.io_edge.specs.Edge.{Rose};
+ghost use Rattle.http_client.specs.Taking.{TakesAnswer};
+ghost use Rattle.http_client.specs.declared.answer.TakenAnswer.TheVariants.{ReadFault};
 ghost use Rattle.operator_commands.specs.Exchange.{Exchanged, IsAnswerRead, IsConnected, IsRequestSent, link_point};
 
 use crate::unanswered::Unanswered;
@@ -32,6 +35,16 @@ fn send_all<L: Link>(link: &mut L, bytes: &[u8]) -> Result<(), Unanswered>
     }
 }
 
+/// The answer of the bytes held and those that the link gives.
+fn take_answer<L: Link>(alloc: Global, link: &mut L, buffer: &mut Buffer) -> TakenAnswer
+    ensures taken { TakesAnswer (L.left link.old) (L.left link.new) buffer.old buffer.new result }
+    ensures cause { result ≡ ReadFault → Rose (L.read_faults link.old) (L.read_faults link.new) }
+    ensures asked { L.asked link.new ≡ L.asked link.old }
+    ensures holds { L.holds link.new ≡ L.holds link.old }
+{
+    read_answer(alloc, link, buffer)
+}
+
 /// The answer that the link gives.
 fn answer_of<L: Link>(alloc: Global, link: &mut L) -> Result<ServerAnswer, Unanswered>
     ensures read { IsAnswerRead (L.left link.old) (L.left link.new)
@@ -42,7 +55,7 @@ fn answer_of<L: Link>(alloc: Global, link: &mut L) -> Result<ServerAnswer, Unans
     let Ok(mut buffer) = Buffer::new(alloc) else {
         return Err(Unanswered::NoMemory);
     };
-    match read_answer(alloc, link, &mut buffer) {
+    match take_answer(alloc, link, &mut buffer) {
         TakenAnswer::Answer(answer) => Ok(answer),
         TakenAnswer::Cut => Err(Unanswered::ReadFault),
         TakenAnswer::Bad => Err(Unanswered::ReadFault),
