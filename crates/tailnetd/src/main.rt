@@ -1,18 +1,12 @@
 //! `tailnetd`: the control server of a private tailnet.
 #![tactic(auto)]
 
-#[cfg(test)]
-mod tests;
-mod top;
-mod wordless;
-
-use crate::top::tailnetd;
-use crate::wordless::end_wordless;
 use io_edge::{HostClock, HostEntropy, HostFiles, NoDoors, NoPause, ReadSource, WriteSink};
 use keeper_sqlite::HostOpener;
 use std::io::ErrorKind;
 use std::process::ExitCode;
 use std::{env, io};
+use tailnet_top::{end_wordless, tailnetd};
 use tcp_edge::TcpLink;
 
 /// The words after the program's name.

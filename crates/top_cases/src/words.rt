@@ -1,5 +1,5 @@
 //! Words of the top call that start nothing.
-use crate::tests::outside::{new_outside, status_of};
+use crate::outside::{new_outside, status_of};
 use run_ends::Status;
 use std::test::Fail;
 

@@ -2,7 +2,7 @@
 ghost use Rattle.std.specs.Prelude.{◌≡◌, false, map, option_map, string_bytes};
 ghost use Rattle.command_words.specs.Words.{invocation_of};
 ghost use Rattle.tailnet_commands.specs.Outside.{doors_told, link_told, outside};
-ghost use Rattle.tailnetd.specs.Top.{WordsDone, Top, asks_link};
+ghost use Rattle.tailnet_top.specs.Top.{WordsDone, Top, asks_link};
 
 use crate::wordless::end_wordless;
 use command_words::{Invocation, read_invocation};

@@ -6,8 +6,8 @@ use io_edge::Sink;
 use run_ends::{Ended, Status, note};
 use std::alloc::Global;
 
-/// Leaves the line of want of memory on errors, and gives its status.
-pub(crate) fn end_wordless<E: Sink>(alloc: Global, errors: &mut E) -> Status
+/// Leaves the line of a run that was out of memory on errors, and gives its status.
+pub fn end_wordless<E: Sink>(alloc: Global, errors: &mut E) -> Status
     ensures noted { Noted (ended_line Ended.NoMemory) false
         (E.holds errors.old) (E.holds errors.new)
         (E.write_faults errors.old) (E.write_faults errors.new) }

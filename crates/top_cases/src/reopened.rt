@@ -1,6 +1,5 @@
 //! Runs over a database in a file, one behind the other.
-use crate::tests::FIRST;
-use crate::top::tailnetd;
+use crate::FIRST;
 use io_edge::{
     MemoryClock, MemoryEntropy, MemoryFiles, MemorySink, MemorySource, NamedBytes, NoDoors, NoLink,
     NoPause,
@@ -13,6 +12,7 @@ use std::sync::Wait;
 use std::test::Fail;
 use std::thread::Threads;
 use tail_base::{Bytes, Items, NoMemory, Text};
+use tailnet_top::tailnetd;
 
 const FOLDER: &str = "tailnetd_reopened";
 

@@ -1,5 +1,5 @@
 //! The operator's commands over the top call.
-use crate::tests::outside::{Outside, new_outside, status_of};
+use crate::outside::{Outside, new_outside, status_of};
 use std::alloc::Global;
 use std::process::Abort;
 use std::sync::Wait;

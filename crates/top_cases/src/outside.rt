@@ -1,6 +1,5 @@
 //! What the top call is given in memory, and the call over it.
-use crate::tests::FIRST;
-use crate::top::tailnetd;
+use crate::FIRST;
 use io_edge::{
     MemoryClock, MemoryEntropy, MemoryFiles, MemorySink, MemorySource, NoDoors, NoPause,
 };
@@ -12,6 +11,7 @@ use std::alloc::Global;
 use std::sync::Wait;
 use std::thread::Threads;
 use tail_base::{Bytes, Items, NoMemory};
+use tailnet_top::tailnetd;
 
 /// What the top call is given.
 #[derive(Drop)]
