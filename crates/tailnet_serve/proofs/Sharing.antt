@@ -193,7 +193,7 @@ places_opened connections d o =
     let there : HasPlaces (record { coming = Some connections; finished = Some []; number = Some (length connections); faults = d.faults }) = omega arith in
     subst (λ (z : Option (List (List ℕ)) × Option (List Finished) × Option ℕ). HasPlaces (record { coming = z.0; finished = z.1; number = z.2; faults = d.faults })) (λ i. (sym o.come i, sym o.none i, sym o.all i)) there
 
--- doors of which the connections are told have places for all; others don't tell what comes
+-- doors that tell their connections have places for all; others don't tell what comes
 pub places_each : {D : Type 0} (at : D → DoorTold) (told : Option (List (List (List ℕ)))) (place : ℕ) (ds : List D) → AreEachOpened at told place ds → (told ≡ None → All (λ d. (at d).coming ≡ None) ds) → All (λ d. HasPlaces (at d)) ds
 places_each at None place ds each none k d lt =
     let e = at (slice_index_or ds k d) in places_none e.coming e.finished e.number e.faults (none refl k d lt)

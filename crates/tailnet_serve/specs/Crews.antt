@@ -49,7 +49,7 @@ abbrev pub is_any_failed : {K D C N : Type 0} → List (Worker K D C N) → Bool
 is_any_failed [] = false
 is_any_failed (w ∷ ws) = is_door_fault w.report.stop || is_any_failed ws
 
--- one of them had a connection that ended for want of memory
+-- one of them had a connection that ended because memory was refused
 abbrev pub has_any_starved : {K D C N : Type 0} → List (Worker K D C N) → Bool
 has_any_starved [] = false
 has_any_starved (w ∷ ws) = w.report.starved || has_any_starved ws

@@ -1,4 +1,4 @@
--- What the command `serve` comes to.
+-- What the command `serve` does.
 use Rattle.std.specs.Prelude.{◌≡◌, ◌⊎◌, ℕ, ℤ, Bool, false, Option, None, List, [], IfSome, codes, if◌then◌else◌}
 use Rattle.io_edge.specs.Edge.{Rose, IsWhereTold}
 use Rattle.net_rows.specs.declared.rows.Rows.{Rows}
@@ -69,7 +69,7 @@ behind_settings rows asked keeper_faults answer word word_faults doors streams r
   link = rest.link;
 }
 
--- of workers that have stopped: whether a door failed, and whether a connection ended for want of memory
+-- of workers that have stopped: whether a door failed, and whether a connection ended because memory was refused
 abbrev pub workers_status : Bool → Bool → Status
 workers_status failed starved = if failed then status.DoorFault else if starved then status.NoMemory else status.Ok
 
@@ -115,7 +115,7 @@ pub record IsUnserved (settings : SettingsFields) (old new : Outside) : Type 0 w
   pub rows : IfSome old.rows (λ rows. IsWhereTold rows new.rows)
   pub words : (k : ℕ) → new.told.giving.words k ≡ old.told.giving.words k
 
--- What a run over settings comes to.
+-- What a run over settings does.
 abbrev pub ServeRan : ServeEnd → SettingsFields → Outside → Outside → Type 0
 ServeRan (end.Unopened e) settings old new = IsOpeningFault e × Ran e settings None old new × (new.doors ≡ old.doors)
 ServeRan end.EntropyFault settings old new =
@@ -132,7 +132,7 @@ pub record ServeRanUnder (how : ServeEnd) (name : List ℕ) (old new : Outside) 
   pub settings_are : AreSettingsOf (old.files name) settings
   pub ran : ServeRan how settings old new
 
--- What `serve` comes to, by how it ended. Whatever kept a desk from being opened is as for `pipe`.
+-- What `serve` did, by how it ended. Whatever kept a desk from being opened is as for `pipe`.
 abbrev pub ServeDone : ServeEnd → List ℕ → Outside → Outside → Type 0
 ServeDone (end.Unopened e) name old new = IsOpeningFault e × Piped e name None old new × (new.doors ≡ old.doors)
 ServeDone end.EntropyFault name old new = ServeRanUnder end.EntropyFault name old new
@@ -140,7 +140,7 @@ ServeDone end.DoorFault name old new = ServeRanUnder end.DoorFault name old new
 ServeDone end.NoMemory name old new = ServeRanUnder end.NoMemory name old new
 ServeDone (end.Served failed starved) name old new = ServeRanUnder (end.Served failed starved) name old new
 
--- What a status of `serve` says of the settings file of this name: how it ended, what that comes to, and the line that
+-- What a status of `serve` says of the settings file of this name: how it ended, what was done then, and the line that
 -- errors got. Nothing is read of the input or written to the output, and the link is as before.
 pub record ServeOutcome (status : Status) (name : List ℕ) (old new : Outside) : Type 0 where
   pub ended : ServeEnd

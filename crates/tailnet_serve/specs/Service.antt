@@ -1,4 +1,4 @@
--- What a hub's workers come to: one legal history, for every schedule of their threads.
+-- What a hub's workers did: one legal history, for every schedule of their threads.
 use Rattle.std.specs.Prelude.{◌≡◌, ◌≤◌, ◌<◌, ◌+◌, ◌⊎◌, ◌||◌, ℕ, ℤ, Bool, true, false, Option, None, Some, List, [], ◌∷◌, length, map, IfSome}
 use Rattle.std.specs.Option.{option_map}
 use Rattle.moments.specs.Moments.{clamped}
@@ -69,7 +69,7 @@ pub record IsShared (site : FrontSettings) (limits : WorkLimits) (told : Option 
   pub apart : (n : ℕ) → times n (shift_names shifts) ≤ 1
   pub others : (n : ℕ) → times n (shift_names shifts) ≡ 0 → lines_by n history ≡ []
 
--- whether a door failed, and whether a connection ended for want of memory
+-- whether a door failed, and whether a connection ended because memory was refused
 abbrev pub any_failed : List Shift → Bool
 any_failed [] = false
 any_failed (w ∷ ws) = is_door_fault w.stop || any_failed ws

@@ -70,7 +70,7 @@ and_all_finished finished (v ∷ vs) = and_all_finished (and_finished finished (
 abbrev pub visit_turns : List Visit → List Turned
 visit_turns vs = flat_map (λ (v : Visit). v.turns) vs
 
--- the connection ended for want of memory
+-- the connection ended because memory was refused
 abbrev pub is_starved : Closed → Bool
 is_starved End = false
 is_starved Early = false

@@ -168,7 +168,7 @@ pub(crate) struct Leaving<D> {
     pub(crate) doors: Vec<D>,
     /// Whether the door of one of them failed.
     pub(crate) failed: bool,
-    /// Whether a connection ended for want of memory.
+    /// Whether a connection ended because memory was refused.
     pub(crate) starved: bool,
 }
 

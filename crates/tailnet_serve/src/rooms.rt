@@ -30,8 +30,8 @@ impl<K: Keeper, D, C, N> Rooms<K, D, C, N> {
         }
     }
 
-    /// Lets room go that nobody took.
-    pub(crate) fn let_go(self)
+    /// Gives back room that nobody took.
+    pub(crate) fn free(self)
         requires empty { (self.workers.items ≡ []) × (self.doors.items ≡ []) }
     {
         let Rooms { workers, doors } = self;

@@ -119,7 +119,7 @@ where
             ServeEnd::Served { failed, starved }
         }
         Err((NoMemory, desk)) => {
-            rooms.let_go();
+            rooms.free();
             doors.close(opened);
             close_unserved(opener, entropy, desk, outfits);
             ServeEnd::NoMemory
@@ -183,7 +183,7 @@ where
             rt, alloc, plan, desk, opened, outfits, rooms, opener, entropy, doors, pause,
         ),
         Err(fault) => {
-            rooms.let_go();
+            rooms.free();
             close_unserved(opener, entropy, desk, outfits);
             end_of_doors(fault)
         }

@@ -18,8 +18,8 @@ pub enum ServeEnd {
     DoorFault,
     /// Memory was refused before the workers began.
     NoMemory,
-    /// The workers have stopped: whether the door of one failed, and whether a connection ended for want
-    /// of memory.
+    /// The workers have stopped: whether the door of one failed, and whether memory was refused to a
+    /// connection, which ended so.
     Served { failed: bool, starved: bool },
 }
 

@@ -28,7 +28,7 @@ pub enum Stop {
 #[derive(Clone, Copy, Debug, PartialEq, Eq, Drop)]
 pub struct Report {
     pub stop: Stop,
-    /// Whether one of its connections ended for want of memory.
+    /// Whether one of its connections ended because memory was refused.
     pub starved: bool,
 }
 

@@ -24,7 +24,7 @@ pub enum Taking {
     DoorFault,
 }
 
-/// Whether a connection ended for want of memory.
+/// Whether a connection ended because memory was refused.
 fn is_starved(closed: Closed) -> bool
     ensures value { result ≡ spec.is_starved closed }
 {
@@ -34,7 +34,7 @@ fn is_starved(closed: Closed) -> bool
     }
 }
 
-/// Whether one connection ended for want of memory so far, or this one did.
+/// Whether a connection ended so before, or this one did.
 fn is_any_starved(starved: bool, closed: Closed) -> bool
     ensures value { result ≡ (starved || spec.is_starved closed) }
 {
