@@ -6,3 +6,4 @@ pub mod Sharing
 pub mod Manned
 pub mod Closing
 pub mod Served
+pub mod FrontSync
