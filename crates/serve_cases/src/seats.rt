@@ -1,9 +1,9 @@
 //! Seats of one hub, in threads of their own.
 ghost use Rattle.std.specs.Prelude.{◌≡◌};
 
-use admin_asks::OperatorAsk;
+use admin_asks::{OperatorAnswer, OperatorAsk};
 use moments::Moment;
-use net_rows::Tables;
+use net_rows::{Tables, User};
 use row_keeper::{Keeper, MemoryKeeper};
 use session_hub::{Hub, Seat};
 use std::alloc::Global;
@@ -13,7 +13,7 @@ use std::thread;
 use std::thread::Threads;
 use tail_base::{Items, NoMemory, Text};
 use tail_words::read_settings;
-use tailnet_desk::{Ask, Desk, Reply};
+use tailnet_desk::{Answer, Ask, Desk, Reply};
 
 /// 2001-09-09T01:46:40Z.
 const NOON: i64 = 1_000_000_000;
@@ -129,6 +129,46 @@ fn users_from_two_threads(rt: HostRuntime) -> Result<(), Fail> {
     Ok(())
 }
 
+fn is_user(user: &User, id: u32, login: &str) -> bool {
+    user.id == id && user.login.as_str() == login
+}
+
+/// Whether these are the two users that two seats have added.
+fn are_both(users: &[User]) -> bool {
+    users.len() == 2 && is_user(&users[0], 1, "ann@") && is_user(&users[1], 2, "bob@")
+}
+
+/// Whether a reply lists them.
+fn lists_both(reply: &Reply) -> bool {
+    if let Reply::Done(Answer::Operator(OperatorAnswer::Users(users))) = reply {
+        are_both(users.as_slice())
+    } else {
+        false
+    }
+}
+
+/// Whether a seat is answered the list of both.
+fn sees_both<K: Keeper, R: Wait>(
+    rt: &R,
+    alloc: Global,
+    hub: &Hub<K>,
+    seat: &mut Seat<K>,
+) -> bool
+    requires hub { seat.old.hub ≡ hub.now }
+    ensures hub { seat.new.hub ≡ hub.now }
+{
+    let ask = Ask::Operator(OperatorAsk::Users);
+    lists_both(&seat.ask(rt, alloc, hub, &ask, Moment::clamp(NOON), None))
+}
+
+/// Whether a keeper keeps both.
+fn keeps_both<K: Keeper>(alloc: Global, keeper: &mut K) -> bool {
+    match keeper.load(alloc) {
+        Ok(tables) => are_both(tables.users()),
+        Err(_) => false,
+    }
+}
+
 #[test]
 fn two_seats(rt: HostRuntime) -> Result<(), Fail> {
     let alloc: Global = rt.alloc();
@@ -141,7 +181,8 @@ fn two_seats(rt: HostRuntime) -> Result<(), Fail> {
     // (what the one has added, the other finds taken)
     assert!(rt; !add_user(&rt, alloc, &hub, &mut first, "bob"));
     first.join(&hub, second);
-    let desk = hub.close(&rt, first);
-    assert!(rt; desk.tables().users().len() == 2);
+    assert!(rt; sees_both(&rt, alloc, &hub, &mut first));
+    let mut keeper = hub.close(&rt, first).close();
+    assert!(rt; keeps_both(alloc, &mut keeper));
     Ok(())
 }

@@ -235,6 +235,12 @@ const SAVING: &str = r#"> PUT /api/v1/policy Bearer/secret {"acls":[]}
 /// What the poll is then written.
 const FRAME: &[u8] = b"{\"PacketFilter\":[],\"Seq\":2}";
 
+/// Once it has ended, the machine polls anew.
+const AGAIN: &str = r#"> POST /machine/map mkey:%1 {"NodeKey":"nodekey:%a","Stream":true}"#;
+
+/// The new session begins with the policy that was saved.
+const ANEW: &[u8] = b"\"PacketFilter\":[],\"Seq\":1";
+
 fn door_of<R: Wait + Clock + Drop>(
     alloc: Global,
     bytes: &[u8],
@@ -266,7 +272,9 @@ fn two_doors<R: Wait + Clock + Drop>(
     polled: &Arc<Gate<R>, Global>,
     saved: &Arc<Gate<R>, Global>,
 ) -> Result<ReadyDoors<R>, Fail> {
-    let (polling, _answers) = talk_bytes(alloc, POLLING)?;
+    let (mut polling, _answers) = talk_bytes(alloc, POLLING)?;
+    let (again, _frames) = talk_bytes(alloc, AGAIN)?;
+    polling.extend_from_slice(&again)?;
     let (saving, _answer) = talk_bytes(alloc, SAVING)?;
     let mut ready = Vec::new(alloc);
     ready.push(door_of(alloc, &polling, None, Arc::try_clone(polled)?, 5)?)?;
@@ -335,5 +343,6 @@ fn poll_waits_while_a_save_is_answered(rt: HostRuntime) -> Result<(), Fail> {
         return Err(Fail::from("the poll was not given back"));
     };
     assert!(rt; has_bytes(polling.bytes.bytes(), FRAME));
+    assert!(rt; has_bytes(polling.bytes.bytes(), ANEW));
     Ok(())
 }
