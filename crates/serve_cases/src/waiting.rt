@@ -1,5 +1,6 @@
 //! A poll that waits while another worker answers a save.
 ghost use Rattle.std.specs.Prelude.{◌≡◌, ◌≤◌, ◌+◌, ◌-◌, ◌^◌, None, IfSome, min, sum_by};
+ghost use Rattle.io_edge.specs.Edge.{nothing_besides};
 
 use crate::runs::{noon, random, settings_with};
 use io_edge::{Door, Doors, EdgeFault, Failed, MemorySink, MemorySource, Pause, Sink, Source};
@@ -75,6 +76,8 @@ impl<R: Wait + Clock> Source for GatedSource<R> {
 
     ghost read_faults = { λ s. s.failed };
 
+    ghost besides_left = { λ _. nothing_besides };
+
     fn read(&mut self, into: &mut [u8]) -> Result<usize, Failed> {
         let is_due = match &self.gate {
             Some(gate) => gate.has_come(WAITS),
@@ -101,6 +104,8 @@ impl<R: Wait + Clock> Sink for OpeningSink<R> {
     ghost holds = { λ _. None };
 
     ghost write_faults = { λ s. s.failed };
+
+    ghost besides_held = { λ _. nothing_besides };
 
     fn write(&mut self, from: &[u8]) -> Result<usize, Failed> {
         let Ok(n) = self.bytes.write(from) else {
