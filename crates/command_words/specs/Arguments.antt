@@ -81,5 +81,6 @@ operator_of k rows = option_map (λ c. asked.Operator (call_of rows c)) (operato
 -- what a command's arguments ask, if a number and the seed key keep their rules
 unfoldable pub asked_of : CommandKind → List Row → Option Invocation
 asked_of kind.Pipe rows = pipe_of rows
+asked_of kind.Serve rows = Some (asked.Serve (given_text argument.Settings rows))
 asked_of kind.PolicyCheck rows = Some (asked.PolicyCheck (given_text argument.File rows))
 asked_of (kind.Operator k) rows = operator_of k rows

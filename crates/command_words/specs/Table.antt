@@ -5,7 +5,7 @@ use Rattle.clap.specs.Words.{Text}
 use Rattle.command_words.specs.declared.argument.Argument.{Argument}
 use Rattle.command_words.specs.declared.argument.Argument.TheVariants.{Ephemeral, Expiry, File, Id, List as ListArgument, Login, Name, Pending, Reusable, Seed, Server, Settings, Tags, Token}
 use Rattle.command_words.specs.declared.line.CommandKind.{CommandKind}
-use Rattle.command_words.specs.declared.line.CommandKind.TheVariants.{Operator, Pipe, PolicyCheck}
+use Rattle.command_words.specs.declared.line.CommandKind.TheVariants.{Operator, Pipe, PolicyCheck, Serve}
 use Rattle.command_words.specs.declared.line.OperatorKind.{OperatorKind}
 use Rattle.command_words.specs.declared.line.OperatorKind.TheVariants as operator
 
@@ -21,6 +21,7 @@ operator_line name kind arguments = (name, Operator kind, arguments ++ (Server �
 unfoldable pub lines : List CommandLine
 lines =
     (codes "pipe", Pipe, Settings ∷ Seed ∷ [])
+    ∷ (codes "serve", Serve, Settings ∷ [])
     ∷ (codes "policy-check", PolicyCheck, File ∷ [])
     ∷ operator_line (codes "user-list") operator.UserList []
     ∷ operator_line (codes "user-add") operator.UserAdd (Name ∷ [])

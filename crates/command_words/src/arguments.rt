@@ -40,6 +40,14 @@ fn pipe_of(alloc: Global, matches: &ArgMatches<'_>) -> Result<Option<Invocation>
     Ok(Some(Invocation::Pipe { settings, seed }))
 }
 
+fn serve_of(alloc: Global, matches: &ArgMatches<'_>) -> Result<Invocation, NoMemory>
+    ensures value { IfOk result (λ asked. asked
+        ≡ Invocation.Serve (given_text Argument.Settings (rows_of (found_of matches.now)))) }
+{
+    let settings = given_text(alloc, matches, Argument::Settings)?;
+    Ok(Invocation::Serve { settings })
+}
+
 fn policy_check_of(alloc: Global, matches: &ArgMatches<'_>) -> Result<Invocation, NoMemory>
     ensures value { IfOk result (λ asked. asked
         ≡ Invocation.PolicyCheck (given_text Argument.File (rows_of (found_of matches.now)))) }
@@ -89,6 +97,7 @@ pub(crate) fn asked_of(
 {
     match kind {
         CommandKind::Pipe => pipe_of(alloc, matches),
+        CommandKind::Serve => Ok(Some(serve_of(alloc, matches)?)),
         CommandKind::PolicyCheck => Ok(Some(policy_check_of(alloc, matches)?)),
         CommandKind::Operator(kind) => operator_of(alloc, matches, kind),
     }

@@ -8,7 +8,7 @@ use crate::argument::Argument::{
     Ephemeral, Expiry, File, Id, List, Login, Name, Pending, Reusable, Seed, Server, Settings,
     Tags, Token,
 };
-use CommandKind::{Operator, Pipe, PolicyCheck};
+use CommandKind::{Operator, Pipe, PolicyCheck, Serve};
 use OperatorKind::{
     DnsGet, DnsSet, KeyAdd, KeyExpire, KeyList, NodeDel, NodeExpire, NodeList, NodeRename,
     NodeRoutes, NodeTags, PendingAdmit, PendingList, PolicyGet, PolicySet, Sweep, UserAdd, UserDel,
@@ -19,6 +19,7 @@ use OperatorKind::{
 #[derive(Clone, Copy)]
 pub enum CommandKind {
     Pipe,
+    Serve,
     PolicyCheck,
     Operator(OperatorKind),
 }
@@ -48,8 +49,9 @@ pub enum OperatorKind {
 }
 
 /// Each command: its name, what it leads to, and its arguments, positional ones in their order.
-pub const LINES: [(&str, CommandKind, &[Argument]); 21] = [
+pub const LINES: [(&str, CommandKind, &[Argument]); 22] = [
     ("pipe", Pipe, &[Settings, Seed]),
+    ("serve", Serve, &[Settings]),
     ("policy-check", PolicyCheck, &[File]),
     ("user-list", Operator(UserList), &[Server, Token]),
     ("user-add", Operator(UserAdd), &[Name, Server, Token]),

@@ -16,6 +16,8 @@ pipe --seed k1 -- a.toml = pipe a.toml k1
 pipe -- a.toml = pipe a.toml
 pipe -- -a = pipe -a
 pipe --seed=-k a.toml = pipe a.toml -k
+serve a.toml = serve a.toml
+serve -- -a = serve -a
 policy-check a.hujson = policy-check a.hujson
 policy-check -- -a = policy-check -a
 user-list --server s --token t = GET /api/v1/user
@@ -53,7 +55,6 @@ help = none
 --help = none
 -h = none
 --version = none
-serve a.toml = none
 load 1 1 = none
 pipe = none
 pipe a.toml b = none
@@ -69,6 +70,10 @@ pipe a.toml --seed ké = none
 pipe a.toml --server s = none
 pipe a.toml --seed=k1 --seed=k2 = none
 pipe a.toml --help = none
+serve = none
+serve a.toml b = none
+serve a.toml --seed k1 = none
+serve --help = none
 policy-check = none
 policy-check a.hujson b = none
 policy-check a.hujson --seed k1 = none
@@ -140,6 +145,9 @@ fn shown_invocation(alloc: Global, asked: &Option<Invocation>) -> Result<String,
             Ok(format!(in alloc; "policy-check {}", file.as_str())?)
         }
         Some(Invocation::Pipe { settings, seed }) => pipe_line(alloc, settings, seed),
+        Some(Invocation::Serve { settings }) => {
+            Ok(format!(in alloc; "serve {}", settings.as_str())?)
+        }
     }
 }
 

@@ -10,6 +10,7 @@ use Rattle.run_ends.specs.declared.status.Status.TheVariants as status
 use Rattle.tailnet_commands.specs.Check.{Checked, check_line}
 use Rattle.tailnet_commands.specs.Outside.{Outside}
 use Rattle.tailnet_commands.specs.Pipe.{Outcome}
+use Rattle.tailnet_serve.specs.Serve.{ServeOutcome}
 
 -- of all but the files and errors, the output alone was touched
 pub record IsWrittenAlone (old new : Outside) : Type 0 where
@@ -75,6 +76,7 @@ WordsDone (Some (asked.PolicyCheck file)) ended old new =
     IsWrittenAlone old new
     × Checked ended (old.files file) old.file_faults new.file_faults old.told.giving.held new.told.giving.held old.told.giving.write_faults new.told.giving.write_faults
     × IsLine (check_line ended) old new
+WordsDone (Some (asked.Serve settings)) ended old new = ServeOutcome ended settings old new
 WordsDone (Some (asked.Operator call)) ended old new = IsLinkedAlone old new × Operated call ended (operator_point_of old) (operator_point_of new)
 
 -- there was no memory to read the words
@@ -90,4 +92,13 @@ abbrev pub asks_link : Option Invocation → Bool
 asks_link None = false
 asks_link (Some (asked.Pipe settings seed)) = false
 asks_link (Some (asked.PolicyCheck file)) = false
+asks_link (Some (asked.Serve settings)) = false
 asks_link (Some (asked.Operator call)) = true
+
+-- whether words ask doors: `serve` does
+abbrev pub asks_doors : Option Invocation → Bool
+asks_doors None = false
+asks_doors (Some (asked.Pipe settings seed)) = false
+asks_doors (Some (asked.PolicyCheck file)) = false
+asks_doors (Some (asked.Serve settings)) = true
+asks_doors (Some (asked.Operator call)) = false

@@ -2,11 +2,11 @@
 ghost use Rattle.std.specs.Prelude.{◌≡◌, false, map, option_map, string_bytes};
 ghost use Rattle.command_words.specs.Words.{invocation_of};
 ghost use Rattle.tailnet_commands.specs.Outside.{doors_told, link_told, outside};
-ghost use Rattle.tailnet_top.specs.Top.{WordsDone, Top, asks_link};
+ghost use Rattle.tailnet_top.specs.Top.{WordsDone, Top, asks_doors, asks_link};
 
 use crate::wordless::end_wordless;
 use command_words::{Invocation, read_invocation};
-use io_edge::{Clock, Doors, Entropy, Files, Link, Pause, Sink, Source};
+use io_edge::{Clock, Door, Doors, Entropy, Files, Link, Pause, Sink, Source};
 use operator_commands::operator_command;
 use row_keeper::Opener;
 use run_ends::{Status, note_usage};
@@ -15,6 +15,7 @@ use std::sync::Wait;
 use std::thread::Threads;
 use tail_base::Text;
 use tailnet_commands::{pipe_command, policy_check};
+use tailnet_serve::serve_command;
 
 fn text_of(text: &Option<Text>) -> Option<&str>
     ensures value { option_map (λ t. t.now) result ≡ text.now }
@@ -27,16 +28,19 @@ fn text_of(text: &Option<Text>) -> Option<&str>
 
 /// Does what was asked, or leaves the line of words that are no command.
 fn run_asked<
+    R: Threads + Wait + Sync,
     I: Source,
     O: Sink,
     E: Sink,
     F: Files,
     P: Opener,
-    C: Clock + Send,
+    C: Clock + Send + Drop,
     N: Entropy + Send,
     D: Doors,
+    A: Pause + Sync,
     L: Link,
 >(
+    rt: &R,
     alloc: Global,
     asked: &Option<Invocation>,
     input: &mut I,
@@ -47,8 +51,12 @@ fn run_asked<
     clock: &mut C,
     entropy: &mut N,
     doors: &mut D,
+    pause: &A,
     link: &mut L,
 ) -> Status
+where
+    <D::Door as Door>::In: Send,
+    <D::Door as Door>::Out: Send,
     ensures ran { let at = outside I.left I.read_faults O.holds O.write_faults
         E.holds E.write_faults F.holds F.faults P.told P.asked P.faults C.answer N.word N.faults in
         let doors_at = doors_told D.coming D.finished D.asked D.faults in
@@ -58,7 +66,7 @@ fn run_asked<
         input.old output.old errors.old files.old opener.old clock.old entropy.old)
         (at (doors_at doors.new) (link_at link.new)
         input.new output.new errors.new files.new opener.new clock.new entropy.new) }
-    ensures doors { doors.new ≡ doors.old }
+    ensures doors { asks_doors asked.now ≡ false → doors.new ≡ doors.old }
     ensures link { asks_link asked.now ≡ false → link.new ≡ link.old }
 {
     match asked {
@@ -71,6 +79,18 @@ fn run_asked<
         Some(Invocation::PolicyCheck { file }) => {
             policy_check(alloc, file.as_str(), output, errors, files)
         }
+        Some(Invocation::Serve { settings }) => serve_command(
+            rt,
+            alloc,
+            settings.as_str(),
+            errors,
+            files,
+            opener,
+            clock,
+            entropy,
+            doors,
+            pause,
+        ),
         Some(Invocation::Operator(call)) => {
             operator_command(alloc, call, output, errors, files, link)
         }
@@ -83,8 +103,8 @@ fn run_asked<
 
 /// The whole program over its outside: the words after its name, and all that it may touch.
 ///
-/// `pipe`, `policy-check` and the operator's commands are those so far. It asks no door and starts no
-/// thread, and it waits for nobody but the link, which the operator's commands alone ask.
+/// `pipe`, `serve`, `policy-check` and the operator's commands are those so far. `serve` alone asks doors,
+/// starts threads and waits for its workers; the operator's commands alone ask the link, and wait for it.
 pub fn tailnetd<
     R: Threads + Wait + Sync,
     I: Source,
@@ -92,13 +112,13 @@ pub fn tailnetd<
     E: Sink,
     F: Files,
     P: Opener,
-    C: Clock + Send,
+    C: Clock + Send + Drop,
     N: Entropy + Send,
     D: Doors,
     A: Pause + Sync,
     L: Link,
 >(
-    _rt: &R,
+    rt: &R,
     alloc: Global,
     words: &[String],
     input: &mut I,
@@ -109,9 +129,12 @@ pub fn tailnetd<
     clock: &mut C,
     entropy: &mut N,
     doors: &mut D,
-    _pause: &A,
+    pause: &A,
     link: &mut L,
 ) -> Status
+where
+    <D::Door as Door>::In: Send,
+    <D::Door as Door>::Out: Send,
     ensures outcome { let at = outside I.left I.read_faults O.holds O.write_faults
         E.holds E.write_faults F.holds F.faults P.told P.asked P.faults C.answer N.word N.faults in
         let doors_at = doors_told D.coming D.finished D.asked D.faults in
@@ -121,7 +144,8 @@ pub fn tailnetd<
         input.old output.old errors.old files.old opener.old clock.old entropy.old)
         (at (doors_at doors.new) (link_at link.new)
         input.new output.new errors.new files.new opener.new clock.new entropy.new) }
-    ensures doors { doors.new ≡ doors.old }
+    ensures doors { asks_doors (invocation_of (map string_bytes words.now)) ≡ false
+        → doors.new ≡ doors.old }
     ensures link { asks_link (invocation_of (map string_bytes words.now)) ≡ false
         → link.new ≡ link.old }
 {
@@ -129,6 +153,6 @@ pub fn tailnetd<
         return end_wordless(alloc, errors);
     };
     run_asked(
-        alloc, &asked, input, output, errors, files, opener, clock, entropy, doors, link,
+        rt, alloc, &asked, input, output, errors, files, opener, clock, entropy, doors, pause, link,
     )
 }
