@@ -94,6 +94,7 @@ fn call_in(asked: &Option<Invocation>) -> Result<&OperatorCall, Fail> {
         Some(Invocation::Operator(call)) => Ok(call),
         Some(Invocation::Pipe { .. }) => Err(Fail::from("pipe")),
         Some(Invocation::PolicyCheck { .. }) => Err(Fail::from("policy-check")),
+        Some(Invocation::Load { .. }) => Err(Fail::from("load")),
         None => Err(Fail::from("no command")),
     }
 }

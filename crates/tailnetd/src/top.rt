@@ -1,5 +1,6 @@
 //! The top call.
 ghost use Rattle.std.specs.Prelude.{◌≡◌, false, map, option_map, string_bytes};
+ghost use Rattle.command_words.specs.Arguments.{HasLoadMachine};
 ghost use Rattle.command_words.specs.Words.{invocation_of};
 ghost use Rattle.tailnet_commands.specs.Outside.{doors_told, link_told, outside};
 ghost use Rattle.tailnetd.specs.Top.{WordsDone, Top, asks_link};
@@ -7,6 +8,7 @@ ghost use Rattle.tailnetd.specs.Top.{WordsDone, Top, asks_link};
 use crate::wordless::end_wordless;
 use command_words::{Invocation, read_invocation};
 use io_edge::{Clock, Doors, Entropy, Files, Link, Pause, Sink, Source};
+use load_run::load_command;
 use operator_commands::operator_command;
 use row_keeper::Opener;
 use run_ends::{Status, note_usage};
@@ -49,6 +51,7 @@ fn run_asked<
     doors: &mut D,
     link: &mut L,
 ) -> Status
+    requires machine { HasLoadMachine asked.now }
     ensures ran { let at = outside I.left I.read_faults O.holds O.write_faults
         E.holds E.write_faults F.holds F.faults P.told P.asked P.faults C.answer N.word N.faults in
         let doors_at = doors_told D.coming D.finished D.asked D.faults in
@@ -71,6 +74,9 @@ fn run_asked<
         Some(Invocation::PolicyCheck { file }) => {
             policy_check(alloc, file.as_str(), output, errors, files)
         }
+        Some(Invocation::Load { machines, events }) => {
+            load_command(alloc, *machines, *events, output, errors)
+        }
         Some(Invocation::Operator(call)) => {
             operator_command(alloc, call, output, errors, files, link)
         }
@@ -83,7 +89,7 @@ fn run_asked<
 
 /// The whole program over its outside: the words after its name, and all that it may touch.
 ///
-/// `pipe`, `policy-check` and the operator's commands are those so far. It asks no door and starts no
+/// `pipe`, `policy-check`, `load` and the operator's commands are those so far. It asks no door and starts no
 /// thread, and it waits for nobody but the link, which the operator's commands alone ask.
 pub fn tailnetd<
     R: Threads + Wait + Sync,
