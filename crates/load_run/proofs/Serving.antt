@@ -23,6 +23,7 @@ record One (site : FrontSettings) (message written : List ℕ) (xs : List Exchan
   only : xs ≡ exchange ∷ []
   request : Begins message exchange.request
   is : IsExchange site 0 true exchange
+  unbroken : exchange.broken ≡ false
   written_is : written ≡ exchange.bytes
 
 no_message : {A : Type 0} (message : List ℕ) → 0 < length message → message ≡ [] → A
@@ -53,6 +54,7 @@ one_exchange site message read rest extra written old new (x ∷ []) some came l
   only = refl;
   request = begun message read rest new.left x came leads;
   is = each.1;
+  unbroken = ends.2.0;
   written_is = ends.0 ∙ append-nil x.bytes;
 }
 one_exchange site message read rest extra written old new (x ∷ y ∷ ys) some came leads each ends = absurd (let left : 0 < 1 - 1 = each.3.0 in omega (arith, left))
@@ -83,6 +85,7 @@ served turn site message moment before now answer old new s t some left empty he
       exchange = one.exchange;
       request = one.request;
       is = one.is;
+      unbroken = one.unbroken;
       answer_is = sym held ∙ serves.to_sink ∙ ap (λ (h : Option (List ℕ)). and_held h serves.written) empty ∙ ap Some one.written_is;
       moments = subst (λ (ts : List Turned). MomentsTold (outside.still moment) ts) turns_are (same_moments old.giving.answers (outside.still moment) (turns_of serves.exchanges) clock took.moments);
       words = subst (λ (ts : List Turned). WordsTold (outside.counted before) ts) turns_are (told_words old.giving.words (outside.counted before) (turns_of serves.exchanges) words took.words);

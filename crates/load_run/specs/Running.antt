@@ -46,6 +46,7 @@ pub record IsTaken (site : FrontSettings) (message : List ℕ) (moment : ℤ) (o
   pub exchange : Exchange
   pub request : Begins message exchange.request
   pub answered : IsAnswered site 0 true (wanted_of site exchange.request) exchange.turns exchange.bytes exchange.ended exchange.broken
+  pub unbroken : exchange.broken ≡ false
   pub memory : HadMemory exchange.turns
   pub moments : MomentsTold (outside.still moment) exchange.turns
   pub words : WordsTold (outside.counted old.words) exchange.turns

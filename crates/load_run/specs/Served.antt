@@ -9,12 +9,13 @@ use Rattle.connections.specs.Tellings.{MomentsTold, WordsTold, drawn, failed_dra
 use Rattle.load_run.specs.Outside as outside
 use Rattle.load_run.specs.Steps.{Begins}
 
--- the request that a message begins with was served, at that moment and with the random words that were next, and this is
--- its answer
+-- The request that a message begins with was served, at that moment and with the random words that were next, and this is
+-- its answer, whole.
 pub record IsServed {S : Type 0} (turn : S → Event → Reply → S → Type 0) (site : FrontSettings) (message : List ℕ) (moment : ℤ) (before now : ℕ) (answer : Option (List ℕ)) (p q : S) : Type 0 where
   pub exchange : Exchange
   pub request : Begins message exchange.request
   pub is : IsExchange site 0 true exchange
+  pub unbroken : exchange.broken ≡ false
   pub answer_is : answer ≡ Some exchange.bytes
   pub moments : MomentsTold (outside.still moment) exchange.turns
   pub words : WordsTold (outside.counted before) exchange.turns

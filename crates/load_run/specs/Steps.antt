@@ -95,11 +95,12 @@ stand_after plan s x words point = record {
   point = point;
 }
 
--- One request: it is made of where the load stands, and served as the last of a connection. Its turns come at its moment,
--- with the random words that are next, and memory was refused to none.
+-- One request: it is made of where the load stands, and served as the last of a connection, and its
+-- answer is whole. Its turns come at its moment, with the random words that are next, and memory was refused to none.
 pub record IsStep (plan : LoadPlan) (site : FrontSettings) (s : Stand) (x : Exchange) (t : Stand) : Type 0 where
   pub request : Begins (task_message (next_task plan s) (next_known plan s)) x.request
   pub answered : IsAnswered site 0 true (wanted_of site x.request) x.turns x.bytes x.ended x.broken
+  pub unbroken : x.broken ≡ false
   pub memory : HadMemory x.turns
   pub moments : MomentsTold (outside.still (moment_at plan s.number)) x.turns
   pub words : WordsTold (outside.counted s.words) x.turns

@@ -71,8 +71,8 @@ fn serve_message<K: Keeper>(
 ) -> Result<(), Stopped>
     requires some { 0 < length message.now }
     requires empty { ⟦<MemorySink as Sink>⟧.holds answer.old ≡ Some [] }
-    ensures served { OnOk result (IsServed IsWatchedTurn front.now message.now seconds words.old.drawn words.new.drawn
-        (⟦<MemorySink as Sink>⟧.holds answer.new)
+    ensures served { OnOk result (IsServed IsWatchedTurn front.now message.now seconds
+        words.old.drawn words.new.drawn (⟦<MemorySink as Sink>⟧.holds answer.new)
         (watched_of (point_of K.told K.faults K.calls) watched.old)
         (watched_of (point_of K.told K.faults K.calls) watched.new)) }
 {
