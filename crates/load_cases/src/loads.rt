@@ -21,8 +21,7 @@ const LOADS: [(u32, u32, &str); 2] = [
 ];
 
 /// The lines of a load of 60 machines and 600 events, as `model/load 60 600` has them.
-const LARGE: &str =
-    "machines 60\nevents 600\nrequests 720\nok 719\nrefused 1\nframes 176\n";
+const LARGE: &str = "machines 60\nevents 600\nrequests 720\nok 719\nrefused 1\nframes 176\n";
 
 /// What a load writes, where it ends well.
 fn loaded(alloc: Global, machines: u32, events: u32) -> Result<MemorySink, Fail> {

@@ -2,7 +2,8 @@
 ghost use Rattle.std.specs.Prelude.{◌≡◌};
 ghost use Rattle.load_run.specs.Draws as spec;
 
-/// The factor and the summand of the source, Knuth's for 64 bits, and how many numbers it goes round.
+/// The factor and the summand of the source, Knuth's for 64 bits, and how many numbers it goes
+/// round.
 const FACTOR: u128 = 6_364_136_223_846_793_005;
 
 const SUMMAND: u128 = 1_442_695_040_888_963_407;

@@ -59,7 +59,8 @@ fn route_after(kind: TaskKind, route: Option<u8>) -> Option<u8>
     }
 }
 
-/// Serves one request, as the only one of a connection, at this moment. The answer goes to the sink.
+/// Serves one request, as the only one of a connection, at this moment. Its answer goes to the
+/// sink.
 fn serve_message<K: Keeper>(
     alloc: Global,
     front: &Front,
@@ -128,7 +129,8 @@ impl<K: Keeper> Run<K> {
     fn listen(&mut self, alloc: Global, machine: u32) -> Result<(), NoMemory>
         requires least { 1 ≤ machine }
         requires most { machine ≤ length self.old.roll }
-        ensures value { OnOk result (self.new ≡ heard_by (known_of self.old.roll machine) self.old) }
+        ensures value { OnOk result
+            (self.new ≡ heard_by (known_of self.old.roll machine) self.old) }
     {
         let known = self.roll.of(machine);
         self.watched.heard.handle = known.handle.copy(alloc)?;
