@@ -5,3 +5,4 @@ mod Loading
 mod Taking
 mod Rules
 mod Hearing
+mod Early

@@ -9,6 +9,7 @@ pub mod Given
 pub mod Counting
 pub mod Report
 pub mod Steps
+pub mod Early
 pub mod Loads
 pub mod Served
 pub mod Running

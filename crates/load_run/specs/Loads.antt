@@ -17,6 +17,7 @@ use Rattle.connections.specs.Exchanges.{turns_of}
 use Rattle.run_ends.specs.Pieces.{Wrote}
 use Rattle.run_ends.specs.declared.status.Status.{Status}
 use Rattle.run_ends.specs.declared.status.Status.TheVariants as status
+use Rattle.load_run.specs.Early.{IsRunEarly}
 use Rattle.load_run.specs.Given.{load_settings}
 use Rattle.load_run.specs.Report.{report}
 use Rattle.load_run.specs.Steps.{Runs, Stand, first_stand}
@@ -53,6 +54,15 @@ pub record IsLoad (plan : LoadPlan) (final : Stand) : Type 0 where
   pub history : IsHistory (opening_point keeping) (seeding reply ∷ turns_of runs.exchanges) final.point
   pub faultless : (keeping.faults ≡ 0) × (final.point.keeping.faults ≡ 0)
 
+-- A load that didn't end: a request's connection ended early.
+pub record IsLoadEarly (plan : LoadPlan) : Type 0 where
+  pub keeping : Keeping
+  pub reply : Reply
+  pub seeded : Point
+  pub seeds : IsTurn (opening_point keeping) (seeding reply).event reply seeded
+  pub faultless : keeping.faults ≡ 0
+  pub early : IsRunEarly plan load_site (first_stand plan 0 seeded)
+
 -- the six lines of a load
 pub record IsLoadText (plan : LoadPlan) (text : List ℕ) : Type 0 where
   pub final : Stand
@@ -76,7 +86,7 @@ abbrev pub Loaded : LoadPlan → Status → Option (List ℕ) → Option (List �
 Loaded plan status.Ok old new before now = IsReported plan status.Ok old new before now
 Loaded plan status.WriteFault old new before now = IsReported plan status.WriteFault old new before now
 Loaded plan status.NoMemory old new before now = IsLoadUnwritten old new before now
-Loaded plan status.Early old new before now = IsLoadUnwritten old new before now
+Loaded plan status.Early old new before now = IsLoadUnwritten old new before now × IsLoadEarly plan
 Loaded plan status.Usage old new before now = ⊥
 Loaded plan status.Settings old new before now = ⊥
 Loaded plan status.ReadFault old new before now = ⊥

@@ -1,12 +1,12 @@
 //! The command `load`.
-ghost use Rattle.std.specs.Prelude.{◌≡◌, ◌<◌, false, IfOk, OnOk};
+ghost use Rattle.std.specs.Prelude.{◌≡◌, ◌<◌, false, IfOk, IsErrOf, OnOk};
 ghost use Rattle.net_rows.specs.Rows.{empty_rows};
 ghost use Rattle.run_ends.specs.Lines.{Noted};
 ghost use Rattle.tailnet_desk.specs.Opening.{opening};
 ghost use Rattle.tailnet_desk.specs.Seated.{point_of};
 ghost use Rattle.load_run.specs.Beginning.{IsBegun, IsLoadSeeded, unheard};
 ghost use Rattle.load_run.specs.Given as given;
-ghost use Rattle.load_run.specs.Loads.{IsLoadText, Loaded, load_moment, load_line, load_site};
+ghost use Rattle.load_run.specs.Loads.{IsLoadEarly, IsLoadText, Loaded, load_moment, load_line, load_site};
 ghost use Rattle.load_run.specs.Watching.{watched_of};
 
 use crate::counts::Counts;
@@ -106,6 +106,7 @@ fn finish(
         (point_of ⟦<SureKeeper as Keeper>⟧.told ⟦<SureKeeper as Keeper>⟧.faults
         ⟦<SureKeeper as Keeper>⟧.calls) run.old }
     ensures text { IfOk result (IsLoadText plan.now) }
+    ensures early { IsErrOf result Stopped.Early → IsLoadEarly plan.now }
 {
     run.serve_all(alloc, front, plan)?;
     match report(alloc, plan, &run.counts, run.watched.heard.frames) {
@@ -128,6 +129,7 @@ fn prepare(alloc: Global) -> Result<(Front, Settings), NoMemory>
 fn run(alloc: Global, plan: &LoadPlan) -> Result<Text, Stopped>
     requires machines { 0 < plan.now.machines }
     ensures text { IfOk result (IsLoadText plan.now) }
+    ensures early { IsErrOf result Stopped.Early → IsLoadEarly plan.now }
 {
     let Ok((front, settings)) = prepare(alloc) else {
         return Err(Stopped::NoMemory);

@@ -1,6 +1,8 @@
 //! The requests of a load, one after the other.
-ghost use Rattle.std.specs.Prelude.{◌≡◌, ◌<◌, ◌≤◌, ◌+◌, ◌^◌, [], length, OnOk, Some};
+ghost use Rattle.std.specs.Prelude.{◌≡◌, ◌<◌, ◌≤◌, ◌+◌, ◌^◌, [], length, IsErrOf, OnOk, Some};
 ghost use Rattle.tailnet_desk.specs.Seated.{point_of};
+ghost use Rattle.tailnet_desk.specs.Turns.{IsTurn};
+ghost use Rattle.load_run.specs.Early.{IsNextEarly, IsRunEarly, IsServedEarly};
 ghost use Rattle.load_run.specs.Knowing.{known_of, with_known};
 ghost use Rattle.load_run.specs.Messages.{task_message};
 ghost use Rattle.load_run.specs.Running.{IsNextRequest, IsReady, IsTaken, heard_by, run_with_known, stand_of, taking_of};
@@ -30,7 +32,7 @@ use tail_base::{Bytes, Duplicate, Items, NoMemory, Text};
 pub(crate) enum Stopped {
     /// Memory was refused.
     NoMemory,
-    /// A request wasn't read, or wasn't served.
+    /// The connection of a request ended early: it wasn't read, or it had a fault.
     Early,
 }
 
@@ -76,6 +78,9 @@ fn serve_message<K: Keeper>(
         words.old.drawn words.new.drawn (⟦<MemorySink as Sink>⟧.holds answer.new)
         (watched_of (point_of K.told K.faults K.calls) watched.old)
         (watched_of (point_of K.told K.faults K.calls) watched.new)) }
+    ensures early { IsErrOf result Stopped.Early → IsServedEarly IsWatchedTurn front.now message.now
+        (watched_of (point_of K.told K.faults K.calls) watched.old)
+        (watched_of (point_of K.told K.faults K.calls) watched.new) }
 {
     let Ok(bytes) = Bytes::from_slice(alloc, message.as_slice()) else {
         return Err(Stopped::NoMemory);
@@ -105,6 +110,9 @@ impl<K: Keeper> Run<K> {
         ensures taken { OnOk result (IsTaken front.now message.now seconds
             (taking_of (point_of K.told K.faults K.calls) self.old)
             (taking_of (point_of K.told K.faults K.calls) self.new)) }
+        ensures early { IsErrOf result Stopped.Early → IsServedEarly IsTurn front.now message.now
+            (point_of K.told K.faults K.calls self.old.watched.desk)
+            (point_of K.told K.faults K.calls self.new.watched.desk) }
         ensures roll { self.new.roll ≡ self.old.roll }
         ensures source { self.new.source ≡ self.old.source }
     {
@@ -171,6 +179,8 @@ impl<K: Keeper> Run<K> {
         ensures next { OnOk result (IsNextRequest plan.now front.now
             (stand_of (point_of K.told K.faults K.calls) number self.old)
             (stand_of (point_of K.told K.faults K.calls) (number + 1) self.new)) }
+        ensures early { IsErrOf result Stopped.Early → IsNextEarly plan.now front.now
+            (stand_of (point_of K.told K.faults K.calls) number self.old) }
         ensures ready { OnOk result (IsReady plan.now (number + 1) self.new) }
     {
         let task = task_at(plan, number, self.source);
@@ -200,6 +210,8 @@ impl<K: Keeper> Run<K> {
         ensures runs { OnOk result (Runs plan.now front.now
             (stand_of (point_of K.told K.faults K.calls) 0 self.old)
             (stand_of (point_of K.told K.faults K.calls) (tasks.request_count plan.now) self.new)) }
+        ensures early { IsErrOf result Stopped.Early → IsRunEarly plan.now front.now
+            (stand_of (point_of K.told K.faults K.calls) 0 self.old) }
         ensures ready { OnOk result (IsReady plan.now (tasks.request_count plan.now) self.new) }
     {
         let count = request_count(plan);
