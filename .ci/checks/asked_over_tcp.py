@@ -1,8 +1,8 @@
 """Asks a server over TCP, and says what is wrong with its answer.
 
 usage: asked_over_tcp.py PORT whole|cut|large
-  whole: a request that is answered 200; cut: one that ends inside its head; large: one whose body is too long, of which
-  the answer 413 arrives although the body isn't read
+  whole: a request that is answered 200; cut: one that ends inside its head; large: one whose body is too long: the
+  answer 413 arrives although the body isn't read
 """
 
 import socket

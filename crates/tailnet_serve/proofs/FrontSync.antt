@@ -11,6 +11,7 @@ use Rattle.desk_front.below.slab.proofs.Slab.TheSendSync as slab
 use Rattle.desk_front.below.path_routes.specs.contracts.paths.Paths as Paths
 use Rattle.desk_front.below.path_routes.specs.contracts.table.Entry as Entry
 use Rattle.desk_front.below.path_routes.proofs.table.Entry.TheSendSync as entry
+use Rattle.desk_front.proofs.front_settings.FrontSettings.TheSendSync as settings
 use Rattle.desk_front.specs.contracts.front.Front as Front
 
 node_sync : IsSync Node.the_row
@@ -26,4 +27,4 @@ paths_sync : IsSync Paths.the_row
 paths_sync = search (sendable, router_sync, entry_sync) depth 30
 
 pub front_sync : IsSync Front.the_row
-front_sync = search (sendable, paths_sync, vec.the_sync, heap.the_sync) depth 30
+front_sync = search (sendable, paths_sync, settings.the_field_sync) depth 30

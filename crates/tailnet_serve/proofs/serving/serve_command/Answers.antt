@@ -1,4 +1,4 @@
--- How a run ended is what its settings and its workers came to; input, output and the link aren't its own.
+-- How a run ended is told by its settings and its workers; input, output and the link aren't its own.
 use Rattle.std.proofs.Common.{refl}
 use Rattle.tailnet_commands.specs.Outside.{doors_told}
 use Rattle.tailnet_commands.proofs.PipeLemmas.{told_by_itself}
