@@ -106,5 +106,6 @@ abbrev pub HasLoadMachine : Option Invocation → Type 0
 HasLoadMachine None = Unit {0}
 HasLoadMachine (Some (asked.Load machines events)) = 0 < machines
 HasLoadMachine (Some (asked.Pipe settings seed)) = Unit {0}
+HasLoadMachine (Some (asked.Serve settings)) = Unit {0}
 HasLoadMachine (Some (asked.PolicyCheck file)) = Unit {0}
 HasLoadMachine (Some (asked.Operator call)) = Unit {0}

@@ -75,7 +75,10 @@ impl Source for MemoryLink {
     ghost read_faults = { λ s. s.failed_reads };
 
     ghost besides_left = { λ s. record {
-        bytes = Some s.written.items; asked = Some s.asked; faults = s.failed_writes } };
+      bytes = Some s.written.items;
+      asked = Some s.asked;
+      faults = s.failed_writes;
+    } };
 
     fn read(&mut self, into: &mut [u8]) -> Result<usize, Failed> {
         if self.fails_next() {
@@ -95,7 +98,10 @@ impl Sink for MemoryLink {
     ghost write_faults = { λ s. s.failed_writes };
 
     ghost besides_held = { λ s. record {
-        bytes = Some (drop s.at s.answer); asked = Some s.asked; faults = s.failed_reads } };
+      bytes = Some (drop s.at s.answer);
+      asked = Some s.asked;
+      faults = s.failed_reads;
+    } };
 
     fn write(&mut self, from: &[u8]) -> Result<usize, Failed> {
         if self.fails_next() {
