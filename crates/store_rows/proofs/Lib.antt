@@ -5,3 +5,6 @@ pub mod ReadLemmas
 pub mod RouteTexts
 pub mod RowLemmas
 pub mod TagTexts
+pub mod Written
+pub mod ReadingLemmas
+pub mod TableReads
