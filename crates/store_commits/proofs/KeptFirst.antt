@@ -10,7 +10,7 @@ use Rattle.sqlite_schema.specs.declared.schema.Table.{Table}
 use Rattle.store_rows.specs.Rows.{meta_cells}
 use Rattle.store_texts.specs.Making.{AreEmpty, LeadsTo}
 use Rattle.store_texts.specs.Ran.{IsPutBy}
-use Rattle.store_texts.specs.Schema.{schema_1, meta_table}
+use Rattle.store_texts.specs.Schema.{meta_table}
 use Rattle.store_texts.specs.Texts.{insert_meta_text, update_meta_text}
 use Rattle.store_texts.proofs.Inserts.{insert_meta_means}
 use Rattle.store_texts.proofs.Places.{meta_place}

@@ -1,5 +1,5 @@
 -- Rows of a kind as they stand in their tree: a put there is a put of the row.
-use Rattle.std.proofs.Common.{◌≡◌, ◌+◌, ℕ, pos, List, [], ◌∷◌, ◌++◌, map, length, Bool, true, false, cond, nat_eq, nat_lt, Option, None, Some, Ordering, Less, Equal, Greater, refl, sym, ap, ap₂, subst, subst₂, ◌∙◌, ◌<◌, ◌≤◌, not, set, get_or, swap, arith, IsPermutation}
+use Rattle.std.proofs.Common.{◌≡◌, ◌+◌, ℕ, pos, List, [], ◌∷◌, ◌++◌, map, length, Bool, true, false, cond, nat_eq, nat_lt, Ordering, Less, Equal, Greater, refl, sym, ap, ap₂, subst, subst₂, ◌∙◌, ◌<◌, ◌≤◌, not, set, get_or, swap, arith, IsPermutation}
 use Rattle.std.proofs.lemmas.Int.{ints}
 use Rattle.std.proofs.lemmas.Bool.Decides.{nat_tests}
 use Rattle.std.specs.List.{AllByRecursion}
@@ -18,7 +18,7 @@ use Rattle.net_rows.proofs.RemoveLemmas.{put_row_is_insertion}
 use Rattle.store_rows.specs.Rows.{extra_cells}
 use Rattle.store_texts.proofs.Lists.{row_of, left}
 use Rattle.tailcfg.specs.declared.dns.DnsExtra.{DnsExtra}
-use Rattle.store_commits.specs.Kept.{tree_row, placed_rows, value_of}
+use Rattle.store_commits.specs.Kept.{tree_row, placed_rows}
 
 order_of_ids : (a b : ℕ) → (is_lt (value_cmp (Int (pos a)) (Int (pos b))) ≡ nat_lt a b) × (is_eq (value_cmp (Int (pos a)) (Int (pos b))) ≡ nat_eq a b)
 order_of_ids a b = (ap is_lt (value_cmp-Int (pos a) (pos b)) ∙ grind (arith, ints, nat_tests), ap is_eq (value_cmp-Int (pos a) (pos b)) ∙ grind (arith, ints, nat_tests))

@@ -1,7 +1,6 @@
 -- What each statement of a change makes of the rows that a database keeps.
-use Rattle.std.proofs.Common.{◌≡◌, ◌+◌, ℕ, ℤ, cond, pos, List, [], ◌∷◌, ◌++◌, map, drop, length, codes, Bool, true, false, Option, None, Some, refl, sym, ap, subst, ◌∙◌, arith, IsPermutation}
-use Rattle.sqlite_value.specs.declared.value.Value.{Value}
-use Rattle.sqlite_value.specs.declared.value.Value.TheVariants.{Null, Int, Text, Blob}
+use Rattle.std.proofs.Common.{◌≡◌, ◌+◌, ℕ, ℤ, cond, pos, List, [], ◌∷◌, ◌++◌, map, drop, length, Bool, true, false, Option, None, Some, refl, sym, ap, subst, ◌∙◌, arith, IsPermutation}
+use Rattle.sqlite_value.specs.declared.value.Value.TheVariants.{Int, Text}
 use Rattle.sqlite_value.specs.Order.{Row}
 use Rattle.std.proofs.lemmas.List.Sorted.{IsPermutation-map, IsPermutation-refl}
 use Rattle.std.specs.Option.{option_to_list}
@@ -37,10 +36,10 @@ use Rattle.store_texts.proofs.Places.{users_place, auth_keys_place, pending_plac
 use Rattle.store_texts.proofs.Puts.{cast_number, cast_nothing, cast_bytes, puts_row, takes_out, takes_all_out, adds_row}
 use Rattle.store_texts.specs.Standing.{SetsRows}
 use Rattle.tailcfg.specs.declared.dns.DnsExtra.{DnsExtra}
-use Rattle.store_commits.specs.Kept.{AreById, AreStored, Keeps, Makes, placed_rows, policy_row, tree_row, value_of}
+use Rattle.store_commits.specs.Kept.{AreById, Keeps, Makes, placed_rows, policy_row, tree_row, value_of}
 use Rattle.store_commits.specs.Gone.{gone_text, gone_id}
 use Rattle.store_commits.specs.Kept.{IsAdded}
-use Rattle.store_commits.proofs.KeptLists.{IsImageOf, image_of, left_in_order, put_in_place, with_places, extra_rest, placed_are, put_last}
+use Rattle.store_commits.proofs.KeptLists.{image_of, left_in_order, put_in_place, with_places, extra_rest, placed_are, put_last}
 
 moved : (rows old new : List Row) → new ≡ old → IsPermutation rows old → IsPermutation rows new
 moved rows old new e same = subst (IsPermutation rows) (sym e) same

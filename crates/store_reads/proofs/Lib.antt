@@ -2,3 +2,4 @@ pub mod GivenBack
 pub mod Lists
 pub mod Seen
 pub mod ShownRows
+pub mod BackLemmas

@@ -69,10 +69,10 @@ places_rise : (place : ℕ) (xs : List DnsExtra) → IsAscending (λ (a b : ℕ 
 places_rise place [] = tt
 places_rise place (x ∷ xs) = (later_places place (place + 1) xs (omega arith), places_rise (place + 1) xs)
 
-abbrev shown_placed : ℕ × DnsExtra → Row
+abbrev pub shown_placed : ℕ × DnsExtra → Row
 shown_placed (place, x) = shown_row (extra_cells place x)
 
-shown_places : (place : ℕ) (xs : List DnsExtra) → map shown_placed (with_places place xs) ≡ shown_extras place xs
+pub shown_places : (place : ℕ) (xs : List DnsExtra) → map shown_placed (with_places place xs) ≡ shown_extras place xs
 shown_places place [] = refl
 shown_places place (x ∷ xs) = ap (λ l. shown_row (extra_cells place x) ∷ l) (shown_places (place + 1) xs)
 
