@@ -7,6 +7,9 @@ use Rattle.std.specs.Cmp.{IsTotalOrder}
 use Rattle.std.specs.Ordering.{ordering_reverse}
 use Rattle.std.proofs.lemmas.Bool.{and_from, and_parts, eq-eqb, eqb-true, true≢false}
 use Rattle.std.proofs.lemmas.Cmp.{on_total}
+use Rattle.std.proofs.lemmas.Bool.Decides.{nat_tests}
+use Rattle.std.proofs.lemmas.Int.{ints}
+use Rattle.std.specs.Ordering.{int_cmp}
 use Rattle.std.proofs.lemmas.List.Sorted.{IsPermutation-sym}
 use Rattle.std.proofs.lemmas.Map.Keys.{IsDistinct-IsPermutation}
 use Rattle.net_rows.specs.Shelf as shelf
@@ -161,13 +164,16 @@ in_order_is rows tree up same =
     let apart = IsDistinct-IsPermutation (λ a b. is_eq (rowid_cmp a b)) (λ a b. ap is_eq (rowids_total.antisymm b a) ∙ turned_eq (rowid_cmp b a)) rows tree same (distinct rows up) in
     sym (sorted_is-sort_by rowid_cmp rowids_total tree rows (no_ties tree apart) (IsPermutation-sym rows tree same) (in_sequence rows up))
 
+below_less : (a b : ℕ) → a < b → int_cmp (pos a) (pos b) ≡ Less
+below_less a b h = grind (arith, ints, nat_tests)
+
 -- rows of rising ids have rising rowids
 pub rows_rise : {T : Type 0} (id : T → ℕ) (row : T → Row) → ((x : T) → rowid (row x) ≡ Int (pos (id x))) → (xs : List T) → IsAscending (λ a b. id a < id b) xs → IsAscending (λ a b. rowid_cmp a b ≡ Less) (map row xs)
 rows_rise {T} id row ids [] up = tt
 rows_rise {T} id row ids (x ∷ xs) up = (all_above xs up.0, rows_rise id row ids xs up.1)
   where
     below : (y : T) → id x < id y → rowid_cmp (row x) (row y) ≡ Less
-    below y less = ap₂ value_cmp (ids x) (ids y) ∙ value_cmp-Int (pos (id x)) (pos (id y)) ∙ number_below (id x) (id y) less
+    below y less = ap₂ value_cmp (ids x) (ids y) ∙ value_cmp-Int (pos (id x)) (pos (id y)) ∙ below_less (id x) (id y) less
 
     all_above : (ys : List T) → AllByRecursion (λ y. id x < id y) ys → AllByRecursion (λ b. rowid_cmp (row x) b ≡ Less) (map row ys)
     all_above [] h = tt

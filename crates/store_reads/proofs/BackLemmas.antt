@@ -1,10 +1,11 @@
 -- What a SELECT shows of rows of ours are all their columns, so they stand in the tree as they were read.
-use Rattle.std.proofs.Common.{◌≡◌, ◌+◌, ◌<◌, ◌≤◌, zero, suc, ℕ, pos, Bool, true, false, cond, not, List, [], ◌∷◌, ◌++◌, map, length, Option, Some, None, ◌&&◌, ◌||◌, eqb, inl, inr, refl, sym, ap, ap₂, subst, subst₂, ◌∙◌, arith, get_or, take, IfSome, IsPermutation, append_assoc}
+use Rattle.std.proofs.Common.{◌≡◌, ◌+◌, ◌<◌, ◌≤◌, zero, suc, ℕ, Bool, true, false, cond, not, List, [], ◌∷◌, ◌++◌, map, length, Option, Some, None, ◌||◌, eqb, inl, inr, refl, sym, ap, ap₂, subst, subst₂, ◌∙◌, arith, get_or, take, IfSome, IsPermutation, append_assoc, codes}
 use Rattle.std.specs.List.{AllByRecursion}
 use Rattle.std.specs.Option.{option_to_list}
 use Rattle.std.specs.Prelude.{drop}
 use Rattle.std.specs.Str.{is_utf8}
 use Rattle.std.proofs.lemmas.Bool.{and_parts, cases_lt, true≢false}
+use Rattle.std.proofs.lemmas.Bool.Decides.{nat_tests}
 use Rattle.std.proofs.lemmas.List.{length-take-le, take_more}
 use Rattle.std.proofs.lemmas.List.Sorted.{IsPermutation-map, IsPermutation-sym, length_permutation}
 use Rattle.sqlite.specs.Effect.{Database}
@@ -14,6 +15,7 @@ use Rattle.sqlite_schema.specs.Rules.{Keeps, are_present, are_typed, passes}
 use Rattle.sqlite_schema.specs.declared.schema.Column.{Column}
 use Rattle.sqlite_schema.specs.declared.schema.Constraint.{Constraint}
 use Rattle.sqlite_schema.specs.declared.schema.Constraint.TheVariants.{Datatype, NotNull}
+use Rattle.sqlite_schema.specs.declared.schema.Kind.TheVariants.{Integer}
 use Rattle.sqlite_schema.specs.declared.schema.Schema.{Schema}
 use Rattle.sqlite_schema.specs.declared.schema.Table.{Table}
 use Rattle.sqlite_sql.specs.Ops.{is_null}
@@ -34,7 +36,7 @@ use Rattle.net_rows.specs.declared.rows.Rows.{Rows}
 use Rattle.net_rows.specs.declared.user.User.{User}
 use Rattle.store_rows.specs.declared.cell.Cell.{Cell}
 use Rattle.store_rows.specs.declared.cell.Cell.TheVariants as cell
-use Rattle.store_texts.specs.Schema.{auth_keys_table, extras_table, machines_table, meta_table, pending_table, policy_table, schema_1, users_table}
+use Rattle.store_texts.specs.Schema.{auth_keys_table, column_of, extras_table, machines_table, meta_table, pending_table, policy_table, schema_1, users_table}
 use Rattle.store_texts.specs.Texts.{select_auth_keys_text, select_extras_text, select_machines_text, select_meta_text, select_pending_text, select_policy_text, select_users_text}
 use Rattle.store_texts.proofs.Selects.{select_auth_keys_means, select_extras_means, select_machines_means, select_meta_means, select_pending_means, select_policy_means, select_users_means}
 use Rattle.store_texts.proofs.Shows.{shows_each}
@@ -127,8 +129,7 @@ last_there at (c ∷ []) row some h closed =
     not_null (eqb 0 at) c.not_null (is_null (column row (at + 1))) apart closed first
   where
     apart_from : (n : ℕ) → 0 < n → eqb 0 n ≡ false
-    apart_from zero p = absurd (omega (arith, p))
-    apart_from (suc n) p = refl
+    apart_from n p = grind (arith, nat_tests)
 last_there at (c ∷ d ∷ cs) row some h closed =
     let more = last_there (at + 1) (d ∷ cs) row (omega arith) (and_parts _ _ h).1 closed in
     let there : at + 1 + length (d ∷ cs) ≡ at + length (c ∷ d ∷ cs) = omega arith in
@@ -144,7 +145,7 @@ null_is (Blob b) h = absurd (true≢false (sym h))
 -- a row that obeys such a table has its key and all columns, and NULL in the place of the key
 whole_row : (first : Column) (columns : List Column) (row : Row) → are_typed (Some 0) 0 (first ∷ columns) (drop 1 row) ≡ true → are_present (Some 0) 0 (first ∷ columns) row ≡ true → is_closed columns ≡ true
     → with_key (without_key (length columns) row) ≡ row
-whole_row first columns row typed present closed = go row typed (last_there 1 columns row (omega arith) (and_parts _ _ present).1 closed)
+whole_row first columns row typed present closed = go row typed (last_there 1 columns row (omega arith) (and_parts (eqb 0 0 || not first.not_null || not (is_null (column row (0 + 1)))) (are_present (Some 0) 1 columns row) present).1 closed)
   where
     none_there : (r : Row) → length r ≤ 1 + length columns → is_null (column r (1 + length columns)) ≡ false → ⊥
     none_there r short some = true≢false (sym (ap is_null (beyond r (1 + length columns) short)) ∙ some)
@@ -196,37 +197,37 @@ rules db ours rule = subst (λ s. Keeps rule s db.trees) ours.schema (ours.obeys
 pub next_stands : (old new : State) (next : Counters) → IsOurs old.now → Shown select_meta_text [] old new (shown_row (meta_cells next) ∷ []) → old.now.trees 0 ≡ tree_row (meta_cells next) ∷ []
 next_stands old new next ours shown =
     let typed = only_typed schema_1 old.now.trees meta_table (old.now.trees 0) (rules old.now ours Datatype).0 in
-    let whole = whole_rows _ (drop 1 meta_table.columns) (old.now.trees 0) typed (rules old.now ours NotNull).0 refl in
+    let whole = whole_rows (column_of (codes "k") Integer false) (drop 1 meta_table.columns) (old.now.trees 0) typed (rules old.now ours NotNull).0 refl in
     one_permutation _ _ (stand_as_shown meta_cells 5 (old.now.trees 0) (next ∷ []) whole (λ x. refl) (shows_each 0 _ select_meta_text _ old new _ select_meta_means ours.schema shown))
 
 pub users_stand : (old new : State) (xs : List User) → IsOurs old.now → Shown select_users_text [] old new (map (λ x. shown_row (user_cells x)) xs) → HoldsInTree (old.now.trees 1) (map (λ x. tree_row (user_cells x)) xs)
 users_stand old new xs ours shown =
     let typed = only_typed schema_1 old.now.trees users_table (old.now.trees 1) (rules old.now ours Datatype).1.0 in
-    let whole = whole_rows _ (drop 1 users_table.columns) (old.now.trees 1) typed (rules old.now ours NotNull).1.0 refl in
+    let whole = whole_rows (column_of (codes "id") Integer false) (drop 1 users_table.columns) (old.now.trees 1) typed (rules old.now ours NotNull).1.0 refl in
     stand_as_shown user_cells 1 (old.now.trees 1) xs whole (λ x. refl) (shows_each 1 _ select_users_text _ old new _ select_users_means ours.schema shown)
 
 pub keys_stand : (old new : State) (xs : List AuthKey) → IsOurs old.now → Shown select_auth_keys_text [] old new (map (λ x. shown_row (auth_key_cells x)) xs) → HoldsInTree (old.now.trees 3) (map (λ x. tree_row (auth_key_cells x)) xs)
 keys_stand old new xs ours shown =
     let typed = only_typed schema_1 old.now.trees auth_keys_table (old.now.trees 3) (rules old.now ours Datatype).1.1.0 in
-    let whole = whole_rows _ (drop 1 auth_keys_table.columns) (old.now.trees 3) typed (rules old.now ours NotNull).1.1.0 refl in
+    let whole = whole_rows (column_of (codes "id") Integer false) (drop 1 auth_keys_table.columns) (old.now.trees 3) typed (rules old.now ours NotNull).1.1.0 refl in
     stand_as_shown auth_key_cells 7 (old.now.trees 3) xs whole (λ x. refl) (shows_each 3 _ select_auth_keys_text _ old new _ select_auth_keys_means ours.schema shown)
 
 pub pending_stand : (old new : State) (xs : List Pending) → IsOurs old.now → Shown select_pending_text [] old new (map (λ x. shown_row (pending_cells x)) xs) → HoldsInTree (old.now.trees 5) (map (λ x. tree_row (pending_cells x)) xs)
 pending_stand old new xs ours shown =
     let typed = only_typed schema_1 old.now.trees pending_table (old.now.trees 5) (rules old.now ours Datatype).1.1.1.0 in
-    let whole = whole_rows _ (drop 1 pending_table.columns) (old.now.trees 5) typed (rules old.now ours NotNull).1.1.1.0 refl in
+    let whole = whole_rows (column_of (codes "id") Integer false) (drop 1 pending_table.columns) (old.now.trees 5) typed (rules old.now ours NotNull).1.1.1.0 refl in
     stand_as_shown pending_cells 9 (old.now.trees 5) xs whole (λ x. refl) (shows_each 5 _ select_pending_text _ old new _ select_pending_means ours.schema shown)
 
 pub machines_stand : (old new : State) (xs : List Machine) → IsOurs old.now → Shown select_machines_text [] old new (map (λ x. shown_row (machine_cells x)) xs) → HoldsInTree (old.now.trees 8) (map (λ x. tree_row (machine_cells x)) xs)
 machines_stand old new xs ours shown =
     let typed = only_typed schema_1 old.now.trees machines_table (old.now.trees 8) (rules old.now ours Datatype).1.1.1.1.0 in
-    let whole = whole_rows _ (drop 1 machines_table.columns) (old.now.trees 8) typed (rules old.now ours NotNull).1.1.1.1.0 refl in
+    let whole = whole_rows (column_of (codes "id") Integer false) (drop 1 machines_table.columns) (old.now.trees 8) typed (rules old.now ours NotNull).1.1.1.1.0 refl in
     stand_as_shown machine_cells 16 (old.now.trees 8) xs whole (λ x. refl) (shows_each 8 _ select_machines_text _ old new _ select_machines_means ours.schema shown)
 
 pub extras_stand : (old new : State) (xs : List DnsExtra) → IsOurs old.now → Shown select_extras_text [] old new (shown_extras 1 xs) → HoldsInTree (old.now.trees 14) (placed_rows 1 xs)
 extras_stand old new xs ours shown =
     let typed = only_typed schema_1 old.now.trees extras_table (old.now.trees 14) (rules old.now ours Datatype).1.1.1.1.1.0 in
-    let whole = whole_rows _ (drop 1 extras_table.columns) (old.now.trees 14) typed (rules old.now ours NotNull).1.1.1.1.1.0 refl in
+    let whole = whole_rows (column_of (codes "place") Integer false) (drop 1 extras_table.columns) (old.now.trees 14) typed (rules old.now ours NotNull).1.1.1.1.1.0 refl in
     let placed = subst (λ rows. Shown select_extras_text [] old new rows) (sym (shown_places 1 xs)) shown in
     subst (λ rows. IsPermutation rows (old.now.trees 14)) (sym (placed_are 1 xs))
     (stand_as_shown (λ (p : ℕ × DnsExtra). extra_cells p.0 p.1) 2 (old.now.trees 14) (with_places 1 xs) whole (λ x. refl) (shows_each 14 _ select_extras_text _ old new _ select_extras_means ours.schema placed))
@@ -239,7 +240,7 @@ policy_alone (Some body) tree same = one_permutation _ _ same
 pub policy_stands : (old new : State) (policy : Option (List ℕ)) → IsOurs old.now → Shown select_policy_text [] old new (map (λ body. shown_row (policy_cells body)) (option_to_list policy)) → old.now.trees 15 ≡ policy_row policy
 policy_stands old new policy ours shown =
     let typed = only_typed schema_1 old.now.trees policy_table (old.now.trees 15) (rules old.now ours Datatype).1.1.1.1.1.1.0 in
-    let whole = whole_rows _ (drop 1 policy_table.columns) (old.now.trees 15) typed (rules old.now ours NotNull).1.1.1.1.1.1.0 refl in
+    let whole = whole_rows (column_of (codes "k") Integer false) (drop 1 policy_table.columns) (old.now.trees 15) typed (rules old.now ours NotNull).1.1.1.1.1.1.0 refl in
     policy_alone policy (old.now.trees 15) (stand_as_shown policy_cells 1 (old.now.trees 15) (option_to_list policy) whole (λ x. refl) (shows_each 15 _ select_policy_text _ old new _ select_policy_means ours.schema shown))
 
 -- ---- readings
@@ -268,8 +269,8 @@ one_more xs i x less is = take_more xs i x less ∙ ap (λ y. take i xs ++ y ∷
 
 pub read_on : {T : Type 0} (cells : T → List Cell) (Typed : T → Type 0) (rows : List Row) (i : ℕ) (row : Row) (all new : List T) → i < length rows → row ≡ get_or rows i row → AreReadSo cells Typed (take i rows) all
     → IsTaken cells Typed row all new → AreReadSo cells Typed (take (i + 1) rows) new
-read_on cells Typed rows i row all new less is so taken =
-    let f = λ x. shown_row (cells x) in
+read_on {T} cells Typed rows i row all new less is so taken =
+    let f : T → Row = λ x. shown_row (cells x) in
     record {
       shows = one_more rows i row less is ∙ ap₂ (λ l r. l ++ r ∷ []) so.shows taken.shows ∙ sym (map_last f all taken.it) ∙ ap (map f) (sym taken.added);
       readable = subst (AllByRecursion (IsReadable cells Typed)) (sym taken.added) (all_with_last _ all taken.it so.readable taken.readable);
@@ -301,3 +302,13 @@ extra_read_on rows i place row all new less is at so taken =
 -- what was read stands, and so does what was read behind it
 pub stands_then : {F : Type 0} (P : F → Type 0) (Q : Trees → Rows → Type 0) (field : Rows → F) (new base : Rows) (old mid : Database) → mid ≡ old → new ≡ base → P (field base) → Q mid.trees new → P (field new) × Q old.trees new
 stands_then P Q field new base old mid same is one two = (subst P (ap field (sym is)) one, subst (λ (d : Database). Q d.trees new) same two)
+
+pub if_some : {T : Type 0} (o : Option T) (P Q : T → Type 0) → ((x : T) → P x → Q x) → IfSome o P → IfSome o Q
+if_some None P Q f h = tt
+if_some (Some x) P Q f h = f x h
+
+-- one row is all there are
+pub alone : (rows : List Row) (row : Row) → 0 < length rows → length rows < 2 → row ≡ get_or rows 0 row → rows ≡ row ∷ []
+alone [] row some few is = absurd (omega (arith, some))
+alone (r ∷ []) row some few is = ap (λ x. x ∷ []) (sym is)
+alone (r ∷ s ∷ rows) row some few is = absurd (omega (arith, few))

@@ -3,3 +3,4 @@ pub mod Lists
 pub mod Seen
 pub mod ShownRows
 pub mod BackLemmas
+pub mod OursLemmas

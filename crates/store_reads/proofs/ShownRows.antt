@@ -1,5 +1,5 @@
 -- What the SELECTs show of the rows that a database keeps.
-use Rattle.std.proofs.Common.{◌≡◌, ◌+◌, ◌<◌, ℕ, pos, List, [], ◌∷◌, map, drop, Option, Some, None, refl, sym, ap, subst, ◌∙◌, arith, IsPermutation}
+use Rattle.std.proofs.Common.{◌≡◌, ◌+◌, ◌<◌, ℕ, List, [], ◌∷◌, map, drop, Option, Some, None, refl, ap, subst, ◌∙◌, arith, IsPermutation}
 use Rattle.std.proofs.lemmas.List.Sorted.{IsPermutation-refl}
 use Rattle.std.specs.List.{AllByRecursion}
 use Rattle.std.specs.Option.{option_to_list}
@@ -65,7 +65,7 @@ later_places : (n place : ℕ) (xs : List DnsExtra) → n < place → AllByRecur
 later_places n place [] less = tt
 later_places n place (x ∷ xs) less = (less, later_places n (place + 1) xs (omega (arith, less)))
 
-places_rise : (place : ℕ) (xs : List DnsExtra) → IsAscending (λ (a b : ℕ × DnsExtra). a.0 < b.0) (with_places place xs)
+pub places_rise : (place : ℕ) (xs : List DnsExtra) → IsAscending (λ (a b : ℕ × DnsExtra). a.0 < b.0) (with_places place xs)
 places_rise place [] = tt
 places_rise place (x ∷ xs) = (later_places place (place + 1) xs (omega arith), places_rise (place + 1) xs)
 

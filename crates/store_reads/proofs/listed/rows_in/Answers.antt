@@ -1,4 +1,5 @@
-use Rattle.std.proofs.Common.{◌≡◌, ◌<◌, ◌++◌, ◌∷◌, ◌∙◌, List, [], ap, get_or, length, map, subst, sym}
+use Rattle.std.proofs.Common.{◌<◌, ◌++◌, ◌∷◌, ◌∙◌, List, [], ap, arith, get_or, length, subst, sym}
+use Rattle.std.proofs.lemmas.List.{take_all}
 use Rattle.sqlite_value.specs.Order.{Row}
 use Rattle.store_reads.specs.Readable.{IsReadable, shown_row}
 use Rattle.store_reads.proofs.BackLemmas.{read_on}
@@ -24,3 +25,7 @@ loop-row-preserved g c = record {
       c.in-Ok.ensures.read at.it at.is at.keeps ∙ ap (λ l. l ++ at.it ∷ []) (c.loop-row.invariant.read xs shows good) ∙ sym at.next;
   back = read_on g.T.Loaded.stored g.T.Loaded.Typed c.args.rows.now c.loop-row.row-index c.row-item.result _ _ c.loop-row-test.true c.row-item.is c.loop-row.invariant.back c.in-Ok.ensures.back;
 }
+
+pub returns-clause-back : goal.returns-clause-back
+returns-clause-back g c =
+    (sym (take_all c.loop-row.row-index c.args.rows.now (omega (arith, c.loop-row-test.false))) ∙ c.loop-row.invariant.back.shows, c.loop-row.invariant.back.readable)

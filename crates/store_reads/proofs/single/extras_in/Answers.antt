@@ -32,5 +32,5 @@ pub returns : goal.returns
 returns c = record {
   read = λ xs shows good.
       c.loop-row.invariant.read xs shows good ∙ take_all c.loop-row.row-index xs (omega (arith, c.loop-row-test.false, ap (λ (l : List Row). length l) shows, shown_count 1 xs));
-  back = search rules;
+  back = (sym (take_all c.loop-row.row-index c.args.rows.now (omega (arith, c.loop-row-test.false))) ∙ c.loop-row.invariant.back.shows, c.loop-row.invariant.back.readable);
 }

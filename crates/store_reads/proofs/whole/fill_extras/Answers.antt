@@ -1,10 +1,8 @@
-use Rattle.std.proofs.Common.{◌≡◌, ◌∙◌, List, ap, refl, subst, sym}
+use Rattle.std.proofs.Common.{◌≡◌, ◌∙◌, ap, refl, subst, sym}
 use Rattle.net_rows.specs.declared.rows.Rows.{Rows}
-use Rattle.sqlite.specs.Effect.{Database}
 use Rattle.sqlite.specs.Held.{state}
 use Rattle.store_commits.proofs.KeptChange.{where_ok}
-use Rattle.store_rows.specs.Rows.{IsTypedKey, IsTypedMachine, IsTypedPending, IsTypedUser, auth_key_cells, machine_cells, pending_cells, user_cells}
-use Rattle.store_reads.specs.Back.{HoldsExtras, HoldsNext, HoldsReadable, IsOurs, PolicyStands}
+use Rattle.store_reads.specs.Back.{HoldsExtras, IsOurs, PolicyStands}
 use Rattle.store_reads.proofs.BackLemmas.{stands_then}
 use Rattle.store_reads.proofs.whole.fill_extras.Goals as goal
 
@@ -14,8 +12,8 @@ returns-clause-back g c clean ours =
     let mid = state g.S.Store c.read_extras.new.conn in
     let new : Rows = c.fill_policy.new.rows in
     let early = c.fill_policy.ensures.seen.clean clean in
-    let same : mid.now ≡ old.now = c.in_ok-read_extras.ensures.seen.same early ours.schema refl in
-    let there = c.in_ok-read_extras.ensures.back early ours in
+    let same : mid.now ≡ old.now = c.in_ok-rows.ensures.seen.same early ours.schema refl in
+    let there = c.in_ok-rows.ensures.back early ours in
     where_ok c.fill_policy.result _ _ (λ h. (
       h.0 ∙ ap (λ e. record c.args.rows.now { extras = e; policy = new.policy }) (sym (ap (λ (r : Rows). r.extras) h.0)),
       stands_then (HoldsExtras (old.now.trees 14)) PolicyStands (λ (r : Rows). r.extras) new _ old.now mid.now same h.0 there h.1,
