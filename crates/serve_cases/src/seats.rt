@@ -148,12 +148,7 @@ fn lists_both(reply: &Reply) -> bool {
 }
 
 /// Whether a seat is answered the list of both.
-fn sees_both<K: Keeper, R: Wait>(
-    rt: &R,
-    alloc: Global,
-    hub: &Hub<K>,
-    seat: &mut Seat<K>,
-) -> bool
+fn sees_both<K: Keeper, R: Wait>(rt: &R, alloc: Global, hub: &Hub<K>, seat: &mut Seat<K>) -> bool
     requires hub { seat.old.hub ≡ hub.now }
     ensures hub { seat.new.hub ≡ hub.now }
 {
