@@ -1,6 +1,6 @@
 //! The same conversations through `serve`: one listener, at which one connection comes, over tables that
 //! begin with what the seed makes.
-use io_edge::{MemoryClock, MemorySink};
+use io_edge::{MemoryClock, MemoryFiles, MemorySink};
 use memory_edge::{DoorPlan, MemoryDoors, MemoryPause};
 use net_rows::Tables;
 use row_keeper::MemoryOpener;
@@ -28,23 +28,47 @@ fn is_served_alike(talk: &Talk) -> bool {
         && plan.keep != 2
 }
 
-/// The clock's answers without the one at which the seed is handed in.
-fn answers_behind_seed(alloc: Global, answers: &[i64]) -> Result<Items<i64>, NoMemory> {
+/// The moments of a conversation: those that it names, or one.
+fn moments_of(alloc: Global, talk: &Talk) -> Result<Items<i64>, NoMemory> {
+    let mut moments = talk.moments.copy(alloc)?;
+    if moments.is_empty() {
+        moments.push(1_000_000_000)?;
+    }
+    Ok(moments)
+}
+
+/// A clock without the answer at which the seed is handed in.
+fn clock_behind_seed(alloc: Global, talk: &Talk) -> Result<MemoryClock, NoMemory> {
+    let moments = moments_of(alloc, talk)?;
     let mut others = Items::new(alloc);
-    for (place, answer) in answers.iter().enumerate() {
+    for (place, answer) in moments.as_slice().iter().enumerate() {
         // (the last one is repeated)
-        if place != 1 || answers.len() == 2 {
+        if place != 1 || moments.len() == 2 {
             others.push(*answer)?;
         }
     }
-    Ok(others)
+    Ok(MemoryClock::new(others))
 }
 
 /// The tables that the seed makes of those of a conversation.
 fn seeded(alloc: Global, talk: &Talk) -> Result<Tables, NoMemory> {
-    let clock = MemoryClock::new(talk.moments.copy(alloc)?);
+    let clock = MemoryClock::new(moments_of(alloc, talk)?);
     let tables = talk.tables.copy(alloc)?;
     Ok(piped_at(alloc, clock, tables, &talk.settings, b"", &CALM)?.tables)
+}
+
+/// An opener of these, whose keeper fails at the call of the conversation, one sooner without a seed.
+fn opener_for(alloc: Global, talk: &Talk) -> Result<MemoryOpener, NoMemory> {
+    let keeps = failing(alloc, talk.plan.keep.saturating_sub(1))?;
+    let tables = seeded(alloc, talk)?;
+    Ok(MemoryOpener::new(alloc, tables, Items::new(alloc), keeps))
+}
+
+/// The settings file of one worker.
+fn files_for(alloc: Global, talk: &Talk) -> Result<MemoryFiles, NoMemory> {
+    let mut settings = Vec::from_slice(alloc, b"workers = 1\n")?;
+    settings.extend_from_slice(&talk.settings)?;
+    files_of(alloc, &settings, 0)
 }
 
 /// A listener at which the requests of a conversation come.
@@ -59,26 +83,26 @@ fn doors_of(alloc: Global, talk: &Talk) -> Result<MemoryDoors, NoMemory> {
     MemoryDoors::new(alloc, plans, Items::new(alloc))
 }
 
+/// Whether the one connection was given back with the answers of the conversation.
+fn is_answered(doors: &MemoryDoors, talk: &Talk) -> bool {
+    match doors.finished_at(0) {
+        [(_input, output)] => output.bytes() == talk.output.as_slice(),
+        _ => false,
+    }
+}
+
 /// Whether `serve tailnet.toml` answers the conversation as `pipe` does.
 fn is_served<R: Threads + Wait + Sync>(
     rt: &R,
     alloc: Global,
-    mut talk: Talk,
+    talk: &Talk,
 ) -> Result<bool, NoMemory> {
-    if talk.moments.is_empty() {
-        talk.moments.push(1_000_000_000)?;
-    }
-    let mut settings = Vec::from_slice(alloc, b"workers = 1\n")?;
-    settings.extend_from_slice(&talk.settings)?;
-    let keeps = failing(alloc, talk.plan.keep.saturating_sub(1))?;
-    let mut opener = MemoryOpener::new(alloc, seeded(alloc, &talk)?, Items::new(alloc), keeps);
-    let mut doors = doors_of(alloc, &talk)?;
     let mut errors = MemorySink::new(alloc, Items::new(alloc));
-    let mut files = files_of(alloc, &settings, 0)?;
-    let answers = answers_behind_seed(alloc, talk.moments.as_slice())?;
-    if answers.is_empty() {
-        return Ok(false);
-    }
+    let mut files = files_for(alloc, talk)?;
+    let mut opener = opener_for(alloc, talk)?;
+    let mut clock = clock_behind_seed(alloc, talk)?;
+    let mut entropy = entropy_of(alloc, 0)?;
+    let mut doors = doors_of(alloc, talk)?;
     let status = serve_command(
         rt,
         alloc,
@@ -86,16 +110,12 @@ fn is_served<R: Threads + Wait + Sync>(
         &mut errors,
         &mut files,
         &mut opener,
-        &mut MemoryClock::new(answers),
-        &mut entropy_of(alloc, 0)?,
+        &mut clock,
+        &mut entropy,
         &mut doors,
         &MemoryPause::new(),
     );
-    let is_answered = match doors.finished_at(0) {
-        [(_input, output)] => output.bytes() == talk.output.as_slice(),
-        _ => false,
-    };
-    Ok(status == Status::Ok && errors.bytes().is_empty() && is_answered)
+    Ok(status == Status::Ok && errors.bytes().is_empty() && is_answered(&doors, talk))
 }
 
 /// The name of the first conversation of the table that `serve` doesn't hold as `pipe` does; None if it
@@ -105,9 +125,10 @@ fn first_not_served<R: Threads + Wait + Sync>(
     alloc: Global,
     table: &str,
 ) -> Result<Option<String>, NoMemory> {
-    for (name, talk) in talks_of(alloc, table)? {
-        if is_served_alike(&talk) && !is_served(rt, alloc, talk)? {
-            return Ok(Some(name));
+    let talks = talks_of(alloc, table)?;
+    for (name, talk) in talks.iter() {
+        if is_served_alike(talk) && !is_served(rt, alloc, talk)? {
+            return Ok(Some(String::from_str(alloc, name)?));
         }
     }
     Ok(None)

@@ -79,7 +79,6 @@ pub(crate) fn seat_workers<R: Wait, K: Keeper, D: Door, C: Clock, N: Entropy>(
 }
 
 /// Each worker serves its door, in a thread of its own.
-#[tactic(auto, using(crate::proofs::FrontSync::front_sync))]
 fn work_all<
     R: Threads + Wait + Sync,
     K: Keeper + Send,

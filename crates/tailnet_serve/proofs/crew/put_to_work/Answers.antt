@@ -5,7 +5,7 @@ use Rattle.tailnet_serve.specs.Works.{IsWorked, standing}
 use Rattle.tailnet_serve.proofs.crew.put_to_work.Goals as goal
 
 pub work_all-requires-clause-threads : goal.work_all-requires-clause-threads
-work_all-requires-clause-threads g c = rw (sym c.as_mut_slice.ensures.value) at c.requires.threads
+work_all-requires-clause-threads g c = λ κs lives. rw (sym c.as_mut_slice.ensures.value) at c.requires.threads
 
 pub work_all-requires-clause-ready : goal.work_all-requires-clause-ready
 work_all-requires-clause-ready g c = λ κs lives. rw (sym c.as_mut_slice.ensures.value) at c.requires.ready

@@ -45,7 +45,7 @@ returns-clause-manned g c = λ told start opened split.
     manned g.D.Door.coming g.D.Door.finished g.D.Door.number g.D.Door.faults g.C.Clock.answer g.N.Entropy.word g.N.Entropy.faults
     c.args.front.now c.args.limits.now told start c.args.hub c.args.first left.new.first vs ws _ c.requires.first
     left.result.failed left.result.starved _ _ _ _ (seated_length _ _ _ _ c.seat_workers-workers.ensures.seated)
-    (set_up g.D.Door.coming g.D.Door.finished g.D.Door.number g.D.Door.faults g.C.Clock.answer g.N.Entropy.word g.N.Entropy.faults c.args.front.now c.args.limits.now told start c.args.first _ 0 _ _ vs c.seat_workers-workers.ensures.seated opened split)
+    (set_up g.D.Door.coming g.D.Door.finished g.D.Door.number g.D.Door.faults g.C.Clock.answer g.N.Entropy.word g.N.Entropy.faults c.args.front.now c.args.limits.now told start c.args.first (ap (λ (z : SeatView). z.seen) c.requires.first) 0 _ _ vs c.seat_workers-workers.ensures.seated opened split)
     (both_of _ vs ws c.put_to_work-workers.ensures.same c.put_to_work-workers.ensures.worked)
     (subst (λ (z : SeatView). AreJoined z (map (λ w. w.seat) ws) left.new.first) c.seat_workers-workers.ensures.same left.ensures.joined)
     c.close.ensures.stands
