@@ -57,7 +57,8 @@ begins_some front rest some = omega (arith, some, length-append front rest)
 
 sent_some : (method path line body : List ℕ) → 0 < length method → 0 < length (message method path line body)
 unfolding message
-sent_some method path line body some = begins_some method _ some
+sent_some method path line body some =
+    begins_some _ _ (begins_some _ _ (begins_some _ _ (begins_some _ _ (begins_some _ _ (begins_some _ _ (begins_some _ _ (begins_some method _ some)))))))
 
 post_some : 0 < length (codes "POST")
 post_some = omega arith
