@@ -74,10 +74,10 @@ told_words f g (t ∷ ts) h p =
 
 -- a connection that held one message, and ended as it should
 pub served : {S : Type 0} (turn : S → Event → Reply → S → Type 0) (site : FrontSettings) (message : List ℕ) (moment : ℤ) (before now : ℕ) (answer : Option (List ℕ)) (old new : Told) (s t : S)
-    → 0 < length message → old.left ≡ Some message → old.giving.held ≡ Some [] → new.giving.held ≡ answer → new.giving.word_faults ≡ 0
+    → IsConnection turn site 0 End 1 [] old new s t → 0 < length message → old.left ≡ Some message → old.giving.held ≡ Some [] → new.giving.held ≡ answer → new.giving.word_faults ≡ 0
     → ((k : ℕ) → old.giving.answers k ≡ outside.still moment k) → ((k : ℕ) → old.giving.words k ≡ outside.counted before k) → ((k : ℕ) → new.giving.words k ≡ outside.counted now k)
-    → IsConnection turn site 0 End 1 [] old new s t → IsServed turn site message moment before now answer s t
-served turn site message moment before now answer old new s t some left empty held sure clock words words_after serves =
+    → IsServed turn site message moment before now answer s t
+served turn site message moment before now answer old new s t serves some left empty held sure clock words words_after =
     let one = one_exchange site message serves.read serves.rest serves.extra serves.written old new serves.exchanges some (sym left ∙ serves.from_source) serves.bytes_read serves.each serves.ending in
     let turns_are : turns_of serves.exchanges ≡ one.exchange.turns = ap turns_of one.only ∙ append-nil one.exchange.turns in
     let took = serves.took in

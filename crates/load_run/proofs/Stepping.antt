@@ -1,6 +1,7 @@
 -- Requests, one after the other.
-use Rattle.std.proofs.Common.{◌≡◌, ◌+◌, ◌-◌, ◌<◌, ◌≤◌, ◌++◌, ℕ, ℤ, inl, inr, Bool, true, false, cond, Option, None, Some, List, [], ◌∷◌, length, refl, ap, sym, ◌∙◌, subst, arith, codes}
+use Rattle.std.proofs.Common.{◌≡◌, ◌+◌, ◌-◌, ◌<◌, ◌≤◌, ◌++◌, ℕ, ℤ, inl, inr, Bool, true, false, cond, Option, None, Some, List, [], ◌∷◌, length, length-append, refl, ap, sym, ◌∙◌, subst, arith, codes}
 use Rattle.std.specs.Prelude.{nat_eq, ◌||◌}
+use Rattle.std.specs.Fmt.{digits}
 use Rattle.std.specs.List.{flat_map, starts_with}
 use Rattle.std.proofs.lemmas.List.{append-nil}
 use Rattle.http_front.specs.AnswerBytes.{answer}
@@ -21,7 +22,7 @@ use Rattle.load_run.specs.declared.task.TaskKind.TheVariants as kind
 
 -- an answer of want of memory is seen by its status
 busy_seen : (body : List ℕ) (close : Bool) → is_starved (answer 503 body close) ≡ true
-unfolding answer
+unfolding answer digits
 busy_seen body close = refl
 
 or_true : (b : Bool) → (b || true) ≡ true
@@ -51,18 +52,28 @@ pub steps_chain : (plan : LoadPlan) (site : FrontSettings) (s : Stand) (xs : Lis
 steps_chain plan site s [] t e = ap (λ (a : Stand). a.point) e
 steps_chain plan site s (x ∷ xs) t (u, step, rest) = Chain-append IsTurn s.point x.turns (turns_of xs) u.point t.point step.chain (steps_chain plan site u xs t rest)
 
-some_more : (b : ℕ) (bs : List ℕ) → 0 < length (b ∷ bs)
-some_more b bs = omega arith
+begins_some : (front rest : List ℕ) → 0 < length front → 0 < length (front ++ rest)
+begins_some front rest some = omega (arith, some, length-append front rest)
+
+sent_some : (method path line body : List ℕ) → 0 < length method → 0 < length (message method path line body)
+unfolding message
+sent_some method path line body some =
+    begins_some _ _ (begins_some _ _ (begins_some _ _ (begins_some _ _ (begins_some _ _ (begins_some _ _ (begins_some _ _ (begins_some method _ some)))))))
+
+post_some : 0 < length (codes "POST")
+post_some = omega arith
+
+put_some : 0 < length (codes "PUT")
+put_some = omega arith
 
 kind_some : (machine : ℕ) (k : TaskKind) (known : MachineMemory) → 0 < length (kind_message machine k known)
-unfolding message
-kind_some machine kind.Register known = some_more _ _
-kind_some machine (kind.Point last) known = some_more _ _
-kind_some machine kind.Poll known = some_more _ _
-kind_some machine (kind.Save chosen) known = some_more _ _
-kind_some machine (kind.Announce second) known = some_more _ _
-kind_some machine kind.Approve known = some_more _ _
-kind_some machine (kind.Rename number) known = some_more _ _
+kind_some machine kind.Register known = sent_some (codes "POST") _ _ _ post_some
+kind_some machine (kind.Point last) known = sent_some (codes "POST") _ _ _ post_some
+kind_some machine kind.Poll known = sent_some (codes "POST") _ _ _ post_some
+kind_some machine (kind.Save choice) known = sent_some (codes "PUT") _ _ _ put_some
+kind_some machine (kind.Announce second) known = sent_some (codes "POST") _ _ _ post_some
+kind_some machine kind.Approve known = sent_some (codes "POST") _ _ _ post_some
+kind_some machine (kind.Rename number) known = sent_some (codes "POST") _ _ _ post_some
 
 -- a request has bytes
 pub message_some : (task : Task) (known : MachineMemory) → 0 < length (task_message task known)

@@ -2,10 +2,12 @@
 use Rattle.std.proofs.Common.{◌≡◌, ◌+◌, ℕ, ℤ, Bool, true, false, Option, Some, List, [], ◌∷◌, refl, ap, sym, ◌∙◌, subst}
 use Rattle.desk_front.specs.declared.front_settings.FrontSettings.{FrontSettings}
 use Rattle.tailnet_desk.specs.Seated.{Point}
+use Rattle.connections.specs.Tellings.{MomentsTold}
 use Rattle.load_run.specs.Counting.{counted, is_starved}
 use Rattle.load_run.specs.Hearing.{hear_turns}
 use Rattle.load_run.specs.Knowing.{with_known}
 use Rattle.load_run.specs.Messages.{task_message}
+use Rattle.load_run.specs.Outside as outside
 use Rattle.load_run.specs.Running.{IsNextRequest, IsTaken, Taking}
 use Rattle.load_run.specs.Served.{IsServed}
 use Rattle.load_run.specs.Steps.{Begins, Stand, known_after, next_heard, next_known, next_task}
@@ -22,12 +24,13 @@ abbrev pub watched_in : Taking → Watched
 watched_in t = record { point = t.point; heard = t.heard }
 
 -- a request that was served, and to which memory wasn't refused
-pub taken : (site : FrontSettings) (message : List ℕ) (moment : ℤ) (old new : Taking) (bytes : List ℕ) → IsServed IsWatchedTurn site message moment old.words new.words (Some bytes) (watched_in old) (watched_in new)
+pub taken : (site : FrontSettings) (message : List ℕ) (moment : ℤ) (old new : Taking) (bytes : List ℕ) (stated : ℤ) (held : Option (List ℕ)) → stated ≡ moment → held ≡ Some bytes
+    → IsServed IsWatchedTurn site message stated old.words new.words held (watched_in old) (watched_in new)
     → new.heard.starved ≡ false → is_starved bytes ≡ false → new.counts ≡ counted old.counts bytes → new.counts.ok + new.counts.refused ≡ old.counts.ok + old.counts.refused + 1
     → IsTaken site message moment old new
-taken site message moment old new bytes served fed answered counts sum =
+taken site message moment old new bytes stated held at_moment holds served fed answered counts sum =
     let x = served.exchange in
-    let told : Some bytes ≡ Some x.bytes = served.answer_is in
+    let told : Some bytes ≡ Some x.bytes = sym holds ∙ served.answer_is in
     let same : bytes ≡ x.bytes = cc in
     record {
       exchange = x;
@@ -35,7 +38,7 @@ taken site message moment old new bytes served fed answered counts sum =
       answered = answered_of site x served.is (ap is_starved (sym same) ∙ answered);
       unbroken = served.unbroken;
       memory = turns_fed (watched_in old) x.turns (watched_in new) served.chain fed;
-      moments = served.moments;
+      moments = subst (λ (m : ℤ). MomentsTold (outside.still m) x.turns) at_moment served.moments;
       words = served.words;
       all_drawn = served.all_drawn;
       words_on = served.words_on;

@@ -1,5 +1,5 @@
 -- One request as a connection of its own.
-use Rattle.std.specs.Prelude.{◌≡◌, ℕ, ℤ, true, Option, Some, List}
+use Rattle.std.specs.Prelude.{◌≡◌, ℕ, ℤ, true, false, Option, Some, List}
 use Rattle.desk_front.specs.declared.front_settings.FrontSettings.{FrontSettings}
 use Rattle.tailnet_desk.specs.Chains.{Chain}
 use Rattle.tailnet_desk.specs.declared.entry.Event.{Event}

@@ -108,7 +108,9 @@ fn finish(
     ensures text { IfOk result (IsLoadText plan.now) }
     ensures early { IsErrOf result Stopped.Early → IsLoadEarly plan.now }
 {
-    run.serve_all(alloc, front, plan)?;
+    if let Err(stopped) = run.serve_all(alloc, front, plan) {
+        return Err(stopped);
+    }
     match report(alloc, plan, &run.counts, run.watched.heard.frames) {
         Ok(text) => Ok(text),
         Err(NoMemory) => Err(Stopped::NoMemory),

@@ -117,7 +117,7 @@ impl<K: Keeper> Run<K> {
         ensures source { self.new.source ≡ self.old.source }
     {
         let mut answer = MemorySink::new(alloc, Items::new(alloc));
-        serve_message(
+        if let Err(stopped) = serve_message(
             alloc,
             front,
             &mut self.watched,
@@ -125,11 +125,14 @@ impl<K: Keeper> Run<K> {
             message,
             seconds,
             &mut answer,
-        )?;
-        if self.watched.heard.starved || is_starved(answer.bytes()) {
+        ) {
+            return Err(stopped);
+        }
+        let bytes = answer.bytes();
+        if self.watched.heard.starved || is_starved(bytes) {
             return Err(Stopped::NoMemory);
         }
-        self.counts.count(answer.bytes());
+        self.counts.count(bytes);
         Ok(())
     }
 
@@ -190,7 +193,10 @@ impl<K: Keeper> Run<K> {
         let Ok(()) = self.listen(alloc, task.machine) else {
             return Err(Stopped::NoMemory);
         };
-        self.serve_task(alloc, front, &message, moment_at(plan, number))?;
+        let seconds = moment_at(plan, number);
+        if let Err(stopped) = self.serve_task(alloc, front, &message, seconds) {
+            return Err(stopped);
+        }
         let Ok(()) = self.learn(alloc, &task) else {
             return Err(Stopped::NoMemory);
         };
@@ -217,7 +223,9 @@ impl<K: Keeper> Run<K> {
         let count = request_count(plan);
         let mut number = 0;
         while number < count {
-            self.serve_next(alloc, front, plan, number)?;
+            if let Err(stopped) = self.serve_next(alloc, front, plan, number) {
+                return Err(stopped);
+            }
             number += 1;
         }
         Ok(())
