@@ -12,6 +12,7 @@ use Rattle.row_keeper.specs.declared.keeper.LoadFault.TheVariants.{Failed, Damag
 use Rattle.sqlite.specs.Effect.{Database}
 use Rattle.sqlite.specs.State.{HasCleanDisk, IsLive, State}
 use Rattle.store_commits.specs.Kept.{AreStored, Keeps}
+use Rattle.store_commits.specs.Pending.{IsSettled, Leaves}
 use Rattle.store_reads.specs.Back.{IsOurs}
 use Rattle.store_reads.specs.Readable.{AreReadable, IsOutside}
 use Rattle.store_reads.specs.Seen.{IsSeen}
@@ -34,12 +35,13 @@ pub still_same : {A : Type 0} (a b : Option A) → b ≡ a → StillTells a b
 still_same a b e = still a b (λ x h. sym e ∙ h)
 
 -- a reading leaves what was told
-pub still_seen : (mid new : State) (done : Bool) → IsSeen schema_1 mid new done → mid.now.schema ≡ schema_1 → IsAtRest mid → StillTells (told mid) (told new)
+pub still_seen : (mid new : State) (done : Bool) → IsSeen schema_1 mid new done → mid.now.schema ≡ schema_1 → (HasCleanDisk mid → IsAtRest mid) → StillTells (told mid) (told new)
 still_seen mid new done seen has rest = still (told mid) (told new) (λ x h.
     let there = told_is new x h in
     let stays = seen.stays there.clean has there.opened in
-    let same : new.now ≡ mid.now = elim stays.shows [ inl now ↦ now | inr back ↦ back ∙ sym (rest stays.was_open) ] in
-    same_told mid new x (seen.clean there.clean) stays.was_open same h)
+    let clean = seen.clean there.clean in
+    let same : new.now ≡ mid.now = elim stays.shows [ inl now ↦ now | inr back ↦ back ∙ sym (rest clean stays.was_open) ] in
+    same_told mid new x clean stays.was_open same h)
 
 holds_first : (db : Database) → Keeps db empty_rows → Holds db empty_rows
 holds_first db keeps = record { keeps = keeps; readable = empty_readable; sound = damage-empty }
@@ -92,3 +94,29 @@ none_damaged old new e still whole first kind id is = go (told new) refl
         let was : told old ≡ Some x = subst (StillTells (told old)) h still in
         let clean = (told_is new x h).clean in
         elim (told_is old x was).stands [ inl holds ↦ absurd (outside (λ c. whole x c holds) clean) | inr none ↦ absurd (outside (λ c. first c none.0) clean) ]
+
+-- ---- a first load
+
+-- what a look at an empty database leaves
+pub first_seen : (old new : State) (done : Bool) → IsSeen no_schema old new done → IsAtRest old → old.now.schema ≡ no_schema → HasCleanDisk new → IsTrue new.is_open → IsFirst old new
+first_seen old new done seen rest none clean opened =
+    let stays = seen.stays clean none opened in
+    let same : new.now ≡ old.now = elim stays.shows [ inl now ↦ now | inr back ↦ back ∙ sym (rest stays.was_open) ] in
+    record { was_open = stays.was_open; shows = inl (ap (λ (d : Database). d.schema) same ∙ none) }
+
+-- what the making of tables behind it leaves
+pub first_made : {X E : Type 0} (old mid new : State) (r : Result X E) → IsSeen no_schema old mid true → old.now.schema ≡ no_schema → HasCleanDisk mid → IsTrue mid.is_open → IsTrue new.is_open
+    → (mid.now.schema ≡ no_schema → OnOk r (Keeps new.now empty_rows)) → OnErr r (Leaves mid new) → IsFirst old new
+first_made old mid new (Ok x) seen none clean opened open_now made err =
+    let same = seen.same clean none refl in
+    record { was_open = (seen.stays clean none opened).was_open; shows = inr (made (ap (λ (d : Database). d.schema) same ∙ none)) }
+first_made old mid new (Err e) seen none clean opened open_now made err =
+    let same = err open_now ∙ seen.same clean none refl in
+    record { was_open = (seen.stays clean none opened).was_open; shows = inl (ap (λ (d : Database). d.schema) same ∙ none) }
+
+pub on_ok : {X E : Type 0} (r : Result X E) (P : Type 0) → P → OnOk r P
+on_ok (Ok x) P h = h
+on_ok (Err e) P h = tt
+
+pub rests : (s : State) → IsSettled s → IsAtRest s
+rests s settled = λ _. settled.committed

@@ -81,7 +81,7 @@ row_again cells (id ∷ key ∷ rest) ours some e = go (is_null key) refl e
         (ap (λ k. id ∷ k ∷ rest) (null_is key null) ∙ ap with_key kept.0 ∙ keyed cells, kept.1)
     go false other same = absurd (some same)
 
-some_is : {X : Type 0} {a b : X} → ◌≡◌ {A = Option X} (Some a) (Some b) → a ≡ b
+pub some_is : {X : Type 0} {a b : X} → ◌≡◌ {A = Option X} (Some a) (Some b) → a ≡ b
 some_is e = cc
 
 module _ {T : Type 0} (cells : T → List Cell) (Typed : T → Type 0) (read : List Cell → Option T) (reads : Reads cells Typed read) (ours : (x : T) → AllByRecursion IsOfOurs (cells x)) (some : (x : T) → cells x ≡ [] → ⊥) where
@@ -100,16 +100,17 @@ module _ {T : Type 0} (cells : T → List Cell) (Typed : T → Type 0) (read : L
 
   pub values_are : (rows : List Row) (xs : List T) → values_in read rows ≡ Some xs → (rows ≡ map (λ x. tree_row (cells x)) xs) × AllByRecursion (IsReadable cells Typed) xs
   values_are [] xs h = let e : [] ≡ xs = some_is h in subst (λ ys. ([] ≡ map (λ x. tree_row (cells x)) ys) × AllByRecursion (IsReadable cells Typed) ys) e (refl, tt)
-  values_are (row ∷ rows) xs h = go (read (tree_cells row)) (values_in read rows) refl refl h
+  values_are (row ∷ rows) xs h = go (read (tree_cells row)) (values_in read rows) refl refl h (values_are rows)
     where
       go : (o : Option T) (os : Option (List T)) → read (tree_cells row) ≡ o → values_in read rows ≡ os → option_and_then (λ x. option_map (λ ys. x ∷ ys) os) o ≡ Some xs
+          → ((ys : List T) → values_in read rows ≡ Some ys → (rows ≡ map (λ x. tree_row (cells x)) ys) × AllByRecursion (IsReadable cells Typed) ys)
           → ((row ∷ rows) ≡ map (λ x. tree_row (cells x)) xs) × AllByRecursion (IsReadable cells Typed) xs
-      go None os p q e = absurd (cc (e))
-      go (Some y) None p q e = absurd (cc (e))
-      go (Some y) (Some ys) p q e =
+      go None os p q e more = absurd (cc (e))
+      go (Some y) None p q e more = absurd (cc (e))
+      go (Some y) (Some ys) p q e more =
           let one = value_is row y p in
-          let more = values_are rows ys q in
-          subst (λ (zs : List T). ((row ∷ rows) ≡ map (λ x. tree_row (cells x)) zs) × AllByRecursion (IsReadable cells Typed) zs) (some_is e) (ap₂ ◌∷◌ one.0 more.0, (one.1, more.1))
+          let others = more ys q in
+          subst (λ (zs : List T). ((row ∷ rows) ≡ map (λ x. tree_row (cells x)) zs) × AllByRecursion (IsReadable cells Typed) zs) (some_is e) (ap₂ ◌∷◌ one.0 others.0, (one.1, others.1))
 
   pub values_again : (xs : List T) → AllByRecursion (IsReadable cells Typed) xs → values_in read (map (λ x. tree_row (cells x)) xs) ≡ Some xs
   values_again [] good = refl
@@ -122,9 +123,6 @@ rowid_cmp a b = value_cmp (rowid a) (rowid b)
 
 rowids_total : IsTotalOrder rowid_cmp
 rowids_total = on_total rowid value_cmp_total
-
-apart_from : (o : Ordering) → o ≡ Less → is_eq o ≡ false
-apart_from o e = ap is_eq e
 
 all_apart : (row : Row) (rows : List Row) → AllByRecursion (λ b. rowid_cmp row b ≡ Less) rows → AllByRecursion (λ b. is_eq (rowid_cmp row b) ≡ false) rows
 all_apart row [] h = tt
@@ -152,16 +150,18 @@ next_after : (rows : List Row) → IsAscending (λ a b. rowid_cmp a b ≡ Less) 
 next_after [] up k d less = absurd (omega (arith, less))
 next_after (r ∷ []) up k d less = absurd (omega (arith, less))
 next_after (r ∷ s ∷ rs) up zero d less = up.0.0
-next_after (r ∷ s ∷ rs) up (suc k) d less = next_after (s ∷ rs) up.1 k d (omega (arith, less))
+next_after (r ∷ s ∷ rs) up (suc k) d less =
+    let on : suc (k + 1) ≡ suc k + 1 = omega arith in
+    subst (λ n. rowid_cmp (get_or (s ∷ rs) k d) (get_or (r ∷ s ∷ rs) n d) ≡ Less) on (next_after (s ∷ rs) up.1 k d (omega (arith, less)))
 
 in_sequence : (rows : List Row) → IsAscending (λ a b. rowid_cmp a b ≡ Less) rows → IsSorted rowid_cmp rows
 in_sequence rows up = λ k d low high.
-    ap is_lt (rowids_total.antisymm (get_or rows k d) (get_or rows (k + 1) d)) ∙ turned_lt _ (next_after rows up k d high)
+    ap is_lt (rowids_total.antisymm (get_or rows (k + 1) d) (get_or rows k d)) ∙ turned_lt _ (next_after rows up k d high)
 
 -- rows whose ids rise are those that stand in some order
 pub in_order_is : (rows tree : List Row) → IsAscending (λ a b. rowid_cmp a b ≡ Less) rows → IsPermutation rows tree → in_order tree ≡ rows
 in_order_is rows tree up same =
-    let apart = IsDistinct-IsPermutation (λ a b. is_eq (rowid_cmp a b)) (λ a b. ap is_eq (rowids_total.antisymm b a) ∙ turned_eq (rowid_cmp b a)) rows tree same (distinct rows up) in
+    let apart = IsDistinct-IsPermutation (λ a b. is_eq (rowid_cmp a b)) (λ a b. ap is_eq (rowids_total.antisymm a b) ∙ turned_eq (rowid_cmp b a)) rows tree same (distinct rows up) in
     sym (sorted_is-sort_by rowid_cmp rowids_total tree rows (no_ties tree apart) (IsPermutation-sym rows tree same) (in_sequence rows up))
 
 below_less : (a b : ℕ) → a < b → int_cmp (pos a) (pos b) ≡ Less

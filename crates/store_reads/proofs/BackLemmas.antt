@@ -135,7 +135,7 @@ last_there at (c ∷ d ∷ cs) row some h closed =
     let there : at + 1 + length (d ∷ cs) ≡ at + length (c ∷ d ∷ cs) = omega arith in
     subst (λ n. is_null (column row n) ≡ false) there more
 
-null_is : (v : Value) → is_null v ≡ true → v ≡ Null
+pub null_is : (v : Value) → is_null v ≡ true → v ≡ Null
 null_is Null h = refl
 null_is (Int n) h = absurd (true≢false (sym h))
 null_is (Real x) h = absurd (true≢false (sym h))
