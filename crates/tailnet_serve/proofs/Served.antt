@@ -1,5 +1,5 @@
 -- A run of `serve` over settings.
-use Rattle.std.proofs.Common.{◌≡◌, ◌≤◌, ℕ, ℤ, Bool, Option, None, Some, List, [], ◌∷◌, map, refl, sym, ap, ◌∙◌, subst, arith, inl, inr}
+use Rattle.std.proofs.Common.{◌≡◌, ◌≤◌, ℕ, ℤ, Bool, Option, None, Some, List, map, refl, sym, ap, ◌∙◌, subst, arith, inl, inr}
 use Rattle.std.specs.Prelude.{IfSome}
 use Rattle.io_edge.specs.Door.{IsToldOfEach, Opening}
 use Rattle.io_edge.specs.Edge.{IsWhereTold, Rose, StillTells}

@@ -1,5 +1,5 @@
 -- One worker more was joined.
-use Rattle.std.proofs.Common.{◌∙◌, ◌≡◌, ◌||◌, ◌++◌, ◌∷◌, [], Bool, true, false, ap, arith, length, map, refl, rules, append_assoc}
+use Rattle.std.proofs.Common.{◌∙◌, ◌≡◌, ◌||◌, ◌++◌, ◌∷◌, [], Bool, true, false, ap, arith, length, map, refl, append_assoc}
 use Rattle.tailnet_serve.specs.Crews.{has_any_starved, is_any_failed, is_door_fault}
 use Rattle.std.specs.Vec.Iter.{into_iter_items}
 use Rattle.tailnet_serve.proofs.Sharing.{all_tail, nil_of}

@@ -1,5 +1,5 @@
 -- What each worker did stands at its place in the vector.
-use Rattle.std.proofs.Common.{◌∙◌, ◌≡◌, ap, length, slice_index_or, subst, sym}
+use Rattle.std.proofs.Common.{◌∙◌, ap, length, slice_index_or, subst, sym}
 use Rattle.std.proofs.lemmas.List.{with_items_is}
 use Rattle.tailnet_serve.specs.Works.{IsWorked, standing}
 use Rattle.tailnet_serve.proofs.crew.put_to_work.Goals as goal

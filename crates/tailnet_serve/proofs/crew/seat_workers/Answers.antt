@@ -1,6 +1,6 @@
 -- One worker more is seated.
 use Rattle.std.specs.Vec.Iter.{into_iter_items}
-use Rattle.std.proofs.Common.{◌∙◌, ◌≡◌, ◌∷◌, ◌++◌, [], ap, arith, length, refl, sym, subst, append_assoc}
+use Rattle.std.proofs.Common.{◌∙◌, ◌≡◌, ◌∷◌, ◌++◌, [], ap, arith, length, sym, subst, append_assoc}
 use Rattle.std.proofs.lemmas.List.{append-nil}
 use Rattle.session_hub.specs.Seats.{IsSplit, SeatView}
 use Rattle.tailnet_serve.specs.Crews.{AreSeated}

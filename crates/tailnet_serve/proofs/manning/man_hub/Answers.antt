@@ -1,5 +1,5 @@
 -- The workers of a hub have stopped: what they did is one history that they share.
-use Rattle.std.proofs.Common.{◌∙◌, ◌≡◌, ap, arith, length, map, subst}
+use Rattle.std.proofs.Common.{◌∙◌, ap, arith, map, subst}
 use Rattle.session_hub.specs.Seats.{SeatView}
 use Rattle.tailnet_serve.specs.Crews.{AreJoined}
 use Rattle.tailnet_serve.specs.Works.{door_told}
