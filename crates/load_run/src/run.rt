@@ -177,6 +177,7 @@ impl<K: Keeper> Run<K> {
         number: u64,
     ) -> Result<(), Stopped>
         requires machines { 0 < plan.now.machines }
+        requires few { tasks.request_count plan.now < 2 ^ 63 }
         requires within { number < tasks.request_count plan.now }
         requires ready { IsReady plan.now number self.old }
         ensures next { OnOk result (IsNextRequest plan.now front.now

@@ -1,5 +1,5 @@
 //! What each request of a load asks.
-ghost use Rattle.std.specs.Prelude.{◌≡◌, ◌<◌, ◌≤◌, ◌+◌, ◌*◌, ◌&&◌, nat_le, nat_lt};
+ghost use Rattle.std.specs.Prelude.{◌≡◌, ◌<◌, ◌≤◌, ◌+◌, ◌*◌, ◌^◌, ◌&&◌, nat_le, nat_lt};
 ghost use Rattle.load_run.specs.Tasks as spec;
 
 use crate::draws::{next_source, number_drawn};
@@ -53,6 +53,7 @@ pub struct Task {
 /// How many requests a load has.
 pub(crate) fn request_count(plan: &LoadPlan) -> u64
     ensures value { result ≡ spec.request_count plan.now }
+    ensures few { result < 2 ^ 63 }
 {
     2 * u64::from(plan.machines) + u64::from(plan.events)
 }
