@@ -1,5 +1,5 @@
 -- Readable rows stay readable where a readable change leaves sound ones.
-use Rattle.std.proofs.Common.{◌≡◌, ◌⊎◌, Bool, true, false, cond, not, List, [], ◌∷◌, ℕ, nat_eq, nat_lt, Option, Some, None, Ok, Err, Result, IfSome, IsTrue, OnErr, OnOk, filter, inl, inr, refl, sym, ap, subst, ◌∙◌}
+use Rattle.std.proofs.Common.{◌≡◌, Bool, true, false, cond, not, List, [], ◌∷◌, ℕ, nat_eq, nat_lt, None, IfSome, IsTrue, filter, refl, sym, ap, subst, ◌∙◌}
 use Rattle.std.specs.Prelude.{Contains}
 use Rattle.std.specs.List.{AllByRecursion}
 use Rattle.std.specs.Option.{option_map}
@@ -7,12 +7,11 @@ use Rattle.std.specs.Str.{is_utf8}
 use Rattle.std.specs.Bool.{beq}
 use Rattle.std.proofs.lemmas.Bool.{and_parts}
 use Rattle.io_edge.specs.Edge.{StillTells}
-use Rattle.net_addr.specs.Bits.{Address}
-use Rattle.net_addr.specs.Blocks.{holds, last_of}
+use Rattle.net_addr.specs.Blocks.{holds}
 use Rattle.net_addr.specs.Tailnet.{tailnet_v4, tailnet_v6}
 use Rattle.net_rows.specs.Damage.{damage}
-use Rattle.net_rows.specs.Rows.{after, empty_rows, put, put_all, take_all_out, take_out}
-use Rattle.net_rows.specs.Shelf.{put_row, without}
+use Rattle.net_rows.specs.Rows.{after, put, put_all, take_all_out, take_out}
+use Rattle.net_rows.specs.Shelf.{put_row}
 use Rattle.net_rows.specs.declared.change.Change.{Change}
 use Rattle.net_rows.specs.declared.change.Row.{Row}
 use Rattle.net_rows.specs.declared.change.Row.TheVariants as row
@@ -31,8 +30,7 @@ use Rattle.store_rows.specs.Rows.{IsTypedCounters, IsTypedKey, IsTypedMachine, I
 use Rattle.keeper_sqlite.specs.Tells.{Holds, IsKnown}
 use Rattle.keeper_sqlite.specs.Told.{told}
 use Rattle.keeper_sqlite.proofs.Loading.{still}
-use Rattle.keeper_sqlite.proofs.TellTrees.{some_is}
-use Rattle.keeper_sqlite.proofs.Telling.{Tells, holds_told, same_told, told_is}
+use Rattle.keeper_sqlite.proofs.Telling.{holds_told, same_told, told_is}
 
 -- what holds of all rows but the families of addresses
 record AreWritten (rows : Rows) : Type 0 where

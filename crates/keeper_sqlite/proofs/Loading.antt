@@ -1,14 +1,14 @@
 -- What a load leaves told.
-use Rattle.std.proofs.Common.{◌≡◌, ◌⊎◌, inl, inr, Bool, true, false, Option, Some, None, Ok, Err, Result, IfOk, IfErr, IfSome, IsTrue, OnErr, OnOk, ℕ, refl, sym, ap, subst, ◌∙◌}
-use Rattle.std.specs.Option.{option_map}
+use Rattle.std.proofs.Common.{◌≡◌, ◌⊎◌, inl, inr, Bool, true, false, Option, Some, None, Ok, Err, Result, IfOk, IfErr, IsTrue, OnErr, OnOk, ℕ, refl, sym, ap, subst, ◌∙◌}
 use Rattle.io_edge.specs.Edge.{StillTells, IsWhereTold}
 use Rattle.net_rows.specs.Damage.{damage}
 use Rattle.net_rows.specs.Rows.{empty_rows}
 use Rattle.net_rows.specs.declared.change.Kind.{Kind}
+use Rattle.net_rows.specs.Held.{Held}
 use Rattle.net_rows.specs.declared.rows.Rows.{Rows}
 use Rattle.net_rows.proofs.Empty.{damage-empty}
 use Rattle.row_keeper.specs.declared.keeper.LoadFault.{LoadFault}
-use Rattle.row_keeper.specs.declared.keeper.LoadFault.TheVariants.{Failed, Damaged, NoMemory}
+use Rattle.row_keeper.specs.declared.keeper.LoadFault.TheVariants.{Damaged}
 use Rattle.sqlite.specs.Effect.{Database}
 use Rattle.sqlite.specs.State.{HasCleanDisk, IsLive, State}
 use Rattle.store_commits.specs.Kept.{AreStored, Keeps}
@@ -21,7 +21,7 @@ use Rattle.keeper_sqlite.specs.Tells.{Holds, IsAtRest, IsFirst, IsKnown}
 use Rattle.keeper_sqlite.specs.Told.{is_schema, told}
 use Rattle.keeper_sqlite.proofs.Firsts.{empty_readable}
 use Rattle.keeper_sqlite.proofs.TellTrees.{is_itself, schema_is, some_is}
-use Rattle.keeper_sqlite.proofs.Telling.{Tells, by_id_of, holds_told, none_told, same_told, told_is}
+use Rattle.keeper_sqlite.proofs.Telling.{by_id_of, holds_told, none_told, same_told, told_is}
 
 pub still : {A : Type 0} (a b : Option A) → ((x : A) → b ≡ Some x → a ≡ Some x) → StillTells a b
 still a None f = tt
@@ -120,3 +120,18 @@ on_ok (Err e) P h = tt
 
 pub rests : (s : State) → IsSettled s → IsAtRest s
 rests s settled = λ _. settled.committed
+
+-- ---- answers
+
+pub read_tells : (new : State) (r : Result Held LoadFault) → (HasCleanDisk new → IfOk r (λ t. IsTrue new.is_open → Holds new.now t.rows)) → IfOk r (λ t. IsWhereTold t.rows (told new))
+read_tells new (Ok t) known = tells_read new t.rows known
+read_tells new (Err e) known = tt
+
+pub read_knows : (new : State) (r : Result Held LoadFault) → (HasCleanDisk new → IfOk r (λ t. IsTrue new.is_open → Holds new.now t.rows)) → OnOk r (IsKnown new)
+read_knows new (Ok t) known = λ clean opened. (t.rows, known clean opened)
+read_knows new (Err e) known = tt
+
+pub read_damaged : (old new : State) (r : Result Held LoadFault) → StillTells (told old) (told new) → ((rows : Rows) → HasCleanDisk new → Holds old.now rows → IfErr r IsOutside) → (HasCleanDisk new → old.now.schema ≡ no_schema → IfErr r IsOutside)
+    → IfErr r (λ e. (kind : Kind) (id : ℕ) → e ≡ Damaged kind id → told new ≡ None)
+read_damaged old new (Ok t) still whole first = tt
+read_damaged old new (Err e) still whole first = none_damaged old new e still whole first

@@ -2,27 +2,25 @@
 use base.Stored.{Gv, gnil, gnum, gcons}
 use Rattle.std.proofs.Common.{◌≡◌, ◌+◌, ◌<◌, zero, suc, ℕ, pos, Bool, true, false, cond, List, [], ◌∷◌, map, length, Option, Some, None, get_or, Ordering, Less, Equal, Greater, is_lt, is_eq, refl, sym, ap, ap₂, subst, ◌∙◌, arith, IsPermutation, IsSorted}
 use Rattle.std.specs.List.{AllByRecursion, IsDistinct}
-use Rattle.std.specs.Option.{option_and_then, option_map, option_to_list}
+use Rattle.std.specs.Option.{option_and_then, option_map}
 use Rattle.std.specs.Cmp.{IsTotalOrder}
 use Rattle.std.specs.Ordering.{ordering_reverse}
-use Rattle.std.proofs.lemmas.Bool.{and_from, and_parts, eq-eqb, eqb-true, true≢false}
+use Rattle.std.proofs.lemmas.Bool.{and_from, and_parts, eq-eqb, eqb-true}
 use Rattle.std.proofs.lemmas.Cmp.{on_total}
 use Rattle.std.proofs.lemmas.Bool.Decides.{nat_tests}
 use Rattle.std.proofs.lemmas.Int.{ints}
 use Rattle.std.specs.Ordering.{int_cmp}
 use Rattle.std.proofs.lemmas.List.Sorted.{IsPermutation-sym}
 use Rattle.std.proofs.lemmas.Map.Keys.{IsDistinct-IsPermutation}
-use Rattle.net_rows.specs.Shelf as shelf
 use Rattle.sqlite_keyed.proofs.SortLemmas.{HasNoTies, sorted_is-sort_by}
 use Rattle.sqlite_schema.specs.contracts.schema.Schema.{the_row}
 use Rattle.sqlite_schema.specs.declared.schema.Schema.{Schema}
 use Rattle.sqlite_sql.specs.Ops.{is_null}
 use Rattle.sqlite_trees.specs.Tree.{IsAscending, rowid}
 use Rattle.sqlite_value.proofs.OrderLemmas.{value_cmp_total, value_cmp-Int}
-use Rattle.sqlite_value.specs.declared.value.Value.{Value}
-use Rattle.sqlite_value.specs.declared.value.Value.TheVariants.{Null, Int}
+use Rattle.sqlite_value.specs.declared.value.Value.TheVariants.{Int}
 use Rattle.sqlite_value.specs.Order.{Row, value_cmp}
-use Rattle.store_commits.specs.Kept.{tree_row, value_of}
+use Rattle.store_commits.specs.Kept.{tree_row}
 use Rattle.store_reads.specs.Back.{IsOfOurs}
 use Rattle.store_reads.specs.Readable.{IsGivenBack, IsReadable, cell_in, shown_row}
 use Rattle.store_reads.proofs.BackLemmas.{kept_cells, null_is, with_key}

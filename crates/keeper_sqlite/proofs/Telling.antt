@@ -1,9 +1,8 @@
 -- A store tells rows exactly where its database keeps them.
-use Rattle.std.proofs.Common.{◌≡◌, ◌⊎◌, ◌+◌, inl, inr, ℕ, pos, Bool, true, false, cond, ◌&&◌, List, [], ◌∷◌, map, Option, Some, None, is_none, IfSome, IsTrue, refl, sym, ap, ap₂, subst, ◌∙◌, arith, IsPermutation}
+use Rattle.std.proofs.Common.{◌≡◌, ◌⊎◌, ◌+◌, inl, inr, ℕ, Bool, true, false, cond, ◌&&◌, List, [], ◌∷◌, map, Option, Some, None, is_none, IfSome, IsTrue, refl, sym, ap, ap₂, subst, ◌∙◌, IsPermutation}
 use Rattle.std.specs.List.{AllByRecursion}
 use Rattle.std.specs.Option.{option_and_then, option_map}
 use Rattle.std.specs.Str.{is_utf8}
-use Rattle.std.proofs.lemmas.Bool.{true≢false}
 use Rattle.net_rows.specs.Damage.{damage}
 use Rattle.net_rows.specs.Rows.{empty_rows}
 use Rattle.net_rows.specs.declared.change.Counters.{Counters}
@@ -22,21 +21,19 @@ use Rattle.sqlite_trees.specs.Tree.{Trees, rowid}
 use Rattle.sqlite_value.proofs.OrderLemmas.{value_cmp_total}
 use Rattle.sqlite_value.specs.Order.{Row, value_cmp}
 use Rattle.std.proofs.lemmas.Cmp.{on_total}
-use Rattle.store_commits.specs.Kept.{AreById, AreStored, HoldsInTree, Keeps, placed_rows, policy_row, tree_row}
+use Rattle.store_commits.specs.Kept.{AreById, AreStored, HoldsInTree, placed_rows, policy_row, tree_row}
 use Rattle.store_commits.proofs.KeptLists.{extra_rest, placed_are, with_places}
-use Rattle.store_reads.specs.Readable.{AreReadable, IsReadable, IsReadableExtra}
+use Rattle.store_reads.specs.Readable.{AreReadable, IsReadableExtra}
 use Rattle.store_reads.proofs.Lists.{rising}
 use Rattle.store_reads.proofs.OursLemmas.{auth_key_ours, extra_ours, machine_ours, meta_ours, pending_ours, policy_ours, user_ours}
 use Rattle.store_reads.proofs.ShownRows.{places_rise}
 use Rattle.store_rows.specs.Reading.{auth_key_of, extra_of, machine_of, meta_of, pending_of, policy_of, user_of}
 use Rattle.store_rows.specs.Rows.{IsTypedCounters, IsTypedExtra, IsTypedKey, IsTypedMachine, IsTypedPending, IsTypedUser, auth_key_cells, extra_cells, machine_cells, meta_cells, pending_cells, policy_cells, user_cells}
-use Rattle.store_rows.specs.declared.cell.Cell.{Cell}
-use Rattle.store_rows.proofs.ReadingLemmas.{Reads}
 use Rattle.store_rows.proofs.TableReads.{auth_key_reads, extra_reads, machine_reads, meta_reads, pending_reads, policy_reads, user_reads}
 use Rattle.store_texts.proofs.Lists.{row_of}
 use Rattle.store_texts.specs.Schema.{no_schema, schema_1}
 use Rattle.tailcfg.specs.declared.dns.DnsExtra.{DnsExtra}
-use Rattle.keeper_sqlite.specs.Tells.{Holds, IsKnown}
+use Rattle.keeper_sqlite.specs.Tells.{Holds}
 use Rattle.keeper_sqlite.specs.Told.{extras_in, if_sound, in_order, is_schema, next_in, policy_in, rows_of, tables_in, told, tree_cells, values_in}
 use Rattle.keeper_sqlite.proofs.Schemas.{none_is_not_ours}
 use Rattle.keeper_sqlite.proofs.TellTrees.{in_order_is, is_itself, rows_rise, schema_is, some_is, value_again, value_is, values_again, values_are}

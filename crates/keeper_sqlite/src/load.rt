@@ -1,7 +1,8 @@
 //! The tables that a database keeps.
-ghost use Rattle.std.specs.Prelude.{◌≡◌, None, Ok, IfOk, IfErr, IsTrue, OnOk, is_ok};
-ghost use Rattle.io_edge.specs.Edge.{StillTells};
-ghost use Rattle.keeper_sqlite.specs.Tells.{Holds, IsAtRest, IsFirst};
+ghost use Rattle.std.specs.Prelude.{◌≡◌, ℕ, None, Ok, IfOk, IfErr, IsTrue, OnOk, is_ok};
+ghost use Rattle.io_edge.specs.Edge.{IsWhereTold, StillTells};
+ghost use Rattle.net_rows.specs.declared.change.Kind.{Kind as RowKind};
+ghost use Rattle.keeper_sqlite.specs.Tells.{Holds, IsAtRest, IsFirst, IsKnown};
 ghost use Rattle.keeper_sqlite.specs.Told.{told};
 ghost use Rattle.net_rows.specs.Damage.{damage};
 ghost use Rattle.net_rows.specs.Rows.{empty_rows};
@@ -212,6 +213,10 @@ pub(crate) fn load<S: Alter>(conn: &mut Connection<S>, alloc: Global) -> Result<
     ensures known { HasCleanDisk (state S.Store conn.new) → IfOk result (λ tables.
         IsTrue (state S.Store conn.new).is_open
         → Holds (state S.Store conn.new).now tables.rows) }
+    ensures tells { IfOk result (λ tables. IsWhereTold tables.rows (told (state S.Store conn.new))) }
+    ensures damaged { IfErr result (λ e. (kind : RowKind) (id : ℕ)
+        → e ≡ LoadFault.Damaged kind id → told (state S.Store conn.new) ≡ None) }
+    ensures knows { OnOk result (IsKnown (state S.Store conn.new)) }
 {
     if !conn.is_autocommit() {
         return Err(LoadFault::Failed);

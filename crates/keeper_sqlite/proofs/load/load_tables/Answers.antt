@@ -1,6 +1,6 @@
 use Rattle.net_rows.specs.Rows.{empty_rows}
 use Rattle.net_rows.proofs.Empty.{damage-empty}
-use Rattle.std.proofs.Common.{◌≡◌, ap, is_ok, arith}
+use Rattle.std.proofs.Common.{ap, is_ok, arith}
 use Rattle.sqlite.specs.Held.{state}
 use Rattle.keeper_sqlite.specs.Told.{told}
 use Rattle.keeper_sqlite.proofs.Firsts.{empty_readable}
