@@ -2,8 +2,8 @@
 use Rattle.tailnet_commands.specs.Outside.{doors_told, link_told, outside}
 use Rattle.tailnet_top.proofs.top.run_asked.Goals as goal
 
-pub returns-in-Some-Serve-clause-outcome : goal.returns-in-Some-Serve-clause-outcome
-returns-in-Some-Serve-clause-outcome g c = c.serve_command.ensures.outcome
+pub returns-in-Some-Serve-clause-ran : goal.returns-in-Some-Serve-clause-ran
+returns-in-Some-Serve-clause-ran g c = c.serve_command.ensures.outcome
     (outside g.I.Source.left g.I.Source.read_faults g.O.Sink.holds g.O.Sink.write_faults g.E.Sink.holds g.E.Sink.write_faults g.F.Files.holds g.F.Files.faults g.P.Opener.told g.P.Opener.asked g.P.Opener.faults
     g.C.Clock.answer g.N.Entropy.word g.N.Entropy.faults
     (doors_told g.D.Doors.coming g.D.Doors.finished g.D.Doors.asked g.D.Doors.faults c.args.doors.now)
