@@ -1,8 +1,0 @@
-mod Serving
-mod Watching
-mod Stepping
-mod Loading
-mod Taking
-mod Rules
-mod Hearing
-mod Early
