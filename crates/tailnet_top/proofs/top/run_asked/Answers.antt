@@ -1,7 +1,6 @@
 -- `serve` leaves input, output and the link as they were.
-use Rattle.std.proofs.Common.{◌∙◌, Some, ap, subst, sym}
+use Rattle.std.proofs.Common.{rules}
 use Rattle.tailnet_commands.specs.Outside.{doors_told, link_told, outside}
-use Rattle.tailnet_top.specs.Top.{WordsDone}
 use Rattle.tailnet_top.proofs.top.run_asked.Goals as goal
 
 pub returns-in-Some-Serve-clause-ran : goal.returns-in-Some-Serve-clause-ran
@@ -10,7 +9,5 @@ returns-in-Some-Serve-clause-ran g c =
     let doors_at = doors_told g.D.Doors.coming g.D.Doors.finished g.D.Doors.asked g.D.Doors.faults in
     let link = link_told g.L.Source.left g.L.Source.read_faults g.L.Sink.holds g.L.Sink.write_faults g.L.Link.asked c.args.link.now in
     let old = at (doors_at c.args.doors.now) link c.args.input.now c.args.output.now c.args.errors.now c.args.files.now c.args.opener.now c.args.clock.now c.args.entropy.now in
-    let ran = c.serve_command in
-    let new = at (doors_at ran.new.doors) link c.args.input.now c.args.output.now ran.new.errors ran.new.files ran.new.opener ran.new.clock ran.new.entropy in
-    let done = rw c.as_str-in-Some-Serve.ensures.value at (ran.ensures.outcome old) in
-    subst (λ asked. WordsDone asked ran.result old new) (sym (c.in-Some-Serve.is ∙ ap Some c.in-Some-Serve.field-0-is)) done
+    let done = rw c.as_str-in-Some-Serve.ensures.value at (c.serve_command.ensures.outcome old) in
+    search (rules, done)
