@@ -5,5 +5,3 @@ pub mod ReadLemmas
 pub mod RouteTexts
 pub mod RowLemmas
 pub mod TagTexts
-pub mod ReadingLemmas
-pub mod TableReads
