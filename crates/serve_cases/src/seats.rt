@@ -64,13 +64,15 @@ fn add_users<K: Keeper, R: Wait>(
     ensures hub { result.0.hub ≡ hub.now }
 {
     let mut seat = seat;
-    let mut added = 0;
-    for number in 0..EACH {
+    let mut added = 0u32;
+    let mut number = 0u32;
+    while number < EACH {
         if let Ok(name) = format!(in alloc; "{letter}{number}") {
             if add_user(rt, alloc, hub, &mut seat, name.as_str()) {
                 added += 1;
             }
         }
+        number += 1;
     }
     (seat, added)
 }

@@ -1,5 +1,7 @@
 //! The same conversations through `serve`: one listener, at which one connection comes, over tables that
 //! begin with what the seed makes.
+ghost use Rattle.std.specs.Prelude.{◌<◌, IfOk, length};
+
 use io_edge::{MemoryClock, MemoryFiles, MemorySink};
 use memory_edge::{DoorPlan, MemoryDoors, MemoryPause};
 use net_rows::Tables;
@@ -29,7 +31,9 @@ fn is_served_alike(talk: &Talk) -> bool {
 }
 
 /// The moments of a conversation: those that it names, or one.
-fn moments_of(alloc: Global, talk: &Talk) -> Result<Items<i64>, NoMemory> {
+fn moments_of(alloc: Global, talk: &Talk) -> Result<Items<i64>, NoMemory>
+    ensures some { IfOk result (λ made. 0 < length made) }
+{
     let mut moments = talk.moments.copy(alloc)?;
     if moments.is_empty() {
         moments.push(1_000_000_000)?;
@@ -46,6 +50,9 @@ fn clock_behind_seed(alloc: Global, talk: &Talk) -> Result<MemoryClock, NoMemory
         if place != 1 || moments.len() == 2 {
             others.push(*answer)?;
         }
+    }
+    if others.is_empty() {
+        others.push(1_000_000_000)?;
     }
     Ok(MemoryClock::new(others))
 }

@@ -1,5 +1,5 @@
 //! A poll that waits while another worker answers a save.
-ghost use Rattle.std.specs.Prelude.{◌≡◌, ◌≤◌, ◌+◌, ◌-◌, ◌^◌, None, IfSome, min, sum_by};
+ghost use Rattle.std.specs.Prelude.{◌≡◌, ◌≤◌, ◌+◌, ◌-◌, ◌^◌, None, min, sum_by};
 ghost use Rattle.io_edge.specs.Edge.{nothing_besides};
 
 use crate::runs::{noon, random, settings_with};
@@ -125,7 +125,6 @@ impl<R: Wait + Clock> Sink for OpeningSink<R> {
 struct OneDoor<R> {
     coming: Option<(GatedSource<R>, OpeningSink<R>)>,
     finished: Option<OpeningSink<R>>,
-    ghost fresh: { IfSome coming (λ c. (c.0.failed ≡ 0) × (c.1.failed ≡ 0)) },
 }
 
 impl<R: Wait + Clock + Drop> Door for OneDoor<R> {
@@ -142,7 +141,14 @@ impl<R: Wait + Clock + Drop> Door for OneDoor<R> {
     ghost faults = { λ _. 0 };
 
     fn accept(&mut self) -> Result<Option<(GatedSource<R>, OpeningSink<R>)>, Failed> {
-        Ok(self.coming.take())
+        match self.coming.take() {
+            Some((mut input, mut output)) => {
+                input.failed = 0;
+                output.failed = 0;
+                Ok(Some((input, output)))
+            }
+            None => Ok(None),
+        }
     }
 
     fn finish(&mut self, _input: GatedSource<R>, output: OpeningSink<R>) {
@@ -299,12 +305,10 @@ fn two_doors<R: Wait + Clock + Drop>(
 
 /// Whether these bytes stand somewhere in the others.
 pub(crate) fn has_bytes(all: &[u8], wanted: &[u8]) -> bool {
-    let mut rest = all;
-    while let Some((_first, others)) = rest.split_first() {
-        if rest.starts_with(wanted) {
+    for at in 0..all.len() {
+        if all[at..].starts_with(wanted) {
             return true;
         }
-        rest = others;
     }
     false
 }
