@@ -95,6 +95,7 @@ fn call_in(asked: &Option<Invocation>) -> Result<&OperatorCall, Fail> {
         Some(Invocation::Pipe { .. }) => Err(Fail::from("pipe")),
         Some(Invocation::Serve { .. }) => Err(Fail::from("serve")),
         Some(Invocation::PolicyCheck { .. }) => Err(Fail::from("policy-check")),
+        Some(Invocation::Load { .. }) => Err(Fail::from("load")),
         None => Err(Fail::from("no command")),
     }
 }

@@ -20,6 +20,8 @@ serve a.toml = serve a.toml
 serve -- -a = serve -a
 policy-check a.hujson = policy-check a.hujson
 policy-check -- -a = policy-check -a
+load 1 0 = load 1 0
+load 512 100000 = load 512 100000
 user-list --server s --token t = GET /api/v1/user
 user-list --token=t --server=s = GET /api/v1/user
 user-add Ann --server s --token t = POST /api/v1/user {"name":"Ann"}
@@ -55,7 +57,13 @@ help = none
 --help = none
 -h = none
 --version = none
-load 1 1 = none
+load = none
+load 1 = none
+load 0 1 = none
+load 513 1 = none
+load 01 1 = none
+load 1 100001 = none
+load 1 1 1 = none
 pipe = none
 pipe a.toml b = none
 pipe --seed a.toml = none
@@ -143,6 +151,9 @@ fn shown_invocation(alloc: Global, asked: &Option<Invocation>) -> Result<String,
         Some(Invocation::Operator(call)) => request_line(alloc, call),
         Some(Invocation::PolicyCheck { file }) => {
             Ok(format!(in alloc; "policy-check {}", file.as_str())?)
+        }
+        Some(Invocation::Load { machines, events }) => {
+            Ok(format!(in alloc; "load {machines} {events}")?)
         }
         Some(Invocation::Pipe { settings, seed }) => pipe_line(alloc, settings, seed),
         Some(Invocation::Serve { settings }) => {

@@ -2,6 +2,7 @@
 use Rattle.std.specs.Prelude.{◌≡◌, ◌⊎◌, ℕ, Bool, true, false, Option, None, Some, List}
 use Rattle.command_words.specs.declared.invocation.Invocation.{Invocation}
 use Rattle.command_words.specs.declared.invocation.Invocation.TheVariants as asked
+use Rattle.load_run.specs.Loads.{Loaded, load_line}
 use Rattle.operator_commands.specs.Operated.{Operated, OperatorPoint}
 use Rattle.run_ends.specs.Lines.{Noted, ended_line, usage_line}
 use Rattle.run_ends.specs.declared.ended.Ended.TheVariants as ended
@@ -77,6 +78,10 @@ WordsDone (Some (asked.PolicyCheck file)) ended old new =
     × Checked ended (old.files file) old.file_faults new.file_faults old.told.giving.held new.told.giving.held old.told.giving.write_faults new.told.giving.write_faults
     × IsLine (check_line ended) old new
 WordsDone (Some (asked.Serve settings)) ended old new = ServeOutcome ended settings old new
+WordsDone (Some (asked.Load machines events)) ended old new =
+    IsWrittenAlone old new × (new.files ≡ old.files) × (new.file_faults ≡ old.file_faults)
+    × Loaded (record { machines = machines; events = events }) ended old.told.giving.held new.told.giving.held old.told.giving.write_faults new.told.giving.write_faults
+    × IsLine (load_line ended) old new
 WordsDone (Some (asked.Operator call)) ended old new = IsLinkedAlone old new × Operated call ended (operator_point_of old) (operator_point_of new)
 
 -- there was no memory to read the words
@@ -93,6 +98,7 @@ asks_link None = false
 asks_link (Some (asked.Pipe settings seed)) = false
 asks_link (Some (asked.PolicyCheck file)) = false
 asks_link (Some (asked.Serve settings)) = false
+asks_link (Some (asked.Load machines events)) = false
 asks_link (Some (asked.Operator call)) = true
 
 -- whether words ask doors: `serve` does
@@ -101,4 +107,5 @@ asks_doors None = false
 asks_doors (Some (asked.Pipe settings seed)) = false
 asks_doors (Some (asked.PolicyCheck file)) = false
 asks_doors (Some (asked.Serve settings)) = true
+asks_doors (Some (asked.Load machines events)) = false
 asks_doors (Some (asked.Operator call)) = false

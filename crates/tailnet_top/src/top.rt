@@ -1,5 +1,6 @@
 //! The top call.
 ghost use Rattle.std.specs.Prelude.{◌≡◌, false, map, option_map, string_bytes};
+ghost use Rattle.command_words.specs.Arguments.{HasLoadMachine};
 ghost use Rattle.command_words.specs.Words.{invocation_of};
 ghost use Rattle.tailnet_commands.specs.Outside.{doors_told, link_told, outside};
 ghost use Rattle.tailnet_top.specs.Top.{WordsDone, Top, asks_doors, asks_link};
@@ -7,6 +8,7 @@ ghost use Rattle.tailnet_top.specs.Top.{WordsDone, Top, asks_doors, asks_link};
 use crate::wordless::end_wordless;
 use command_words::{Invocation, read_invocation};
 use io_edge::{Clock, Door, Doors, Entropy, Files, Link, Pause, Sink, Source};
+use load_run::load_command;
 use operator_commands::operator_command;
 use row_keeper::Opener;
 use run_ends::{Status, note_usage};
@@ -57,6 +59,7 @@ fn run_asked<
 where
     <D::Door as Door>::In: Send,
     <D::Door as Door>::Out: Send,
+    requires machine { HasLoadMachine asked.now }
     ensures ran { let at = outside I.left I.read_faults O.holds O.write_faults
         E.holds E.write_faults F.holds F.faults P.told P.asked P.faults C.answer N.word N.faults in
         let doors_at = doors_told D.coming D.finished D.asked D.faults in
@@ -91,6 +94,9 @@ where
             doors,
             pause,
         ),
+        Some(Invocation::Load { machines, events }) => {
+            load_command(alloc, *machines, *events, output, errors)
+        }
         Some(Invocation::Operator(call)) => {
             operator_command(alloc, call, output, errors, files, link)
         }
@@ -103,7 +109,7 @@ where
 
 /// The whole program over its outside: the words after its name, and all that it may touch.
 ///
-/// `pipe`, `serve`, `policy-check` and the operator's commands are those so far. `serve` alone
+/// `pipe`, `serve`, `policy-check`, `load` and the operator's commands are those so far. `serve` alone
 /// asks doors, starts threads and waits for its workers; the operator's commands alone ask the link, and
 /// wait for it.
 pub fn tailnetd<
