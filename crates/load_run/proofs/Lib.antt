@@ -2,7 +2,7 @@ mod Serving
 mod Watching
 mod Stepping
 mod Loading
-mod Taking
+mod Taken
 mod Rules
 mod Hearing
 mod Early

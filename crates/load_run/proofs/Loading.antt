@@ -13,7 +13,7 @@ use Rattle.run_ends.specs.declared.status.Status.TheVariants as status
 use Rattle.load_run.specs.Beginning.{IsBegun}
 use Rattle.load_run.specs.Loads.{IsLoad, IsLoadText, IsReported, load_site, opening_point, seeding}
 use Rattle.load_run.specs.Report.{report}
-use Rattle.load_run.specs.Running.{IsReady, stand_of}
+use Rattle.load_run.specs.Running.{IsLoadReady, stand_of}
 use Rattle.load_run.specs.Steps.{Runs, Stand, first_stand}
 use Rattle.load_run.specs.Tasks.{request_count}
 use Rattle.load_run.specs.declared.run.Run.{Run}
@@ -22,7 +22,7 @@ use Rattle.load_run.proofs.Stepping.{steps_chain}
 
 -- a load that began and was run to its end
 pub loaded : {K : Type 0} (plan : LoadPlan) (point : Seated K → Point) (before after : Run K) → IsBegun plan point before
-    → Runs plan load_site (stand_of point 0 before) (stand_of point (request_count plan) after) → IsReady plan (request_count plan) after
+    → Runs plan load_site (stand_of point 0 before) (stand_of point (request_count plan) after) → IsLoadReady plan (request_count plan) after
     → (point after.watched.desk).keeping.faults ≡ 0 → IsLoad plan (stand_of point (request_count plan) after)
 loaded plan point before after begun runs ready sure =
     let seeded = point before.watched.desk in

@@ -11,7 +11,7 @@ use Rattle.tailnet_desk.specs.Chains.{Chain, Turned}
 use Rattle.tailnet_desk.specs.Turns.{IsTurn}
 use Rattle.tailnet_desk.proofs.Histories.{Chain-append}
 use Rattle.connections.specs.Exchanges.{Exchange, IsAnswered, IsExchange, IsUnanswered, turns_of}
-use Rattle.load_run.specs.Counting.{is_starved}
+use Rattle.load_run.specs.Counting.{is_busy_answer}
 use Rattle.load_run.specs.Steps.{IsStep, Runs, Stand, LoadSteps}
 use Rattle.load_run.specs.Messages.{kind_message, message, task_message}
 use Rattle.load_run.specs.declared.known.MachineMemory.{MachineMemory}
@@ -21,7 +21,7 @@ use Rattle.load_run.specs.declared.task.TaskKind.{TaskKind}
 use Rattle.load_run.specs.declared.task.TaskKind.TheVariants as kind
 
 -- an answer of want of memory is seen by its status
-busy_seen : (body : List ℕ) (close : Bool) → is_starved (answer 503 body close) ≡ true
+busy_seen : (body : List ℕ) (close : Bool) → is_busy_answer (answer 503 body close) ≡ true
 unfolding answer digits
 busy_seen body close = refl
 
@@ -34,9 +34,9 @@ closing : (site : FrontSettings) (x : Exchange) → IsAnswered site 0 (x.request
     → IsAnswered site 0 true (wanted_of site x.request) x.turns x.bytes x.ended x.broken
 closing site x answered = subst (λ (close : Bool). IsAnswered site 0 close (wanted_of site x.request) x.turns x.bytes x.ended x.broken) (or_true x.request.close) answered
 
-pub answered_of : (site : FrontSettings) (x : Exchange) → IsExchange site 0 true x → is_starved x.bytes ≡ false → IsAnswered site 0 true (wanted_of site x.request) x.turns x.bytes x.ended x.broken
+pub answered_of : (site : FrontSettings) (x : Exchange) → IsExchange site 0 true x → is_busy_answer x.bytes ≡ false → IsAnswered site 0 true (wanted_of site x.request) x.turns x.bytes x.ended x.broken
 answered_of site x is fed = elim is [
-  | inl none ↦ absurd (let bad : true ≡ false = sym (busy_seen (codes "{\"error\":\"NoMemory\"}") _) ∙ ap is_starved (sym none.1) ∙ fed in cc)
+  | inl none ↦ absurd (let bad : true ≡ false = sym (busy_seen (codes "{\"error\":\"NoMemory\"}") _) ∙ ap is_busy_answer (sym none.1) ∙ fed in cc)
   | inr answered ↦ closing site x answered
 ]
 

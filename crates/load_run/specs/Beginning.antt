@@ -13,7 +13,7 @@ use Rattle.load_run.specs.Draws.{first_source}
 use Rattle.load_run.specs.Given.{load_settings}
 use Rattle.load_run.specs.Knowing.{nothing}
 use Rattle.load_run.specs.Loads.{load_moment, opening_point, seeding}
-use Rattle.load_run.specs.Running.{IsReady, stand_of}
+use Rattle.load_run.specs.Running.{IsLoadReady, stand_of}
 use Rattle.load_run.specs.Steps.{first_stand}
 use Rattle.load_run.specs.Watching.{IsWatchedTurn, Watched}
 use Rattle.load_run.specs.declared.heard.Heard.{Heard}
@@ -62,4 +62,4 @@ pub record IsBegun {K : Type 0} (plan : LoadPlan) (point : Seated K → Point) (
   pub seeds : IsTurn (opening_point keeping) (seeding reply).event reply (point run.watched.desk)
   pub faultless : keeping.faults ≡ 0
   pub stand : stand_of point 0 run ≡ first_stand plan 0 (point run.watched.desk)
-  pub ready : IsReady plan 0 run
+  pub ready : IsLoadReady plan 0 run

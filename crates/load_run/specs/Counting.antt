@@ -8,8 +8,8 @@ abbrev pub is_good : List ℕ → Bool
 is_good answer = starts_with nat_eq answer (codes "HTTP/1.1 2")
 
 -- whether it is 503, the answer of want of memory
-abbrev pub is_starved : List ℕ → Bool
-is_starved answer = starts_with nat_eq answer (codes "HTTP/1.1 503")
+abbrev pub is_busy_answer : List ℕ → Bool
+is_busy_answer answer = starts_with nat_eq answer (codes "HTTP/1.1 503")
 
 -- an answer more
 abbrev pub counted : Counts → List ℕ → Counts

@@ -20,13 +20,13 @@ use Rattle.load_run.specs.declared.task.LoadPlan.{LoadPlan}
 use Rattle.load_run.specs.declared.task.Task.{Task}
 
 -- the parts of a load that a request changes when it is served
-pub record Taking : Type 0 where
+pub record LoadTaking : Type 0 where
   pub point : Point
   pub heard : Heard
   pub words : ℕ
   pub counts : Counts
 
-abbrev pub taking_of : {K : Type 0} → (Seated K → Point) → Run K → Taking
+abbrev pub taking_of : {K : Type 0} → (Seated K → Point) → Run K → LoadTaking
 taking_of point run = record { point = point run.watched.desk; heard = run.watched.heard; words = run.words.drawn; counts = run.counts }
 
 -- where a load stands before the request of this number
@@ -42,7 +42,7 @@ stand_of point number run = record {
 }
 
 -- a request was served, heard and counted
-pub record IsTaken (site : FrontSettings) (message : List ℕ) (moment : ℤ) (old new : Taking) : Type 0 where
+pub record IsTaskTaken (site : FrontSettings) (message : List ℕ) (moment : ℤ) (old new : LoadTaking) : Type 0 where
   pub exchange : Exchange
   pub request : Begins message exchange.request
   pub answered : IsAnswered site 0 true (wanted_of site exchange.request) exchange.turns exchange.bytes exchange.ended exchange.broken
@@ -72,7 +72,7 @@ pub record IsNextRequest (plan : LoadPlan) (site : FrontSettings) (s t : Stand) 
   pub step : IsStep plan site s exchange t
 
 -- so many requests were served and counted, and memory was refused to none
-pub record IsReady {K : Type 0} (plan : LoadPlan) (number : ℕ) (run : Run K) : Type 0 where
+pub record IsLoadReady {K : Type 0} (plan : LoadPlan) (number : ℕ) (run : Run K) : Type 0 where
   pub roll : length run.roll ≡ plan.machines
   pub fed : run.watched.heard.starved ≡ false
   pub sum : run.counts.ok + run.counts.refused ≡ number

@@ -9,7 +9,7 @@ use Rattle.desk_front.specs.Wanted.{wanted_of}
 use Rattle.desk_front.specs.declared.front_settings.FrontSettings.{FrontSettings}
 use Rattle.connections.specs.Exchanges.{Exchange, IsAnswered}
 use Rattle.connections.specs.Tellings.{MomentsTold, WordsTold, drawn, failed_draws, from_number}
-use Rattle.load_run.specs.Counting.{counted, is_starved}
+use Rattle.load_run.specs.Counting.{counted, is_busy_answer}
 use Rattle.load_run.specs.Draws.{first_source}
 use Rattle.load_run.specs.Hearing.{HadMemory, hear_turns}
 use Rattle.load_run.specs.Knowing.{known_of, nothing, with_known}

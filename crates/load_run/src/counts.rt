@@ -19,8 +19,8 @@ pub(crate) fn is_good(answer: &[u8]) -> bool
 }
 
 /// Whether the answer is that of want of memory.
-pub(crate) fn is_starved(answer: &[u8]) -> bool
-    ensures value { result ≡ spec.is_starved answer.now }
+pub(crate) fn is_busy_answer(answer: &[u8]) -> bool
+    ensures value { result ≡ spec.is_busy_answer answer.now }
 {
     answer.starts_with(b"HTTP/1.1 503")
 }

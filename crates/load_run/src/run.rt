@@ -5,14 +5,14 @@ ghost use Rattle.tailnet_desk.specs.Turns.{IsTurn};
 ghost use Rattle.load_run.specs.Early.{IsNextEarly, IsRunEarly, IsServedEarly};
 ghost use Rattle.load_run.specs.Knowing.{known_of, with_known};
 ghost use Rattle.load_run.specs.Messages.{task_message};
-ghost use Rattle.load_run.specs.Running.{IsNextRequest, IsReady, IsTaken, heard_by, run_with_known, stand_of, taking_of};
+ghost use Rattle.load_run.specs.Running.{IsNextRequest, IsLoadReady, IsTaskTaken, heard_by, run_with_known, stand_of, taking_of};
 ghost use Rattle.load_run.specs.Served.{IsServed};
 ghost use Rattle.load_run.specs.Steps as spec;
 ghost use Rattle.load_run.specs.Steps.{Runs};
 ghost use Rattle.load_run.specs.Tasks as tasks;
 ghost use Rattle.load_run.specs.Watching.{IsWatchedTurn, watched_of};
 
-use crate::counts::{Counts, is_starved};
+use crate::counts::{Counts, is_busy_answer};
 use crate::heard::Heard;
 use crate::known::{MachineMemory, Roll};
 use crate::messages::task_message;
@@ -107,7 +107,7 @@ impl<K: Keeper> Run<K> {
     ) -> Result<(), Stopped>
         requires some { 0 < length message.now }
         requires room { self.old.counts.ok + self.old.counts.refused < 2 ^ 63 }
-        ensures taken { OnOk result (IsTaken front.now message.now seconds
+        ensures taken { OnOk result (IsTaskTaken front.now message.now seconds
             (taking_of (point_of K.told K.faults K.calls) self.old)
             (taking_of (point_of K.told K.faults K.calls) self.new)) }
         ensures early { IsErrOf result Stopped.Early → IsServedEarly IsTurn front.now message.now
@@ -129,7 +129,7 @@ impl<K: Keeper> Run<K> {
             return Err(stopped);
         }
         let bytes = answer.bytes();
-        if self.watched.heard.starved || is_starved(bytes) {
+        if self.watched.heard.starved || is_busy_answer(bytes) {
             return Err(Stopped::NoMemory);
         }
         self.counts.count(bytes);
@@ -179,13 +179,13 @@ impl<K: Keeper> Run<K> {
         requires machines { 0 < plan.now.machines }
         requires few { tasks.request_count plan.now < 2 ^ 63 }
         requires within { number < tasks.request_count plan.now }
-        requires ready { IsReady plan.now number self.old }
+        requires ready { IsLoadReady plan.now number self.old }
         ensures next { OnOk result (IsNextRequest plan.now front.now
             (stand_of (point_of K.told K.faults K.calls) number self.old)
             (stand_of (point_of K.told K.faults K.calls) (number + 1) self.new)) }
         ensures early { IsErrOf result Stopped.Early → IsNextEarly plan.now front.now
             (stand_of (point_of K.told K.faults K.calls) number self.old) }
-        ensures ready { OnOk result (IsReady plan.now (number + 1) self.new) }
+        ensures ready { OnOk result (IsLoadReady plan.now (number + 1) self.new) }
     {
         let task = task_at(plan, number, self.source);
         let Ok(message) = task_message(alloc, &task, self.roll.of(task.machine)) else {
@@ -213,13 +213,13 @@ impl<K: Keeper> Run<K> {
         plan: &LoadPlan,
     ) -> Result<(), Stopped>
         requires machines { 0 < plan.now.machines }
-        requires ready { IsReady plan.now 0 self.old }
+        requires ready { IsLoadReady plan.now 0 self.old }
         ensures runs { OnOk result (Runs plan.now front.now
             (stand_of (point_of K.told K.faults K.calls) 0 self.old)
             (stand_of (point_of K.told K.faults K.calls) (tasks.request_count plan.now) self.new)) }
         ensures early { IsErrOf result Stopped.Early → IsRunEarly plan.now front.now
             (stand_of (point_of K.told K.faults K.calls) 0 self.old) }
-        ensures ready { OnOk result (IsReady plan.now (tasks.request_count plan.now) self.new) }
+        ensures ready { OnOk result (IsLoadReady plan.now (tasks.request_count plan.now) self.new) }
     {
         let count = request_count(plan);
         let mut number = 0;

@@ -3,12 +3,12 @@ use Rattle.std.proofs.Common.{◌≡◌, ◌+◌, ℕ, ℤ, Bool, true, false, O
 use Rattle.desk_front.specs.declared.front_settings.FrontSettings.{FrontSettings}
 use Rattle.tailnet_desk.specs.Seated.{Point}
 use Rattle.connections.specs.Tellings.{MomentsTold}
-use Rattle.load_run.specs.Counting.{counted, is_starved}
+use Rattle.load_run.specs.Counting.{counted, is_busy_answer}
 use Rattle.load_run.specs.Hearing.{hear_turns}
 use Rattle.load_run.specs.Knowing.{with_known}
 use Rattle.load_run.specs.Messages.{task_message}
 use Rattle.load_run.specs.Outside as outside
-use Rattle.load_run.specs.Running.{IsNextRequest, IsTaken, Taking}
+use Rattle.load_run.specs.Running.{IsNextRequest, IsTaskTaken, LoadTaking}
 use Rattle.load_run.specs.Served.{IsServed}
 use Rattle.load_run.specs.Steps.{Begins, Stand, known_after, next_heard, next_known, next_task}
 use Rattle.load_run.specs.Tasks.{moment_at, source_after}
@@ -20,14 +20,14 @@ use Rattle.load_run.proofs.Stepping.{answered_of}
 use Rattle.load_run.proofs.Watching.{desk_turns, turns_fed, turns_heard}
 
 -- the desk and what was heard, of the parts that a request changes
-abbrev pub watched_in : Taking → Watched
+abbrev pub watched_in : LoadTaking → Watched
 watched_in t = record { point = t.point; heard = t.heard }
 
 -- a request that was served, and to which memory wasn't refused
-pub taken : (site : FrontSettings) (message : List ℕ) (moment : ℤ) (old new : Taking) (bytes : List ℕ) (stated : ℤ) (held : Option (List ℕ)) → stated ≡ moment → held ≡ Some bytes
+pub taken : (site : FrontSettings) (message : List ℕ) (moment : ℤ) (old new : LoadTaking) (bytes : List ℕ) (stated : ℤ) (held : Option (List ℕ)) → stated ≡ moment → held ≡ Some bytes
     → IsServed IsWatchedTurn site message stated old.words new.words held (watched_in old) (watched_in new)
-    → new.heard.starved ≡ false → is_starved bytes ≡ false → new.counts ≡ counted old.counts bytes → new.counts.ok + new.counts.refused ≡ old.counts.ok + old.counts.refused + 1
-    → IsTaken site message moment old new
+    → new.heard.starved ≡ false → is_busy_answer bytes ≡ false → new.counts ≡ counted old.counts bytes → new.counts.ok + new.counts.refused ≡ old.counts.ok + old.counts.refused + 1
+    → IsTaskTaken site message moment old new
 taken site message moment old new bytes stated held at_moment holds served fed answered counts sum =
     let x = served.exchange in
     let told : Some bytes ≡ Some x.bytes = sym holds ∙ served.answer_is in
@@ -35,7 +35,7 @@ taken site message moment old new bytes stated held at_moment holds served fed a
     record {
       exchange = x;
       request = served.request;
-      answered = answered_of site x served.is (ap is_starved (sym same) ∙ answered);
+      answered = answered_of site x served.is (ap is_busy_answer (sym same) ∙ answered);
       unbroken = served.unbroken;
       memory = turns_fed (watched_in old) x.turns (watched_in new) served.chain fed;
       moments = subst (λ (m : ℤ). MomentsTold (outside.still m) x.turns) at_moment served.moments;
@@ -63,7 +63,7 @@ stand_with plan s heard words counts point = record {
 
 -- it is the next step of the load
 pub stepped : (plan : LoadPlan) (site : FrontSettings) (s : Stand) (starved : Bool) (message : List ℕ) (heard : Heard) (words : ℕ) (counts : Counts) (point : Point) → starved ≡ false → message ≡ task_message (next_task plan s) (next_known plan s)
-    → IsTaken site message (moment_at plan s.number)
+    → IsTaskTaken site message (moment_at plan s.number)
     (record { point = s.point; heard = record { handle = (next_known plan s).handle; seq = (next_known plan s).seq; frames = s.frames; starved = starved }; words = s.words; counts = s.counts })
     (record { point = point; heard = heard; words = words; counts = counts })
     → IsNextRequest plan site s (stand_with plan s heard words counts point)
