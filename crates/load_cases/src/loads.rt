@@ -25,6 +25,9 @@ const LARGE: &str = "machines 60\nevents 600\nrequests 720\nok 719\nrefused 1\nf
 
 /// What a load writes, where it ends well.
 fn loaded(alloc: Global, machines: u32, events: u32) -> Result<MemorySink, Fail> {
+    if machines == 0 {
+        return Err(Fail::from("a load has a machine"));
+    }
     let mut output = MemorySink::new(alloc, Items::new(alloc));
     let mut errors = MemorySink::new(alloc, Items::new(alloc));
     let status = load_command(alloc, machines, events, &mut output, &mut errors);
