@@ -1,5 +1,8 @@
 //! An opener over one connection.
 ghost use Rattle.std.specs.Prelude.{◌≡◌, None, Some, Err, false, IfOk, OnErr};
+ghost use Rattle.std.specs.Option.{option_and_then};
+ghost use Rattle.sqlite.specs.Held.{state};
+ghost use Rattle.keeper_sqlite.specs.Told.{told};
 
 use crate::keeper::SqliteKeeper;
 use io_edge::EdgeFault;
@@ -32,6 +35,7 @@ impl<S: Alter> SqliteOpener<S> {
         ensures waits { IfOk result (λ keeper. keeper.is_loaded ≡ false) }
         ensures out { self.old.conn ≡ None → result ≡ Err EdgeFault.Failed }
         ensures err { OnErr result (result ≡ Err EdgeFault.Failed) }
+        ensures left { OnErr result (self.new.conn ≡ self.old.conn) }
         ensures faults { self.new.faults ≡ self.old.faults }
     {
         match self.conn.take() {
@@ -44,7 +48,7 @@ impl<S: Alter> SqliteOpener<S> {
 impl<S: Alter + Drop + Send> Opener for SqliteOpener<S> {
     type Keeper = SqliteKeeper<S>;
 
-    ghost told = { λ _. None };
+    ghost told = { λ o. option_and_then (λ c. told (state S.Store c)) o.conn };
 
     ghost asked = { λ _. None };
 

@@ -35,10 +35,11 @@ pub trait Keeper: Drop {
     /// How often it was called, by either call and whatever the answer.
     ghost calls: { Self → ℕ };
 
-    /// The tables that it keeps, which are sound if they are visible.
+    /// The tables that it keeps, which are sound if they are visible. It may stop telling within the call,
+    /// as a store does whose disk lies: then nothing is said of them.
     fn load(&mut self, alloc: Global) -> Result<Tables, LoadFault>
-        ensures loaded { IfOk result (λ tables. IsWhereTold tables.rows (told self.old)) }
-        ensures whole { IfErr result (λ e. (kind : Kind) (id : ℕ) → e ≡ LoadFault.Damaged kind id → told self.old ≡ None) }
+        ensures loaded { IfOk result (λ tables. IsWhereTold tables.rows (told self.new)) }
+        ensures whole { IfErr result (λ e. (kind : Kind) (id : ℕ) → e ≡ LoadFault.Damaged kind id → told self.new ≡ None) }
         ensures same { StillTells (told self.old) (told self.new) }
         ensures later { faults self.old ≤ faults self.new }
         ensures called { calls self.new ≡ one_more (calls self.old) }
