@@ -140,7 +140,7 @@ impl<K: Keeper> Desk<K> {
         moment: Moment,
     ) -> Result<Desk<K>, (OpenFault, K)>
         ensures state { IfOk result (λ d. d.state ≡ opening settings d.state.rows moment) }
-        ensures rows { IfOk result (λ d. IsWhereTold d.state.rows (K.told keeper)) }
+        ensures rows { IfOk result (λ d. IsWhereTold d.state.rows (K.told d.keeper)) }
         ensures read { IfOk result (λ d. unread_policy d.state.rows ≡ None) }
         ensures still { IfOk result (λ d. StillTells (K.told keeper) (K.told d.keeper)) }
         ensures later { IfOk result (λ d. K.faults keeper ≤ K.faults d.keeper) }
@@ -149,7 +149,7 @@ impl<K: Keeper> Desk<K> {
         ensures fault { IfErr result (λ e. e.0 ≡ OpenFault.KeeperFault
             → Rose (K.faults keeper) (K.faults e.1)) }
         ensures damaged { IfErr result (λ e. (kind : _) (id : ℕ) → e.0 ≡ OpenFault.Damaged kind id
-            → IfSome (K.told keeper)
+            → IfSome (K.told e.1)
             (λ rows. unread_policy rows ≡ Some (record { kind = kind; id = id }))) }
     {
         match load_beginning(alloc, &mut keeper, moment) {
