@@ -1,5 +1,5 @@
 -- What a command's arguments ask, by what `clap` found for each.
-use Rattle.std.specs.Prelude.{ℕ, Bool, List, [], Option, Some, None, codes, length, option_map, unwrap_or, if◌then◌else◌, nat_le, ◌&&◌}
+use Rattle.std.specs.Prelude.{ℕ, ◌<◌, Bool, List, [], Option, Some, None, codes, length, option_and_then, option_map, unwrap_or, if◌then◌else◌, nat_le, ◌&&◌}
 use Rattle.std.specs.List.{list_all}
 use Rattle.std.specs.Str.{bytes_eq}
 use Rattle.clap.specs.Words.{Row, Text, first_of}
@@ -29,9 +29,24 @@ given_text x rows = unwrap_or (given_option x rows) []
 abbrev pub is_set : Argument → List Row → Bool
 is_set x rows = bytes_eq (given_text x rows) (codes "true")
 
--- the number that is the id: decimal digits without a sign or leading zeros
+-- the number in a range that an argument is: decimal digits without a sign or leading zeros
+abbrev pub given_number : Argument → ℕ → ℕ → List Row → Option ℕ
+given_number x least greatest rows = number_in 10 least greatest (given_text x rows)
+
+-- the number that is the id
 abbrev pub given_id : List Row → Option ℕ
-given_id rows = number_in 10 1 2147483647 (given_text argument.Id rows)
+given_id rows = given_number argument.Id 1 2147483647 rows
+
+-- how many machines and how many events a load has
+abbrev pub given_machines : List Row → Option ℕ
+given_machines rows = given_number argument.Machines 1 512 rows
+
+abbrev pub given_events : List Row → Option ℕ
+given_events rows = given_number argument.Events 0 100000 rows
+
+-- what is asked, if both numbers keep their rules
+abbrev pub load_of : List Row → Option Invocation
+load_of rows = option_and_then (λ machines. option_map (λ events. asked.Load machines events) (given_events rows)) (given_machines rows)
 
 -- 1 to 128 visible ASCII bytes
 abbrev pub is_seed_key : Text → Bool
@@ -81,5 +96,16 @@ operator_of k rows = option_map (λ c. asked.Operator (call_of rows c)) (operato
 -- what a command's arguments ask, if a number and the seed key keep their rules
 unfoldable pub asked_of : CommandKind → List Row → Option Invocation
 asked_of kind.Pipe rows = pipe_of rows
+asked_of kind.Serve rows = Some (asked.Serve (given_text argument.Settings rows))
 asked_of kind.PolicyCheck rows = Some (asked.PolicyCheck (given_text argument.File rows))
+asked_of kind.Load rows = load_of rows
 asked_of (kind.Operator k) rows = operator_of k rows
+
+-- a load has a machine
+abbrev pub HasLoadMachine : Option Invocation → Type 0
+HasLoadMachine None = Unit {0}
+HasLoadMachine (Some (asked.Load machines events)) = 0 < machines
+HasLoadMachine (Some (asked.Pipe settings seed)) = Unit {0}
+HasLoadMachine (Some (asked.Serve settings)) = Unit {0}
+HasLoadMachine (Some (asked.PolicyCheck file)) = Unit {0}
+HasLoadMachine (Some (asked.Operator call)) = Unit {0}

@@ -3,9 +3,9 @@ use Rattle.std.specs.Prelude.{List, [], ◌∷◌, ◌++◌, codes}
 use Rattle.std.specs.Borrow.{Bor}
 use Rattle.clap.specs.Words.{Text}
 use Rattle.command_words.specs.declared.argument.Argument.{Argument}
-use Rattle.command_words.specs.declared.argument.Argument.TheVariants.{Ephemeral, Expiry, File, Id, List as ListArgument, Login, Name, Pending, Reusable, Seed, Server, Settings, Tags, Token}
+use Rattle.command_words.specs.declared.argument.Argument.TheVariants.{Ephemeral, Events, Expiry, File, Id, List as ListArgument, Login, Machines, Name, Pending, Reusable, Seed, Server, Settings, Tags, Token}
 use Rattle.command_words.specs.declared.line.CommandKind.{CommandKind}
-use Rattle.command_words.specs.declared.line.CommandKind.TheVariants.{Operator, Pipe, PolicyCheck}
+use Rattle.command_words.specs.declared.line.CommandKind.TheVariants.{Load, Operator, Pipe, PolicyCheck, Serve}
 use Rattle.command_words.specs.declared.line.OperatorKind.{OperatorKind}
 use Rattle.command_words.specs.declared.line.OperatorKind.TheVariants as operator
 
@@ -21,7 +21,9 @@ operator_line name kind arguments = (name, Operator kind, arguments ++ (Server �
 unfoldable pub lines : List CommandLine
 lines =
     (codes "pipe", Pipe, Settings ∷ Seed ∷ [])
+    ∷ (codes "serve", Serve, Settings ∷ [])
     ∷ (codes "policy-check", PolicyCheck, File ∷ [])
+    ∷ (codes "load", Load, Machines ∷ Events ∷ [])
     ∷ operator_line (codes "user-list") operator.UserList []
     ∷ operator_line (codes "user-add") operator.UserAdd (Name ∷ [])
     ∷ operator_line (codes "user-del") operator.UserDel (Login ∷ [])

@@ -25,6 +25,8 @@ pub enum Argument {
     Id,
     List,
     Pending,
+    Machines,
+    Events,
     Server,
     Token,
     Seed,
@@ -47,6 +49,8 @@ impl Argument {
             Argument::Id => "ID",
             Argument::List => "LIST",
             Argument::Pending => "PENDING",
+            Argument::Machines => "N",
+            Argument::Events => "M",
             Argument::Server => "server",
             Argument::Token => "token",
             Argument::Seed => "seed",
@@ -68,7 +72,9 @@ impl Argument {
             | Argument::Login
             | Argument::Id
             | Argument::List
-            | Argument::Pending => Form::Positional,
+            | Argument::Pending
+            | Argument::Machines
+            | Argument::Events => Form::Positional,
             Argument::Server | Argument::Token => Form::Required,
             Argument::Seed | Argument::Expiry | Argument::Tags => Form::Optional,
             Argument::Reusable | Argument::Ephemeral => Form::Flag,

@@ -2,13 +2,13 @@
 ghost use Rattle.std.specs.Prelude.{◌≡◌, ◌&&◌, IfOk, nat_le};
 ghost use Rattle.std.specs.List.{list_all};
 ghost use Rattle.clap.specs.Words.{first_of, found_of, rows_of};
-ghost use Rattle.command_words.specs.Arguments.{asked_of, call_of, is_seed_key, operator_of, pipe_of, given_text};
+ghost use Rattle.command_words.specs.Arguments.{HasLoadMachine, asked_of, call_of, is_seed_key, load_of, operator_of, pipe_of, given_text};
 
 use crate::argument::Argument;
 use crate::invocation::{Invocation, OperatorCall, OperatorCommand};
 use crate::line::{CommandKind, OperatorKind};
 use crate::operators::operator_command_of;
-use crate::values::{given_option, given_text};
+use crate::values::{given_events, given_machines, given_option, given_text};
 use clap::ArgMatches;
 use std::alloc::Global;
 use tail_base::NoMemory;
@@ -29,6 +29,7 @@ fn is_seed_key(text: &[u8]) -> bool
 
 fn pipe_of(alloc: Global, matches: &ArgMatches<'_>) -> Result<Option<Invocation>, NoMemory>
     ensures value { IfOk result (λ asked. asked ≡ pipe_of (rows_of (found_of matches.now))) }
+    ensures machine { IfOk result HasLoadMachine }
 {
     let settings = given_text(alloc, matches, Argument::Settings)?;
     let seed = given_option(alloc, matches, Argument::Seed)?;
@@ -40,12 +41,29 @@ fn pipe_of(alloc: Global, matches: &ArgMatches<'_>) -> Result<Option<Invocation>
     Ok(Some(Invocation::Pipe { settings, seed }))
 }
 
+fn serve_of(alloc: Global, matches: &ArgMatches<'_>) -> Result<Invocation, NoMemory>
+    ensures value { IfOk result (λ asked. asked
+        ≡ Invocation.Serve (given_text Argument.Settings (rows_of (found_of matches.now)))) }
+{
+    let settings = given_text(alloc, matches, Argument::Settings)?;
+    Ok(Invocation::Serve { settings })
+}
+
 fn policy_check_of(alloc: Global, matches: &ArgMatches<'_>) -> Result<Invocation, NoMemory>
     ensures value { IfOk result (λ asked. asked
         ≡ Invocation.PolicyCheck (given_text Argument.File (rows_of (found_of matches.now)))) }
 {
     let file = given_text(alloc, matches, Argument::File)?;
     Ok(Invocation::PolicyCheck { file })
+}
+
+fn load_of(matches: &ArgMatches<'_>) -> Option<Invocation>
+    ensures value { result ≡ load_of (rows_of (found_of matches.now)) }
+    ensures machine { HasLoadMachine result }
+{
+    let machines = given_machines(matches)?;
+    let events = given_events(matches)?;
+    Some(Invocation::Load { machines, events })
 }
 
 fn call_of(
@@ -71,6 +89,7 @@ fn operator_of(
 ) -> Result<Option<Invocation>, NoMemory>
     ensures value { IfOk result (λ asked. asked
         ≡ operator_of kind (rows_of (found_of matches.now))) }
+    ensures machine { IfOk result HasLoadMachine }
 {
     match operator_command_of(alloc, matches, kind)? {
         Some(command) => Ok(Some(Invocation::Operator(call_of(alloc, matches, command)?))),
@@ -86,10 +105,13 @@ pub(crate) fn asked_of(
     kind: CommandKind,
 ) -> Result<Option<Invocation>, NoMemory>
     ensures value { IfOk result (λ asked. asked ≡ asked_of kind (rows_of (found_of matches.now))) }
+    ensures machine { IfOk result HasLoadMachine }
 {
     match kind {
         CommandKind::Pipe => pipe_of(alloc, matches),
+        CommandKind::Serve => Ok(Some(serve_of(alloc, matches)?)),
         CommandKind::PolicyCheck => Ok(Some(policy_check_of(alloc, matches)?)),
+        CommandKind::Load => Ok(load_of(matches)),
         CommandKind::Operator(kind) => operator_of(alloc, matches, kind),
     }
 }

@@ -7,8 +7,12 @@ pub enum Invocation {
     /// To serve requests on the source and answer on the sink, with the settings of a file, and a
     /// pre-auth key that the tailnet begins with.
     Pipe { settings: Text, seed: Option<Text> },
+    /// To serve the connections that come at the address in this settings file.
+    Serve { settings: Text },
     /// To check the policy in this file.
     PolicyCheck { file: Text },
+    /// To run the requests of 1 to 512 machines and up to 100000 events through the program.
+    Load { machines: u32, events: u32 },
     /// To send one request to a server.
     Operator(OperatorCall),
 }

@@ -5,10 +5,10 @@ ghost use Rattle.command_words.specs.Words.{line_in, table_line};
 
 use crate::argument::Argument;
 use crate::argument::Argument::{
-    Ephemeral, Expiry, File, Id, List, Login, Name, Pending, Reusable, Seed, Server, Settings,
-    Tags, Token,
+    Ephemeral, Events, Expiry, File, Id, List, Login, Machines, Name, Pending, Reusable, Seed,
+    Server, Settings, Tags, Token,
 };
-use CommandKind::{Operator, Pipe, PolicyCheck};
+use CommandKind::{Load, Operator, Pipe, PolicyCheck, Serve};
 use OperatorKind::{
     DnsGet, DnsSet, KeyAdd, KeyExpire, KeyList, NodeDel, NodeExpire, NodeList, NodeRename,
     NodeRoutes, NodeTags, PendingAdmit, PendingList, PolicyGet, PolicySet, Sweep, UserAdd, UserDel,
@@ -19,7 +19,9 @@ use OperatorKind::{
 #[derive(Clone, Copy)]
 pub enum CommandKind {
     Pipe,
+    Serve,
     PolicyCheck,
+    Load,
     Operator(OperatorKind),
 }
 
@@ -48,9 +50,11 @@ pub enum OperatorKind {
 }
 
 /// Each command: its name, what it leads to, and its arguments, positional ones in their order.
-pub const LINES: [(&str, CommandKind, &[Argument]); 21] = [
+pub const LINES: [(&str, CommandKind, &[Argument]); 23] = [
     ("pipe", Pipe, &[Settings, Seed]),
+    ("serve", Serve, &[Settings]),
     ("policy-check", PolicyCheck, &[File]),
+    ("load", Load, &[Machines, Events]),
     ("user-list", Operator(UserList), &[Server, Token]),
     ("user-add", Operator(UserAdd), &[Name, Server, Token]),
     ("user-del", Operator(UserDel), &[Login, Server, Token]),

@@ -1,7 +1,7 @@
 //! The values that `clap` found for arguments.
-ghost use Rattle.std.specs.Prelude.{◌≡◌, IfOk};
+ghost use Rattle.std.specs.Prelude.{◌≡◌, ◌<◌, ◌≤◌, ◌^◌, IfOk, IfSome};
 ghost use Rattle.clap.specs.Words.{found_of, rows_of};
-ghost use Rattle.command_words.specs.Arguments.{given_id, is_set, given_option, given_text};
+ghost use Rattle.command_words.specs.Arguments.{given_events, given_id, given_machines, given_number, is_set, given_option, given_text};
 
 use crate::argument::Argument;
 use clap::ArgMatches;
@@ -10,6 +10,11 @@ use tail_base::{NoMemory, Text, number_in};
 
 /// The most that an id may be.
 const ID_LIMIT: u64 = 2_147_483_647;
+
+/// The most machines and the most events of a load.
+const MACHINE_LIMIT: u64 = 512;
+
+const EVENT_LIMIT: u64 = 100_000;
 
 /// The value of an argument that has to be given, as it stands in the words.
 #[tactic(auto, using(crate::proofs::ValueLemmas::first_found))]
@@ -57,13 +62,42 @@ pub(crate) fn is_set(matches: &ArgMatches<'_>, argument: Argument) -> bool
     str_of(matches, argument) == "true"
 }
 
+/// The number in a range that an argument is.
+fn given_number(
+    matches: &ArgMatches<'_>,
+    argument: Argument,
+    least: u64,
+    greatest: u64,
+) -> Option<u32>
+    requires small { greatest < 2 ^ 32 }
+    ensures value { result ≡ given_number argument least greatest (rows_of (found_of matches.now)) }
+    ensures least { IfSome result (λ n. least ≤ n) }
+{
+    let text = str_of(matches, argument);
+    match number_in(text.as_bytes(), 10, least, greatest) {
+        Some(number) => Some(number as u32),
+        None => None,
+    }
+}
+
 /// The number that the id is.
 pub(crate) fn given_id(matches: &ArgMatches<'_>) -> Option<u32>
     ensures value { result ≡ given_id (rows_of (found_of matches.now)) }
 {
-    let text = str_of(matches, Argument::Id);
-    match number_in(text.as_bytes(), 10, 1, ID_LIMIT) {
-        Some(id) => Some(id as u32),
-        None => None,
-    }
+    given_number(matches, Argument::Id, 1, ID_LIMIT)
+}
+
+/// How many machines a load has.
+pub(crate) fn given_machines(matches: &ArgMatches<'_>) -> Option<u32>
+    ensures value { result ≡ given_machines (rows_of (found_of matches.now)) }
+    ensures some { IfSome result (λ n. 0 < n) }
+{
+    given_number(matches, Argument::Machines, 1, MACHINE_LIMIT)
+}
+
+/// How many events a load has.
+pub(crate) fn given_events(matches: &ArgMatches<'_>) -> Option<u32>
+    ensures value { result ≡ given_events (rows_of (found_of matches.now)) }
+{
+    given_number(matches, Argument::Events, 0, EVENT_LIMIT)
 }

@@ -1,6 +1,7 @@
 //! The words of the command line.
 ghost use Rattle.std.specs.Prelude.{◌≡◌, IfOk, map, string_bytes, true};
 ghost use Rattle.clap.specs.Words.{app_of, is_simple_and_free};
+ghost use Rattle.command_words.specs.Arguments.{HasLoadMachine};
 ghost use Rattle.command_words.specs.Words.{asked_in, invocation_of};
 
 use crate::arguments::asked_of;
@@ -22,6 +23,7 @@ fn asked_in<'a>(
     requires simple { is_simple_and_free (app_of command) ≡ true }
     ensures value { IfOk result (λ asked. asked
         ≡ asked_in (app_of command.entry) kind (map string_bytes words.entry.now)) }
+    ensures machine { IfOk result HasLoadMachine }
 {
     match command.try_get_matches_from(words) {
         Ok(matches) => asked_of(alloc, &matches, kind),
@@ -37,6 +39,7 @@ fn asked_in<'a>(
 #[tactic(auto, unfolding(crate::specs::Words::invocation_of))]
 pub fn read_invocation(alloc: Global, words: &[String]) -> Result<Option<Invocation>, NoMemory>
     ensures value { IfOk result (λ asked. asked ≡ invocation_of (map string_bytes words.now)) }
+    ensures machine { IfOk result HasLoadMachine }
 {
     let [name, ..] = words else {
         return Ok(None);

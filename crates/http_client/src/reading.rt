@@ -17,6 +17,7 @@ pub fn read_answer<I: Source>(alloc: Global, input: &mut I, buffer: &mut Buffer)
     ensures taken { TakesAnswer (I.left input.old) (I.left input.new) buffer.old buffer.new result }
     ensures later { I.read_faults input.old ≤ I.read_faults input.new }
     ensures cause { result ≡ ReadFault → Rose (I.read_faults input.old) (I.read_faults input.new) }
+    ensures besides { I.besides_left input.new ≡ I.besides_left input.old }
 {
     let Ok(mut headers) = vec![in alloc; EMPTY_HEADER_SPAN; ROOM] else {
         return TakenAnswer::NoMemory;

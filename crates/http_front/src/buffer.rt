@@ -69,6 +69,7 @@ fn read_more<I: Source>(input: &mut I, bytes: &mut Vec<u8>) -> Refill
     ensures refills { Refills (I.left input.old) (I.left input.new) bytes.old.items bytes.new.items result }
     ensures later { I.read_faults input.old ≤ I.read_faults input.new }
     ensures cause { result ≡ Failed → Rose (I.read_faults input.old) (I.read_faults input.new) }
+    ensures besides { I.besides_left input.new ≡ I.besides_left input.old }
 {
     if bytes.reserve(PIECE).is_err() {
         return Refill::NoMemory;
@@ -142,6 +143,7 @@ impl Buffer {
         ensures refills { Refills (I.left input.old) (I.left input.new) self.old self.new result }
         ensures later { I.read_faults input.old ≤ I.read_faults input.new }
         ensures cause { result ≡ Failed → Rose (I.read_faults input.old) (I.read_faults input.new) }
+        ensures besides { I.besides_left input.new ≡ I.besides_left input.old }
     {
         if self.at > 0 {
             drop_front(&mut self.bytes, self.at);

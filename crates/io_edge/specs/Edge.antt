@@ -1,5 +1,5 @@
 -- What the calls of the outside do to what an object tells, and to its count of faults.
-use Rattle.std.specs.Prelude.{◌≡◌, ◌≤◌, ◌+◌, ◌^◌, ◌-◌, ℕ, Bool, IsTrue, min, Option, Some, List, ◌++◌, IfSome}
+use Rattle.std.specs.Prelude.{◌≡◌, ◌≤◌, ◌+◌, ◌^◌, ◌-◌, ℕ, Bool, IsTrue, min, Option, Some, None, List, ◌++◌, IfSome}
 use Rattle.std.specs.Option.{option_map}
 
 -- a count has risen, or stands at its end
@@ -26,6 +26,16 @@ and_held held bytes = option_map (λ before. before ++ bytes) held
 -- where it is told, it is this
 abbrev pub IsWhereTold : {A : Type 0} → A → Option A → Type 0
 IsWhereTold x told = IfSome told (λ y. x ≡ y)
+
+-- what an object tells besides what is read from it, or besides what is written to it: bytes, addresses that it was asked for, and a count of faults
+pub record Besides : Type 0 where
+  pub bytes : Option (List ℕ)
+  pub asked : Option (List (List ℕ))
+  pub faults : ℕ
+
+-- an object that is read alone, or written alone, tells nothing besides
+abbrev pub nothing_besides : Besides
+nothing_besides = record { bytes = None; asked = None; faults = 0 }
 
 -- where it is still told, it was told before, and is this; an object may stop telling
 abbrev pub StillTells : {A : Type 0} → Option A → Option A → Type 0

@@ -1,5 +1,5 @@
 //! A connection that is opened to an address.
-ghost use Rattle.std.specs.Prelude.{◌≡◌, ◌≤◌, ℕ, Option, None, List, true, IsErr, IsErrOf};
+ghost use Rattle.std.specs.Prelude.{◌≡◌, ◌≤◌, ℕ, Option, None, List, true, refl, IsErr, IsErrOf};
 ghost use Rattle.io_edge.specs.Edge.{Counted, Rose};
 ghost use Rattle.io_edge.specs.Asked.{and_asked, IsAsked};
 
@@ -20,6 +20,15 @@ pub trait Link: Source + Sink {
         ensures reads_later { Self.read_faults self.old ≤ Self.read_faults self.new }
         ensures writes_later { Self.write_faults self.old ≤ Self.write_faults self.new }
         ensures cause { IsErrOf result EdgeFault.Failed → Rose (Self.read_faults self.old) (Self.read_faults self.new) };
+
+    /// A read leaves what was written, the addresses that it was asked for, and the count of failed writes.
+    ghost unread: { (l : Self) → Self.besides_left l
+        ≡ record { bytes = Self.holds l; asked = asked l; faults = Self.write_faults l } };
+
+    /// A write leaves what is left to read, the addresses that it was asked for, and the count of failed
+    /// reads.
+    ghost unwritten: { (l : Self) → Self.besides_held l
+        ≡ record { bytes = Self.left l; asked = asked l; faults = Self.read_faults l } };
 }
 
 /// The link of a program that connects to nothing: each call fails.
@@ -47,9 +56,12 @@ impl Source for NoLink {
 
     ghost read_faults = { λ s. s.failed_reads };
 
+    ghost besides_left = { λ s. record { bytes = None; asked = None; faults = s.failed_writes } };
+
     fn read(&mut self, _into: &mut [u8]) -> Result<usize, Failed>
         ensures fails { IsErr result }
         ensures cause { Counted (⟦<NoLink as Source>⟧.read_faults self.old) (⟦<NoLink as Source>⟧.read_faults self.new) true }
+        ensures besides { ⟦<NoLink as Source>⟧.besides_left self.new ≡ ⟦<NoLink as Source>⟧.besides_left self.old }
     {
         self.failed_reads = self.failed_reads.saturating_add(1);
         Err(Failed)
@@ -61,9 +73,12 @@ impl Sink for NoLink {
 
     ghost write_faults = { λ s. s.failed_writes };
 
+    ghost besides_held = { λ s. record { bytes = None; asked = None; faults = s.failed_reads } };
+
     fn write(&mut self, _from: &[u8]) -> Result<usize, Failed>
         ensures fails { IsErr result }
         ensures cause { Counted (⟦<NoLink as Sink>⟧.write_faults self.old) (⟦<NoLink as Sink>⟧.write_faults self.new) true }
+        ensures besides { ⟦<NoLink as Sink>⟧.besides_held self.new ≡ ⟦<NoLink as Sink>⟧.besides_held self.old }
     {
         self.failed_writes = self.failed_writes.saturating_add(1);
         Err(Failed)
@@ -72,6 +87,10 @@ impl Sink for NoLink {
 
 impl Link for NoLink {
     ghost asked = { λ _. None };
+
+    ghost unread = { λ _. refl };
+
+    ghost unwritten = { λ _. refl };
 
     fn connect(&mut self, _alloc: Global, _address: &str) -> Result<(), EdgeFault>
         ensures fails { result ≡ Err EdgeFault.Failed }

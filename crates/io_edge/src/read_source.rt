@@ -1,5 +1,6 @@
 //! A source over a reader.
 ghost use Rattle.std.specs.Prelude.{◌≡◌, None};
+ghost use Rattle.io_edge.specs.Edge.{nothing_besides};
 
 use crate::{Failed, Source};
 use std::io::Read;
@@ -24,6 +25,8 @@ impl<R: Read> Source for ReadSource<R> {
     ghost left = { λ _. None };
 
     ghost read_faults = { λ s. s.failed };
+
+    ghost besides_left = { λ _. nothing_besides };
 
     fn read(&mut self, into: &mut [u8]) -> Result<usize, Failed> {
         match self.reader.read(into) {

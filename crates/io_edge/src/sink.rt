@@ -1,6 +1,6 @@
 //! Where bytes go.
 ghost use Rattle.std.specs.Prelude.{◌≡◌, ◌≤◌, ◌<◌, ℕ, Option, Some, None, List, [], length, take, IfOk, OnErr, is_err};
-ghost use Rattle.io_edge.specs.Edge.{Counted, and_held};
+ghost use Rattle.io_edge.specs.Edge.{Besides, Counted, and_held, nothing_besides};
 
 use crate::{Failed, Faults};
 use std::alloc::Global;
@@ -14,12 +14,16 @@ pub trait Sink {
     /// How often a write has failed.
     ghost write_faults: { Self → ℕ };
 
+    /// What it tells besides, as a link that is read, too, does. A write leaves it as it is.
+    ghost besides_held: { Self → Besides };
+
     /// Appends bytes from the front of the slice, and says how many: at least 1 where there is one.
     fn write(&mut self, from: &[u8]) -> Result<usize, Failed>
         ensures bound { IfOk result (λ n. n ≤ length from.now) }
         ensures progress { IfOk result (λ n. 0 < length from.now → 0 < n) }
         ensures appended { IfOk result (λ n. holds self.new ≡ and_held (holds self.old) (take n from.now)) }
         ensures err { OnErr result (holds self.new ≡ holds self.old) }
+        ensures besides { besides_held self.new ≡ besides_held self.old }
         ensures cause { Counted (write_faults self.old) (write_faults self.new) (is_err result) };
 }
 
@@ -55,6 +59,8 @@ impl Sink for MemorySink {
     ghost holds = { λ s. Some s.bytes.items };
 
     ghost write_faults = { λ s. s.faults.count };
+
+    ghost besides_held = { λ _. nothing_besides };
 
     fn write(&mut self, from: &[u8]) -> Result<usize, Failed> {
         if self.faults.next() {

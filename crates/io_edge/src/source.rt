@@ -1,6 +1,6 @@
 //! Where bytes come from.
 ghost use Rattle.std.specs.Prelude.{◌≡◌, ◌≤◌, ◌<◌, ℕ, Option, Some, List, [], length, take, drop, IfOk, IfSome, OnErr, is_err};
-ghost use Rattle.io_edge.specs.Edge.{Counted, and_then_left, IsWhereTold};
+ghost use Rattle.io_edge.specs.Edge.{Besides, Counted, and_then_left, nothing_besides, IsWhereTold};
 
 use crate::{Failed, Faults};
 use tail_base::{Bytes, Items};
@@ -13,6 +13,9 @@ pub trait Source {
     /// How often a read has failed.
     ghost read_faults: { Self → ℕ };
 
+    /// What it tells besides, as a link that is written, too, does. A read leaves it as it is.
+    ghost besides_left: { Self → Besides };
+
     /// Moves bytes from the front of what is left into the slice, and says how many. 0 into a slice
     /// that isn't empty is the end.
     fn read(&mut self, into: &mut [u8]) -> Result<usize, Failed>
@@ -20,6 +23,7 @@ pub trait Source {
         ensures moved { IfOk result (λ n. left self.old ≡ and_then_left (take n into.new) (left self.new)) }
         ensures end { IfOk result (λ n. n ≡ 0 → 0 < length into.old → IsWhereTold [] (left self.new)) }
         ensures err { OnErr result (left self.new ≡ left self.old) }
+        ensures besides { besides_left self.new ≡ besides_left self.old }
         ensures cause { Counted (read_faults self.old) (read_faults self.new) (is_err result) };
 }
 
@@ -51,6 +55,8 @@ impl Source for MemorySource {
     ghost left = { λ s. Some (drop s.at s.bytes) };
 
     ghost read_faults = { λ s. s.faults.count };
+
+    ghost besides_left = { λ _. nothing_besides };
 
     fn read(&mut self, into: &mut [u8]) -> Result<usize, Failed> {
         if self.faults.next() {

@@ -1,5 +1,6 @@
 //! A sink over a writer.
 ghost use Rattle.std.specs.Prelude.{◌≡◌, None};
+ghost use Rattle.io_edge.specs.Edge.{nothing_besides};
 
 use crate::{Failed, Sink};
 use std::io::Write;
@@ -26,6 +27,8 @@ impl<W: Write> Sink for WriteSink<W> {
     ghost holds = { λ _. None };
 
     ghost write_faults = { λ s. s.failed };
+
+    ghost besides_held = { λ _. nothing_besides };
 
     /// A writer that takes nothing of a piece that isn't empty has failed.
     fn write(&mut self, from: &[u8]) -> Result<usize, Failed> {

@@ -1,5 +1,5 @@
 //! Doors in memory.
-ghost use Rattle.std.specs.Prelude.{◌≡◌, ◌≤◌, ◌<◌, ◌+◌, ◌-◌, ◌^◌, ℕ, Some, [], ◌∷◌, ◌++◌, length, map, min, sum_by, All, IfOk, IfSome, OnOk, OnErr, slice_get, drop};
+ghost use Rattle.std.specs.Prelude.{◌≡◌, ◌≤◌, ◌<◌, ◌+◌, ◌-◌, ◌^◌, ℕ, Some, [], ◌∷◌, ◌++◌, length, map, min, sum_by, All, IfOk, IfSome, OnOk, OnErr, slice_get, drop, option_map, unwrap_or};
 ghost use Rattle.io_edge.specs.Asked.{and_asked};
 ghost use Rattle.io_edge.specs.Door.{IsOpenedWith, IsToldOfEach, for_place};
 ghost use Rattle.io_edge.specs.Edge.{Counted};
@@ -56,6 +56,25 @@ impl MemoryDoors {
             asked: Vec::new(alloc),
             faults: Faults::new(fails),
         })
+    }
+
+    /// The connections that the door at this place has finished, when it was given back: what is left of
+    /// each, and what was written on it. None where there is no such door.
+    pub fn finished_at(&self, place: usize) -> &[(MemorySource, MemorySink)]
+        ensures value { result.now ≡ unwrap_or
+            (option_map (λ d. d.finished.items) (slice_get self.now.places.items place)) [] }
+    {
+        match self.places.as_slice().get(place) {
+            Some(door) => door.finished.as_slice(),
+            None => &[],
+        }
+    }
+
+    /// What was asked for, in order.
+    pub fn asked(&self) -> &[AskedOpening]
+        ensures value { result.now ≡ self.now.asked.items }
+    {
+        self.asked.as_slice()
     }
 
     /// The door for a place: as it is to be opened, or one where nothing comes.

@@ -7,6 +7,6 @@ mod link;
 mod pause;
 
 pub use door::MemoryDoor;
-pub use doors::{DoorPlan, MemoryDoors};
+pub use doors::{AskedOpening, DoorPlan, MemoryDoors};
 pub use link::MemoryLink;
 pub use pause::MemoryPause;

@@ -1,5 +1,5 @@
 //! A link in memory.
-ghost use Rattle.std.specs.Prelude.{◌≡◌, ◌≤◌, Some, [], drop, false, length, true};
+ghost use Rattle.std.specs.Prelude.{◌≡◌, ◌≤◌, Some, [], drop, false, length, refl, true};
 
 use io_edge::{EdgeFault, Failed, Faults, Link, Sink, Source};
 use std::alloc::Global;
@@ -74,6 +74,12 @@ impl Source for MemoryLink {
 
     ghost read_faults = { λ s. s.failed_reads };
 
+    ghost besides_left = { λ s. record {
+      bytes = Some s.written.items;
+      asked = Some s.asked;
+      faults = s.failed_writes;
+    } };
+
     fn read(&mut self, into: &mut [u8]) -> Result<usize, Failed> {
         if self.fails_next() {
             self.failed_reads = self.failed_reads.saturating_add(1);
@@ -91,6 +97,12 @@ impl Sink for MemoryLink {
 
     ghost write_faults = { λ s. s.failed_writes };
 
+    ghost besides_held = { λ s. record {
+      bytes = Some (drop s.at s.answer);
+      asked = Some s.asked;
+      faults = s.failed_reads;
+    } };
+
     fn write(&mut self, from: &[u8]) -> Result<usize, Failed> {
         if self.fails_next() {
             self.failed_writes = self.failed_writes.saturating_add(1);
@@ -106,6 +118,10 @@ impl Sink for MemoryLink {
 
 impl Link for MemoryLink {
     ghost asked = { λ s. Some s.asked };
+
+    ghost unread = { λ _. refl };
+
+    ghost unwritten = { λ _. refl };
 
     fn connect(&mut self, alloc: Global, address: &str) -> Result<(), EdgeFault> {
         let fails = self.plan.next();

@@ -93,7 +93,9 @@ fn call_in(asked: &Option<Invocation>) -> Result<&OperatorCall, Fail> {
     match asked {
         Some(Invocation::Operator(call)) => Ok(call),
         Some(Invocation::Pipe { .. }) => Err(Fail::from("pipe")),
+        Some(Invocation::Serve { .. }) => Err(Fail::from("serve")),
         Some(Invocation::PolicyCheck { .. }) => Err(Fail::from("policy-check")),
+        Some(Invocation::Load { .. }) => Err(Fail::from("load")),
         None => Err(Fail::from("no command")),
     }
 }

@@ -16,8 +16,12 @@ pipe --seed k1 -- a.toml = pipe a.toml k1
 pipe -- a.toml = pipe a.toml
 pipe -- -a = pipe -a
 pipe --seed=-k a.toml = pipe a.toml -k
+serve a.toml = serve a.toml
+serve -- -a = serve -a
 policy-check a.hujson = policy-check a.hujson
 policy-check -- -a = policy-check -a
+load 1 0 = load 1 0
+load 512 100000 = load 512 100000
 user-list --server s --token t = GET /api/v1/user
 user-list --token=t --server=s = GET /api/v1/user
 user-add Ann --server s --token t = POST /api/v1/user {"name":"Ann"}
@@ -53,8 +57,13 @@ help = none
 --help = none
 -h = none
 --version = none
-serve a.toml = none
-load 1 1 = none
+load = none
+load 1 = none
+load 0 1 = none
+load 513 1 = none
+load 01 1 = none
+load 1 100001 = none
+load 1 1 1 = none
 pipe = none
 pipe a.toml b = none
 pipe --seed a.toml = none
@@ -69,6 +78,10 @@ pipe a.toml --seed ké = none
 pipe a.toml --server s = none
 pipe a.toml --seed=k1 --seed=k2 = none
 pipe a.toml --help = none
+serve = none
+serve a.toml b = none
+serve a.toml --seed k1 = none
+serve --help = none
 policy-check = none
 policy-check a.hujson b = none
 policy-check a.hujson --seed k1 = none
@@ -139,7 +152,13 @@ fn shown_invocation(alloc: Global, asked: &Option<Invocation>) -> Result<String,
         Some(Invocation::PolicyCheck { file }) => {
             Ok(format!(in alloc; "policy-check {}", file.as_str())?)
         }
+        Some(Invocation::Load { machines, events }) => {
+            Ok(format!(in alloc; "load {machines} {events}")?)
+        }
         Some(Invocation::Pipe { settings, seed }) => pipe_line(alloc, settings, seed),
+        Some(Invocation::Serve { settings }) => {
+            Ok(format!(in alloc; "serve {}", settings.as_str())?)
+        }
     }
 }
 

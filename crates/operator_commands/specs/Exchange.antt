@@ -1,5 +1,5 @@
 -- One request over a link, and its answer.
-use Rattle.std.specs.Prelude.{◌≡◌, ◌⊎◌, ℕ, true, Option, List, [], Result, Ok, Err}
+use Rattle.std.specs.Prelude.{◌≡◌, ◌⊎◌, ◌≤◌, ℕ, Bool, false, true, Option, List, [], Result, Ok, Err}
 use Rattle.io_edge.specs.Asked.{and_asked}
 use Rattle.io_edge.specs.Edge.{IsWhereTold, Rose, and_held, and_then_left}
 use Rattle.command_words.specs.declared.invocation.OperatorCall.{OperatorCall}
@@ -37,11 +37,13 @@ link_point left read_faults holds write_faults asked l = record {
   write_faults = write_faults l;
 }
 
--- the link was asked for the address; what is left and what was written stay
+-- the link was asked for the address; what is left and what was written stay, and no count fell
 pub record Met (address : List ℕ) (old new : LinkPoint) : Type 0 where
   pub asked : new.asked ≡ and_asked old.asked address
   pub left : new.left ≡ old.left
   pub holds : new.holds ≡ old.holds
+  pub reads_later : old.read_faults ≤ new.read_faults
+  pub writes_later : old.write_faults ≤ new.write_faults
 
 -- the link was asked for nothing; what is left and what was written stay
 pub record Unmet (old new : LinkPoint) : Type 0 where
@@ -57,6 +59,22 @@ IsConnected address old new (Err fault.NoMemory) = Unmet old new
 IsConnected address old new (Err fault.WriteFault) = ⊥
 IsConnected address old new (Err fault.FileFault) = ⊥
 IsConnected address old new (Err fault.TooLarge) = ⊥
+
+-- the bytes were written behind what was written before, or a front of them where a write failed; nothing was asked or read
+pub record RequestWritten (bytes : List ℕ) (failed : Bool) (old new : LinkPoint) : Type 0 where
+  pub asked : new.asked ≡ old.asked
+  pub left : new.left ≡ old.left
+  pub read_faults : new.read_faults ≡ old.read_faults
+  pub wrote : Wrote old.holds new.holds old.write_faults new.write_faults bytes failed
+
+-- what writing a request comes to
+abbrev pub IsRequestSent : List ℕ → LinkPoint → LinkPoint → Result (Unit {0}) Unanswered → Type 0
+IsRequestSent bytes old new (Ok done) = RequestWritten bytes false old new
+IsRequestSent bytes old new (Err fault.WriteFault) = RequestWritten bytes true old new
+IsRequestSent bytes old new (Err fault.ReadFault) = ⊥
+IsRequestSent bytes old new (Err fault.NoMemory) = ⊥
+IsRequestSent bytes old new (Err fault.FileFault) = ⊥
+IsRequestSent bytes old new (Err fault.TooLarge) = ⊥
 
 -- one whole answer was read
 pub record ReadWhole (left left_after : Option (List ℕ)) (answer : ServerAnswer) : Type 0 where
@@ -86,22 +104,20 @@ pub record Unconnected (address : List ℕ) (old new : LinkPoint) (answer : Resu
   pub connect : IsConnected address old new (Err why)
   pub answer_is : answer ≡ Err why
 
--- it was connected, and a write failed, so that a front of the bytes was written
+-- it was asked for the address, and a write failed: it holds a front of the bytes behind what it held, and nothing was read
 pub record Unwritten (address bytes : List ℕ) (old new : LinkPoint) (answer : Result ServerAnswer Unanswered) : Type 0 where
-  pub met : LinkPoint
-  pub connect : Met address old met
-  pub wrote : Wrote met.holds new.holds met.write_faults new.write_faults bytes true
+  pub asked : new.asked ≡ and_asked old.asked address
+  pub left : new.left ≡ old.left
+  pub wrote : Wrote old.holds new.holds old.write_faults new.write_faults bytes true
   pub answer_is : answer ≡ Err fault.WriteFault
 
--- it was connected, all bytes were written, and an answer was read or none was
+-- it was asked for the address alone, holds the bytes behind what it held, and of what was left an answer was read, or none was
 pub record Replied (address bytes : List ℕ) (old new : LinkPoint) (answer : Result ServerAnswer Unanswered) : Type 0 where
-  pub met : LinkPoint
-  pub sent : LinkPoint
-  pub connect : Met address old met
-  pub whole : sent.holds ≡ and_held met.holds bytes
-  pub read : IsAnswerRead sent.left new.left sent.read_faults new.read_faults answer
+  pub asked : new.asked ≡ and_asked old.asked address
+  pub holds : new.holds ≡ and_held old.holds bytes
+  pub read : IsAnswerRead old.left new.left old.read_faults new.read_faults answer
 
--- What became of a request. Between two of its steps the link is at a point that its own calls led to.
+-- what became of a request
 abbrev pub Exchanged : List ℕ → List ℕ → LinkPoint → LinkPoint → Result ServerAnswer Unanswered → Type 0
 Exchanged address bytes old new answer =
     Unconnected address old new answer ⊎ (Unwritten address bytes old new answer ⊎ Replied address bytes old new answer)

@@ -1,5 +1,9 @@
 //! One request over a link, and its answer.
-ghost use Rattle.operator_commands.specs.Exchange.{Exchanged, IsAnswerRead, IsConnected, link_point};
+ghost use Rattle.std.specs.Prelude.{◌≡◌};
+ghost use Rattle.io_edge.specs.Edge.{Rose};
+ghost use Rattle.http_client.specs.Taking.{TakesAnswer};
+ghost use Rattle.http_client.specs.declared.answer.TakenAnswer.TheVariants.{ReadFault};
+ghost use Rattle.operator_commands.specs.Exchange.{Exchanged, IsAnswerRead, IsConnected, IsRequestSent, link_point};
 
 use crate::unanswered::Unanswered;
 use http_client::{ServerAnswer, TakenAnswer, read_answer};
@@ -8,6 +12,7 @@ use io_edge::{EdgeFault, Link};
 use run_ends::write_all;
 use std::alloc::Global;
 
+/// Connects the link to the address.
 fn connect<L: Link>(alloc: Global, link: &mut L, address: &str) -> Result<(), Unanswered>
     ensures connected { let at = link_point L.left L.read_faults L.holds L.write_faults L.asked in
         IsConnected address.now (at link.old) (at link.new) result }
@@ -19,15 +24,38 @@ fn connect<L: Link>(alloc: Global, link: &mut L, address: &str) -> Result<(), Un
     }
 }
 
+/// Writes the bytes whole.
+fn send_all<L: Link>(link: &mut L, bytes: &[u8]) -> Result<(), Unanswered>
+    ensures sent { let at = link_point L.left L.read_faults L.holds L.write_faults L.asked in
+        IsRequestSent bytes.now (at link.old) (at link.new) result }
+{
+    match write_all(link, bytes) {
+        Ok(()) => Ok(()),
+        Err(_) => Err(Unanswered::WriteFault),
+    }
+}
+
+/// The answer of the bytes held and those that the link gives.
+fn take_answer<L: Link>(alloc: Global, link: &mut L, buffer: &mut Buffer) -> TakenAnswer
+    ensures taken { TakesAnswer (L.left link.old) (L.left link.new) buffer.old buffer.new result }
+    ensures cause { result ≡ ReadFault → Rose (L.read_faults link.old) (L.read_faults link.new) }
+    ensures asked { L.asked link.new ≡ L.asked link.old }
+    ensures holds { L.holds link.new ≡ L.holds link.old }
+{
+    read_answer(alloc, link, buffer)
+}
+
 /// The answer that the link gives.
 fn answer_of<L: Link>(alloc: Global, link: &mut L) -> Result<ServerAnswer, Unanswered>
     ensures read { IsAnswerRead (L.left link.old) (L.left link.new)
         (L.read_faults link.old) (L.read_faults link.new) result }
+    ensures asked { L.asked link.new ≡ L.asked link.old }
+    ensures holds { L.holds link.new ≡ L.holds link.old }
 {
     let Ok(mut buffer) = Buffer::new(alloc) else {
         return Err(Unanswered::NoMemory);
     };
-    match read_answer(alloc, link, &mut buffer) {
+    match take_answer(alloc, link, &mut buffer) {
         TakenAnswer::Answer(answer) => Ok(answer),
         TakenAnswer::Cut => Err(Unanswered::ReadFault),
         TakenAnswer::Bad => Err(Unanswered::ReadFault),
@@ -47,8 +75,6 @@ pub(crate) fn exchange<L: Link>(
         Exchanged address.now bytes.now (at link.old) (at link.new) result }
 {
     connect(alloc, link, address)?;
-    if write_all(link, bytes).is_err() {
-        return Err(Unanswered::WriteFault);
-    }
+    send_all(link, bytes)?;
     answer_of(alloc, link)
 }

@@ -1,6 +1,6 @@
 //! Bytes written whole.
 ghost use Rattle.run_ends.specs.Pieces.{Sent, Wrote};
-ghost use Rattle.std.specs.Prelude.{is_err};
+ghost use Rattle.std.specs.Prelude.{◌≡◌, is_err};
 
 use crate::closed::Closed;
 use io_edge::{Failed, Sink};
@@ -9,6 +9,7 @@ use io_edge::{Failed, Sink};
 pub fn write_all<O: Sink>(output: &mut O, bytes: &[u8]) -> Result<(), Failed>
     ensures wrote { Wrote (O.holds output.old) (O.holds output.new)
         (O.write_faults output.old) (O.write_faults output.new) bytes.now (is_err result) }
+    ensures besides { O.besides_held output.new ≡ O.besides_held output.old }
 {
     let mut rest = bytes;
     while !rest.is_empty() {

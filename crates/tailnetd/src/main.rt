@@ -1,19 +1,13 @@
 //! `tailnetd`: the control server of a private tailnet.
 #![tactic(auto)]
 
-#[cfg(test)]
-mod tests;
-mod top;
-mod wordless;
-
-use crate::top::tailnetd;
-use crate::wordless::end_wordless;
-use io_edge::{HostClock, HostEntropy, HostFiles, NoDoors, NoPause, ReadSource, WriteSink};
+use io_edge::{HostClock, HostEntropy, HostFiles, ReadSource, WriteSink};
 use keeper_sqlite::HostOpener;
 use std::io::ErrorKind;
 use std::process::ExitCode;
 use std::{env, io};
-use tcp_edge::TcpLink;
+use tailnet_top::{end_wordless, tailnetd};
+use tcp_edge::{HostPause, TcpDoors, TcpLink};
 
 /// The words after the program's name.
 fn words_of(rt: &HostRuntime) -> io::Result<Vec<String>> {
@@ -24,7 +18,7 @@ fn words_of(rt: &HostRuntime) -> io::Result<Vec<String>> {
     Ok(words)
 }
 
-/// The program over the process's own streams, files, databases, clock and random source.
+/// The program over the process's own streams, files, databases, clock, random source and sockets.
 fn main(rt: HostRuntime) -> ExitCode {
     let alloc = rt.alloc();
     let words = match words_of(&rt) {
@@ -47,8 +41,8 @@ fn main(rt: HostRuntime) -> ExitCode {
         &mut HostOpener::new(rt),
         &mut HostClock::new(rt),
         &mut HostEntropy::new(rt),
-        &mut NoDoors::new(),
-        &NoPause,
+        &mut TcpDoors::new(rt),
+        &HostPause::new(rt),
         &mut TcpLink::new(rt),
     );
     ExitCode::from(status.number())

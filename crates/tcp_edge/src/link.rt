@@ -1,5 +1,5 @@
 //! A link over TCP.
-ghost use Rattle.std.specs.Prelude.{◌≡◌, None};
+ghost use Rattle.std.specs.Prelude.{◌≡◌, None, refl};
 
 use io_edge::{EdgeFault, Failed, Link, Sink, Source};
 use std::alloc::Global;
@@ -50,6 +50,8 @@ impl<R> Source for TcpLink<R> {
 
     ghost read_faults = { λ s. s.failed_reads };
 
+    ghost besides_left = { λ s. record { bytes = None; asked = None; faults = s.failed_writes } };
+
     fn read(&mut self, into: &mut [u8]) -> Result<usize, Failed> {
         if let Some(stream) = &mut self.stream {
             if let Ok(n) = stream.read(into) {
@@ -66,6 +68,8 @@ impl<R> Sink for TcpLink<R> {
 
     ghost write_faults = { λ s. s.failed_writes };
 
+    ghost besides_held = { λ s. record { bytes = None; asked = None; faults = s.failed_reads } };
+
     fn write(&mut self, from: &[u8]) -> Result<usize, Failed> {
         if let Some(stream) = &mut self.stream {
             match stream.write(from) {
@@ -80,6 +84,10 @@ impl<R> Sink for TcpLink<R> {
 
 impl<R: Net<Listener = TcpListener, Stream = TcpStream>> Link for TcpLink<R> {
     ghost asked = { λ _. None };
+
+    ghost unread = { λ _. refl };
+
+    ghost unwritten = { λ _. refl };
 
     fn connect(&mut self, _alloc: Global, address: &str) -> Result<(), EdgeFault> {
         match self.stream_to(address) {

@@ -1,5 +1,6 @@
 //! The half of a connection that is written.
 ghost use Rattle.std.specs.Prelude.{◌≡◌, ◌≤◌, ◌<◌, None, length, IfOk};
+ghost use Rattle.io_edge.specs.Edge.{nothing_besides};
 
 use crate::limits::TcpLimits;
 use crate::patience::millis_since;
@@ -78,6 +79,8 @@ impl<R: Clock> Sink for TcpSink<R> {
     ghost holds = { λ _. None };
 
     ghost write_faults = { λ s. s.failed };
+
+    ghost besides_held = { λ _. nothing_besides };
 
     fn write(&mut self, from: &[u8]) -> Result<usize, Failed> {
         match self.write_in_time(from) {

@@ -1,5 +1,6 @@
 //! The half of a connection that is read.
 ghost use Rattle.std.specs.Prelude.{◌≡◌, ◌≤◌, None, length, IfOk};
+ghost use Rattle.io_edge.specs.Edge.{nothing_besides};
 
 use crate::patience::Patience;
 use io_edge::{Failed, Source};
@@ -91,6 +92,8 @@ impl<R: Clock> Source for TcpSource<R> {
     ghost left = { λ _. None };
 
     ghost read_faults = { λ s. s.failed };
+
+    ghost besides_left = { λ _. nothing_besides };
 
     fn read(&mut self, into: &mut [u8]) -> Result<usize, Failed> {
         match read_in_time(&mut self.stream, &mut self.patience, into) {

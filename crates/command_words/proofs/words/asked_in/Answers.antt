@@ -11,6 +11,7 @@ returns-in-Ok c = record {
       (λ asked e. asked_when_taken (app_of c.args.command) c.args.kind _ _ asked (c.in-Ok.ensures.kinds c.requires.simple)
       (c.in-Ok.ensures.matches (and_parts _ _ c.requires.simple).0).0 e)
       c.asked_of.ensures.value;
+  machine = c.asked_of.ensures.machine;
 }
 
 pub returns : goal.returns
@@ -19,4 +20,5 @@ returns c = record {
     | inl memory ↦ absurd (c.in_default.not-OutOfMemory (c.kind.ensures ∙ memory))
     | inr among ↦ asked_when_refused (app_of c.args.command) c.args.kind _ _ among
   ];
+  machine = tt;
 }

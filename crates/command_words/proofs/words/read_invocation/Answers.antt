@@ -17,4 +17,5 @@ returns-in_ok-parser_of-in-Some c =
           (λ asked e. asked_for_words _ c.as_str.result.now texts.0 c.table_line.result _ _ asked begins c.table_line.ensures.value c.in-Some.is
           (c.in_ok-parser_of-in-Some.ensures).app e)
           c.asked_in.ensures.value;
+      machine = c.asked_in.ensures.machine;
     }

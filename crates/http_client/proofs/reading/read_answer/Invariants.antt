@@ -10,6 +10,7 @@ invariant-loop-answer g l = record {
   moved : g.I.Source.left l.fn.input ≡ and_then_left read (g.I.Source.left l.input);
   held : l.buffer ≡ l.fn.buffer ++ read;
   later : g.I.Source.read_faults l.fn.input ≤ g.I.Source.read_faults l.input;
+  besides : g.I.Source.besides_left l.input ≡ g.I.Source.besides_left l.fn.input;
 }
 
 abbrev pub decreases-loop-answer : goal.decreases-loop-answer

@@ -1,4 +1,4 @@
-use Rattle.std.proofs.Common.{ℕ, Bool, Option, List, length}
+use Rattle.std.proofs.Common.{◌≡◌, ℕ, Bool, Option, List, length}
 use Rattle.run_ends.specs.Pieces.{Wrote}
 use Rattle.run_ends.proofs.writing.write_all.Given as goal
 
@@ -7,7 +7,10 @@ abbrev pub invariant-loop-rest : goal.invariant-loop-rest
 invariant-loop-rest g l =
     let holds = g.O.Sink.holds in
     let faults = g.O.Sink.write_faults in
-    (new : Option (List ℕ)) (now : ℕ) (failed : Bool) → Wrote (holds l.output) new (faults l.output) now l.rest failed → Wrote (holds l.fn.output) new (faults l.fn.output) now l.fn.bytes failed
+    record {
+      wrote : (new : Option (List ℕ)) (now : ℕ) (failed : Bool) → Wrote (holds l.output) new (faults l.output) now l.rest failed → Wrote (holds l.fn.output) new (faults l.fn.output) now l.fn.bytes failed;
+      besides : g.O.Sink.besides_held l.output ≡ g.O.Sink.besides_held l.fn.output;
+    }
 
 abbrev pub decreases-loop-rest : goal.decreases-loop-rest
 decreases-loop-rest g l = length l.rest

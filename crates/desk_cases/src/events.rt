@@ -1,0 +1,112 @@
+//! Events of lines at a desk.
+ghost use Rattle.tailnet_desk.specs.Asks.{IsShort};
+
+use crate::asks::ask_of;
+use crate::parts::{cut, machine_key, node_key};
+use crate::replies::tell_reply;
+use moments::Moment;
+use row_keeper::MemoryKeeper;
+use std::alloc::Global;
+use std::test::Fail;
+use tail_base::{MachineKey, Text};
+use tailnet_desk::{Ask, Desk, Reply};
+
+/// The random words of each draw.
+const WORDS: [u64; 4] = [1, 2, 3, 4];
+
+fn tell(alloc: Global, told: &mut String, reply: &Reply) -> Result<(), Fail> {
+    tell_reply(alloc, told, reply)?;
+    Ok(())
+}
+
+fn ask(
+    alloc: Global,
+    desk: &mut Desk<MemoryKeeper>,
+    moment: Moment,
+    ask: &Ask,
+    told: &mut String,
+) -> Result<(), Fail>
+    requires short { IsShort ask.now }
+{
+    let reply = desk.ask(alloc, ask, moment, None);
+    tell(alloc, told, &reply)
+}
+
+/// A poll begins: the machine's key, its node key, the handle (`-` is nobody's), and the last number.
+fn attach(
+    alloc: Global,
+    desk: &mut Desk<MemoryKeeper>,
+    moment: Moment,
+    line: &str,
+    told: &mut String,
+) -> Result<(), Fail> {
+    let (machine, rest) = cut(line);
+    let (node, rest) = cut(rest);
+    let (handle, seq) = cut(rest);
+    let machine = machine_key(machine)?;
+    let node = node_key(node)?;
+    let handle = Text::from_str(alloc, handle)?;
+    let Ok(seq) = seq.parse::<u64>() else {
+        return Err(Fail::from("no number of a response"));
+    };
+    let reply = desk.attach(alloc, &machine, &node, &handle, seq, moment, Some(WORDS));
+    tell(alloc, told, &reply)
+}
+
+/// A poll fetches what is new: the machine's key and the handle.
+fn drain(
+    alloc: Global,
+    desk: &mut Desk<MemoryKeeper>,
+    moment: Moment,
+    line: &str,
+    told: &mut String,
+) -> Result<(), Fail> {
+    let (machine, handle) = cut(line);
+    let machine = machine_key(machine)?;
+    let handle = Text::from_str(alloc, handle)?;
+    let reply = desk.drain(alloc, &machine, &handle, moment).into_reply();
+    tell(alloc, told, &reply)
+}
+
+/// A poll ends: the machine's key and the handle.
+fn detach(
+    alloc: Global,
+    desk: &mut Desk<MemoryKeeper>,
+    moment: Moment,
+    line: &str,
+    told: &mut String,
+) -> Result<(), Fail> {
+    let (machine, handle) = cut(line);
+    let machine = machine_key(machine)?;
+    let handle = Text::from_str(alloc, handle)?;
+    desk.detach(&machine, &handle, moment);
+    tell(alloc, told, &Reply::Detached)
+}
+
+fn ask_line(
+    alloc: Global,
+    desk: &mut Desk<MemoryKeeper>,
+    moment: Moment,
+    line: &str,
+    told: &mut String,
+) -> Result<(), Fail> {
+    let asked = ask_of(alloc, line)?;
+    ask(alloc, desk, moment, &asked, told)
+}
+
+/// The event of a line, and what the desk replies.
+pub(crate) fn event(
+    alloc: Global,
+    desk: &mut Desk<MemoryKeeper>,
+    moment: Moment,
+    line: &str,
+    told: &mut String,
+) -> Result<(), Fail> {
+    let (kind, rest) = cut(line);
+    match kind {
+        "attach" => attach(alloc, desk, moment, rest, told),
+        "drain" => drain(alloc, desk, moment, rest, told),
+        "detach" => detach(alloc, desk, moment, rest, told),
+        _ => ask_line(alloc, desk, moment, line, told),
+    }
+}

@@ -1,0 +1,5 @@
+//! Tests of the command `load`.
+#![tactic(auto)]
+
+#[cfg(test)]
+mod loads;

@@ -1,0 +1,9 @@
+mod Serving
+mod Watching
+mod Stepping
+mod Loading
+mod Taken
+mod Rules
+mod Hearing
+mod Early
+mod Seeding

@@ -1,0 +1,16 @@
+pub mod Draws
+pub mod Tasks
+pub mod Knowing
+pub mod Messages
+pub mod Outside
+pub mod Hearing
+pub mod Watching
+pub mod Given
+pub mod Counting
+pub mod Report
+pub mod Steps
+pub mod Early
+pub mod Loads
+pub mod Served
+pub mod Running
+pub mod Beginning

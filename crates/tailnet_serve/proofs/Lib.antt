@@ -1,0 +1,9 @@
+pub mod SeatRuns
+pub mod Visiting
+pub mod Stopping
+pub mod Crewing
+pub mod Sharing
+pub mod Manned
+pub mod Closing
+pub mod Served
+pub mod FrontSync

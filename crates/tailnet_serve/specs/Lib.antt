@@ -1,0 +1,6 @@
+pub mod Runs
+pub mod Visits
+pub mod Works
+pub mod Crews
+pub mod Service
+pub mod Serve

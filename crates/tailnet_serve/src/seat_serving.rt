@@ -1,0 +1,71 @@
+//! A connection at a seat.
+ghost use Rattle.connections.specs.Connection.{IsConnection, told};
+ghost use Rattle.std.specs.Prelude.{◌≡◌, ◌<◌, []};
+ghost use Rattle.tailnet_serve.specs.Runs.{IsSeatStep};
+
+use connections::serve;
+use desk_front::Front;
+use io_edge::{Clock, Entropy, Pause, Sink, Source};
+use row_keeper::Keeper;
+use run_ends::Closed;
+use session_hub::{Hub, HubTurns, Seat};
+use std::alloc::Global;
+use std::sync::Wait;
+
+/// Serves a connection by the turns of a seat.
+fn serve_turns<'a, R: Wait, K: Keeper, I: Source, O: Sink, C: Clock, N: Entropy, A: Pause>(
+    alloc: Global,
+    front: &Front,
+    requests: u32,
+    turns: &mut HubTurns<'a, R, K>,
+    input: &mut I,
+    output: &mut O,
+    clock: &mut C,
+    entropy: &mut N,
+    pause: &A,
+    more: u32,
+) -> Closed
+    requires some { 0 < requests }
+    ensures same { turns.new.seat.ghost_name ≡ turns.old.seat.ghost_name }
+    ensures serves { let at = told I.left I.read_faults O.holds O.write_faults
+        C.answer N.word N.faults in
+        IsConnection IsSeatStep front.now more result requests []
+        (at input.old output.old clock.old entropy.old)
+        (at input.new output.new clock.new entropy.new)
+        turns.old.seat.now turns.new.seat.now }
+{
+    serve(
+        alloc, front, requests, turns, input, output, clock, entropy, pause, more,
+    )
+}
+
+/// Serves a connection at a seat of a hub: what the seat has seen before and after it is joined by the
+/// turns of the served requests. A poll that may wait has so many further drains at most; the pause is
+/// what it waits on, and what is told of events that change something.
+pub fn serve_seat<R: Wait, K: Keeper, I: Source, O: Sink, C: Clock, N: Entropy, A: Pause>(
+    rt: &R,
+    alloc: Global,
+    front: &Front,
+    requests: u32,
+    hub: &Hub<K>,
+    seat: &mut Seat<K>,
+    input: &mut I,
+    output: &mut O,
+    clock: &mut C,
+    entropy: &mut N,
+    pause: &A,
+    more: u32,
+) -> Closed
+    requires some { 0 < requests }
+    requires hub { seat.old.hub ≡ hub.now }
+    ensures serves { let at = told I.left I.read_faults O.holds O.write_faults
+        C.answer N.word N.faults in
+        IsConnection IsSeatStep front.now more result requests []
+        (at input.old output.old clock.old entropy.old)
+        (at input.new output.new clock.new entropy.new) seat.old seat.new }
+{
+    let mut turns = HubTurns { rt, hub, seat };
+    serve_turns(
+        alloc, front, requests, &mut turns, input, output, clock, entropy, pause, more,
+    )
+}

@@ -1,0 +1,5 @@
+//! Tries of the adapters over TCP.
+#![tactic(auto)]
+
+#[cfg(test)]
+mod tests;
