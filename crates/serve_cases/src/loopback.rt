@@ -1,0 +1,166 @@
+//! A registration over loopback, through the program's own listeners.
+ghost use Rattle.std.specs.Prelude.{◌≡◌, ◌≤◌, ◌+◌, ◌-◌, ◌^◌, None, min, sum_by};
+
+use crate::runs::{noon, random, settings_with};
+use io_edge::{Door, Doors, EdgeFault, MemorySink};
+use memory_edge::MemoryPause;
+use net_rows::Tables;
+use row_keeper::MemoryOpener;
+use run_ends::Status;
+use std::alloc::Global;
+use std::io::{Read, Write};
+use std::net::{Net, Shutdown, SocketAddr, TcpListener, TcpStream};
+use std::sync::{Arc, Mutex, Wait};
+use std::test::Fail;
+use std::thread;
+use std::thread::Threads;
+use std::time::{Clock, Duration};
+use tail_base::{Items, NoMemory};
+use tailnet_serve::serve_command;
+use talk_runs::talk_bytes;
+use tcp_edge::{TcpDoor, TcpDoors};
+
+/// A machine registers by a new key, and polls: the writes are three answers, a head, and a frame.
+const POLLING: &str = r#"> POST /api/v1/user Bearer/secret {"name":"ann"}
+> POST /api/v1/preauthkey Bearer/secret {"user":"ann@"}
+> POST /machine/register mkey:%1 {"Auth":{"AuthKey":"tnkey-1-0000000000000001000000000000000200000000000000030000000000000004"},"NodeKey":"nodekey:%a"}
+> POST /machine/map mkey:%1 {"NodeKey":"nodekey:%a","Stream":true}"#;
+
+/// Where the system let it listen.
+type Listening = Mutex<Option<SocketAddr>>;
+
+/// Listeners that say where they listen.
+#[derive(Drop)]
+struct NotingDoors<R> {
+    rt: R,
+    doors: TcpDoors<R>,
+    at: Arc<Listening, Global>,
+}
+
+impl<R: Net<Listener = TcpListener, Stream = TcpStream> + Wait + Clock + Copy + Send> Doors
+    for NotingDoors<R> {
+    type Door = TcpDoor<R>;
+
+    ghost coming = { λ _. None };
+
+    ghost finished = { λ _. None };
+
+    ghost asked = { λ _. None };
+
+    ghost faults = { λ d. ⟦<TcpDoors<R> as Doors>⟧.faults d.doors };
+
+    fn open(
+        &mut self,
+        alloc: Global,
+        address: &str,
+        count: u32,
+    ) -> Result<Vec<TcpDoor<R>>, EdgeFault> {
+        let opened = self.doors.open(alloc, address, count)?;
+        if let Some(door) = opened.first() {
+            *self.at.lock(&self.rt) = door.address();
+        }
+        Ok(opened)
+    }
+
+    fn close(&mut self, doors: Vec<TcpDoor<R>>)
+        ensures faults { ⟦<NotingDoors<R> as Doors>⟧.faults self.new
+            ≡ min (⟦<NotingDoors<R> as Doors>⟧.faults self.old
+            + sum_by (λ d. ⟦<TcpDoor<R> as Door>⟧.faults d) doors.items) (2 ^ 64 - 1) }
+        ensures later { ⟦<NotingDoors<R> as Doors>⟧.faults self.old
+            ≤ ⟦<NotingDoors<R> as Doors>⟧.faults self.new }
+    {
+        self.doors.close(doors);
+    }
+}
+
+/// The status of a server that takes one connection.
+fn serve_once<
+    R: Net<Listener = TcpListener, Stream = TcpStream>
+        + Threads
+        + Wait
+        + Clock
+        + Copy
+        + Send
+        + Sync,
+>(rt: R, alloc: Global, at: Arc<Listening, Global>) -> Result<Status, NoMemory> {
+    let mut doors = NotingDoors {
+        rt,
+        doors: TcpDoors::new(rt),
+        at,
+    };
+    Ok(serve_command(
+        &rt,
+        alloc,
+        "tailnet.toml",
+        &mut MemorySink::new(alloc, Items::new(alloc)),
+        &mut settings_with(
+            alloc,
+            b"workers = 1\nconnections = 1\npoll_turns = 1\nlisten = \"127.0.0.1:0\"\n",
+        )?,
+        &mut MemoryOpener::new(
+            alloc,
+            Tables::empty(alloc),
+            Items::new(alloc),
+            Items::new(alloc),
+        ),
+        &mut noon(alloc)?,
+        &mut random(alloc, 0)?,
+        &mut doors,
+        &MemoryPause::new(),
+    ))
+}
+
+/// Waits, ten seconds at most, until the server listens.
+fn address_of<R: Wait + Clock>(rt: &R, at: &Listening) -> Option<SocketAddr> {
+    for _ in 0..200 {
+        let found = *at.lock(rt);
+        if found.is_some() {
+            return found;
+        }
+        thread::sleep(rt, Duration::from_millis(50));
+    }
+    None
+}
+
+/// What a client is answered that asks this, and then ends what it sends.
+fn asked<R: Net<Listener = TcpListener, Stream = TcpStream> + Wait + Clock>(
+    rt: &R,
+    alloc: Global,
+    at: &Listening,
+    request: &[u8],
+) -> Option<Vec<u8>> {
+    let mut client = TcpStream::connect(rt, address_of(rt, at)?).ok()?;
+    client.write_all(request).ok()?;
+    client.shutdown(Shutdown::Write).ok()?;
+    let mut answers = Vec::new(alloc);
+    client.read_to_end(&mut answers).ok()?;
+    Some(answers)
+}
+
+/// Whether these bytes stand somewhere in the others.
+fn has_bytes(all: &[u8], wanted: &[u8]) -> bool {
+    for at in 0..all.len() {
+        if all[at..].starts_with(wanted) {
+            return true;
+        }
+    }
+    false
+}
+
+#[test]
+fn a_machine_registers_and_polls_over_loopback(rt: HostRuntime) -> Result<(), Fail> {
+    let alloc: Global = rt.alloc();
+    let at: Arc<Listening, Global> = Arc::new(alloc, Mutex::new(None))?;
+    let given = Arc::try_clone(&at)?;
+    let (request, _answers) = talk_bytes(alloc, POLLING)?;
+    let (status, answers) = thread::join(
+        &rt,
+        || serve_once(rt, alloc, given),
+        || asked(&rt, alloc, &at, request.as_slice()),
+    );
+    assert!(rt; status? == Status::Ok);
+    let answers = answers.ok_or("no answers")?;
+    assert!(rt; has_bytes(&answers, b"\"MachineAuthorized\":true"));
+    assert!(rt; has_bytes(&answers, b"\"MapSessionHandle\":\"s1-0000000000000001\""));
+    Ok(())
+}
