@@ -28,7 +28,7 @@ use Rattle.store_commits.specs.Pending.{Leaves}
 use Rattle.store_rows.specs.Readable.{AreReadable, HasFamilies, IsReadable, IsReadableChange, IsReadableExtra, IsReadableMachine, IsReadableRow}
 use Rattle.store_rows.specs.Rows.{IsTypedCounters, IsTypedKey, IsTypedMachine, IsTypedPending, IsTypedUser, auth_key_cells, machine_cells, pending_cells, user_cells}
 use Rattle.keeper_sqlite.specs.Tells.{Holds, IsKnown}
-use Rattle.keeper_sqlite.specs.Told.{told}
+use Rattle.keeper_sqlite.specs.Told.{store_tells}
 use Rattle.keeper_sqlite.proofs.Loading.{still}
 use Rattle.keeper_sqlite.proofs.Telling.{holds_told, same_told, told_is}
 
@@ -129,11 +129,11 @@ held_after : (old new : State) (change : Change) (rows : Rows) → Holds old.now
 held_after old new change rows holds makes good none = record { keeps = makes rows holds.keeps; readable = readable_after rows change holds.readable good none; sound = none }
 
 -- what the store tells is sound after the change
-sound_told : (old : State) (change : Change) (rows : Rows) → HasCleanDisk old → IsTrue old.is_open → Holds old.now rows → IfSome (told old) (λ r. damage (after r change) ≡ None) → damage (after rows change) ≡ None
+sound_told : (old : State) (change : Change) (rows : Rows) → HasCleanDisk old → IsTrue old.is_open → Holds old.now rows → IfSome (store_tells old) (λ r. damage (after r change) ≡ None) → damage (after rows change) ≡ None
 sound_told old change rows clean opened holds h = subst (λ o. IfSome o (λ r. damage (after r change) ≡ None)) (holds_told old rows clean opened holds) h
 
 -- an Ok leaves the rows after the change
-pub known_ok : (old new : State) (change : Change) → (HasCleanDisk new → HasCleanDisk old) → (HasCleanDisk new → IsTrue new.is_open → IsTrue old.is_open) → IsKnown old → IfSome (told old) (λ r. damage (after r change) ≡ None)
+pub known_ok : (old new : State) (change : Change) → (HasCleanDisk new → HasCleanDisk old) → (HasCleanDisk new → IsTrue new.is_open → IsTrue old.is_open) → IsKnown old → IfSome (store_tells old) (λ r. damage (after r change) ≡ None)
     → (HasCleanDisk new → Makes old.now new.now (λ rows. after rows change)) → IsReadableChange change → IsKnown new
 known_ok old new change clean opened known sound makes good now open_now =
     let early = clean now in
@@ -142,9 +142,9 @@ known_ok old new change clean opened known sound makes good now open_now =
     let none = sound_told old change it.0 early was it.1 sound in
     (after it.0 change, held_after old new change it.0 it.1 (makes now) good none)
 
-pub still_ok : (old new : State) (change : Change) → (HasCleanDisk new → HasCleanDisk old) → (HasCleanDisk new → IsTrue new.is_open → IsTrue old.is_open) → IsKnown old → IfSome (told old) (λ r. damage (after r change) ≡ None)
-    → (HasCleanDisk new → Makes old.now new.now (λ rows. after rows change)) → IsReadableChange change → StillTells (option_map (λ rows. after rows change) (told old)) (told new)
-still_ok old new change clean opened known sound makes good = still _ (told new) (λ x h.
+pub still_ok : (old new : State) (change : Change) → (HasCleanDisk new → HasCleanDisk old) → (HasCleanDisk new → IsTrue new.is_open → IsTrue old.is_open) → IsKnown old → IfSome (store_tells old) (λ r. damage (after r change) ≡ None)
+    → (HasCleanDisk new → Makes old.now new.now (λ rows. after rows change)) → IsReadableChange change → StillTells (option_map (λ rows. after rows change) (store_tells old)) (store_tells new)
+still_ok old new change clean opened known sound makes good = still _ (store_tells new) (λ x h.
     let there = told_is new x h in
     let early = clean there.clean in
     let was = opened there.clean there.opened in
@@ -154,8 +154,8 @@ still_ok old new change clean opened known sound makes good = still _ (told new)
     ap (option_map (λ rows. after rows change)) (holds_told old it.0 early was it.1) ∙ sym (holds_told new (after it.0 change) there.clean there.opened held) ∙ h)
 
 -- an Err leaves what was told
-pub still_err : (old new : State) → (HasCleanDisk new → HasCleanDisk old) → (HasCleanDisk new → IsTrue new.is_open → IsTrue old.is_open) → (HasCleanDisk new → Leaves old new) → StillTells (told old) (told new)
-still_err old new clean opened leaves = still (told old) (told new) (λ x h.
+pub still_err : (old new : State) → (HasCleanDisk new → HasCleanDisk old) → (HasCleanDisk new → IsTrue new.is_open → IsTrue old.is_open) → (HasCleanDisk new → Leaves old new) → StillTells (store_tells old) (store_tells new)
+still_err old new clean opened leaves = still (store_tells old) (store_tells new) (λ x h.
     let there = told_is new x h in
     same_told old new x (clean there.clean) (opened there.clean there.opened) (leaves there.clean there.opened) h)
 

@@ -18,7 +18,7 @@ use Rattle.store_reads.specs.Readable.{AreReadable, IsOutside}
 use Rattle.store_reads.specs.Seen.{IsSeen}
 use Rattle.store_texts.specs.Schema.{no_schema, schema_1}
 use Rattle.keeper_sqlite.specs.Tells.{Holds, IsAtRest, IsFirst, IsKnown}
-use Rattle.keeper_sqlite.specs.Told.{is_schema, told}
+use Rattle.keeper_sqlite.specs.Told.{is_schema, store_tells}
 use Rattle.keeper_sqlite.proofs.Firsts.{empty_readable}
 use Rattle.keeper_sqlite.proofs.TellTrees.{is_itself, schema_is, some_is}
 use Rattle.keeper_sqlite.proofs.Telling.{by_id_of, holds_told, none_told, same_told, told_is}
@@ -35,8 +35,8 @@ pub still_same : {A : Type 0} (a b : Option A) → b ≡ a → StillTells a b
 still_same a b e = still a b (λ x h. sym e ∙ h)
 
 -- a reading leaves what was told
-pub still_seen : (mid new : State) (done : Bool) → IsSeen schema_1 mid new done → mid.now.schema ≡ schema_1 → (HasCleanDisk mid → IsAtRest mid) → StillTells (told mid) (told new)
-still_seen mid new done seen has rest = still (told mid) (told new) (λ x h.
+pub still_seen : (mid new : State) (done : Bool) → IsSeen schema_1 mid new done → mid.now.schema ≡ schema_1 → (HasCleanDisk mid → IsAtRest mid) → StillTells (store_tells mid) (store_tells new)
+still_seen mid new done seen has rest = still (store_tells mid) (store_tells new) (λ x h.
     let there = told_is new x h in
     let stays = seen.stays there.clean has there.opened in
     let clean = seen.clean there.clean in
@@ -46,21 +46,21 @@ still_seen mid new done seen has rest = still (told mid) (told new) (λ x h.
 holds_first : (db : Database) → Keeps db empty_rows → Holds db empty_rows
 holds_first db keeps = record { keeps = keeps; readable = empty_readable; sound = damage-empty }
 
-first_told : (new : State) → HasCleanDisk new → IsTrue new.is_open → (new.now.schema ≡ no_schema) ⊎ Keeps new.now empty_rows → told new ≡ Some empty_rows
+first_told : (new : State) → HasCleanDisk new → IsTrue new.is_open → (new.now.schema ≡ no_schema) ⊎ Keeps new.now empty_rows → store_tells new ≡ Some empty_rows
 first_told new clean opened (inl none) = none_told new clean opened none
 first_told new clean opened (inr keeps) = holds_told new empty_rows clean opened (holds_first new.now keeps)
 
 -- so do the making of tables where there is none, and what does nothing elsewhere
 pub still_first : (old new : State) → IsAtRest old → (HasCleanDisk new → old.now.schema ≡ no_schema → HasCleanDisk old)
-    → (old.now.schema ≡ no_schema → HasCleanDisk new → IsTrue new.is_open → IsFirst old new) → ((old.now.schema ≡ no_schema → ⊥) → told new ≡ told old) → StillTells (told old) (told new)
+    → (old.now.schema ≡ no_schema → HasCleanDisk new → IsTrue new.is_open → IsFirst old new) → ((old.now.schema ≡ no_schema → ⊥) → store_tells new ≡ store_tells old) → StillTells (store_tells old) (store_tells new)
 still_first old new rest clean first other = go (is_schema old.now.schema no_schema) refl
   where
-    go : (b : Bool) → is_schema old.now.schema no_schema ≡ b → StillTells (told old) (told new)
-    go true is = let none = schema_is old.now.schema no_schema is in still (told old) (told new) (λ x h.
+    go : (b : Bool) → is_schema old.now.schema no_schema ≡ b → StillTells (store_tells old) (store_tells new)
+    go true is = let none = schema_is old.now.schema no_schema is in still (store_tells old) (store_tells new) (λ x h.
         let there = told_is new x h in
         let it = first none there.clean there.opened in
         none_told old (clean there.clean none) it.was_open none ∙ sym (first_told new there.clean there.opened it.shows) ∙ h)
-    go false is = still_same (told old) (told new) (other (λ none. let yes = is_itself old.now.schema no_schema none in absurd (let e = sym yes ∙ is in cc)))
+    go false is = still_same (store_tells old) (store_tells new) (other (λ none. let yes = is_itself old.now.schema no_schema none in absurd (let e = sym yes ∙ is in cc)))
 
 -- rows that were read, and break no rule, are held
 pub read_held : (old new : State) (rows : Rows) (done : Bool) → IsSeen schema_1 old new done → IsTrue done → old.now.schema ≡ schema_1 → IsLive old → HasCleanDisk new
@@ -73,25 +73,25 @@ read_held old new rows done seen well has live clean back none opened =
 
 -- ---- what the answers say of what is told
 
-pub tells_read : (new : State) (rows : Rows) → (HasCleanDisk new → IsTrue new.is_open → Holds new.now rows) → IsWhereTold rows (told new)
-tells_read new rows held = go (told new) refl
+pub tells_read : (new : State) (rows : Rows) → (HasCleanDisk new → IsTrue new.is_open → Holds new.now rows) → IsWhereTold rows (store_tells new)
+tells_read new rows held = go (store_tells new) refl
   where
-    go : (o : Option Rows) → told new ≡ o → IsWhereTold rows o
+    go : (o : Option Rows) → store_tells new ≡ o → IsWhereTold rows o
     go None h = tt
     go (Some x) h = let there = told_is new x h in some_is (sym (holds_told new rows there.clean there.opened (held there.clean there.opened)) ∙ h)
 
-pub none_damaged : (old new : State) (e : LoadFault) → StillTells (told old) (told new)
+pub none_damaged : (old new : State) (e : LoadFault) → StillTells (store_tells old) (store_tells new)
     → ((rows : Rows) → HasCleanDisk new → Holds old.now rows → IsOutside e) → (HasCleanDisk new → old.now.schema ≡ no_schema → IsOutside e)
-    → (kind : Kind) (id : ℕ) → e ≡ Damaged kind id → told new ≡ None
-none_damaged old new e still whole first kind id is = go (told new) refl
+    → (kind : Kind) (id : ℕ) → e ≡ Damaged kind id → store_tells new ≡ None
+none_damaged old new e still whole first kind id is = go (store_tells new) refl
   where
     outside : (HasCleanDisk new → IsOutside e) → HasCleanDisk new → ⊥
     outside f clean = subst IsOutside is (f clean)
 
-    go : (o : Option Rows) → told new ≡ o → told new ≡ None
+    go : (o : Option Rows) → store_tells new ≡ o → store_tells new ≡ None
     go None h = h
     go (Some x) h =
-        let was : told old ≡ Some x = subst (StillTells (told old)) h still in
+        let was : store_tells old ≡ Some x = subst (StillTells (store_tells old)) h still in
         let clean = (told_is new x h).clean in
         elim (told_is old x was).stands [ inl holds ↦ absurd (outside (λ c. whole x c holds) clean) | inr none ↦ absurd (outside (λ c. first c none.0) clean) ]
 
@@ -123,7 +123,7 @@ rests s settled = λ _. settled.committed
 
 -- ---- answers
 
-pub read_tells : (new : State) (r : Result Held LoadFault) → (HasCleanDisk new → IfOk r (λ t. IsTrue new.is_open → Holds new.now t.rows)) → IfOk r (λ t. IsWhereTold t.rows (told new))
+pub read_tells : (new : State) (r : Result Held LoadFault) → (HasCleanDisk new → IfOk r (λ t. IsTrue new.is_open → Holds new.now t.rows)) → IfOk r (λ t. IsWhereTold t.rows (store_tells new))
 read_tells new (Ok t) known = tells_read new t.rows known
 read_tells new (Err e) known = tt
 
@@ -131,7 +131,7 @@ pub read_knows : (new : State) (r : Result Held LoadFault) → (HasCleanDisk new
 read_knows new (Ok t) known = λ clean opened. (t.rows, known clean opened)
 read_knows new (Err e) known = tt
 
-pub read_damaged : (old new : State) (r : Result Held LoadFault) → StillTells (told old) (told new) → ((rows : Rows) → HasCleanDisk new → Holds old.now rows → IfErr r IsOutside) → (HasCleanDisk new → old.now.schema ≡ no_schema → IfErr r IsOutside)
-    → IfErr r (λ e. (kind : Kind) (id : ℕ) → e ≡ Damaged kind id → told new ≡ None)
+pub read_damaged : (old new : State) (r : Result Held LoadFault) → StillTells (store_tells old) (store_tells new) → ((rows : Rows) → HasCleanDisk new → Holds old.now rows → IfErr r IsOutside) → (HasCleanDisk new → old.now.schema ≡ no_schema → IfErr r IsOutside)
+    → IfErr r (λ e. (kind : Kind) (id : ℕ) → e ≡ Damaged kind id → store_tells new ≡ None)
 read_damaged old new (Ok t) still whole first = tt
 read_damaged old new (Err e) still whole first = none_damaged old new e still whole first

@@ -27,14 +27,14 @@ use Rattle.store_reads.specs.Readable.{AreReadable, IsReadableExtra}
 use Rattle.store_reads.proofs.Lists.{rising}
 use Rattle.store_reads.proofs.OursLemmas.{auth_key_ours, extra_ours, machine_ours, meta_ours, pending_ours, policy_ours, user_ours}
 use Rattle.store_reads.proofs.ShownRows.{places_rise}
-use Rattle.store_rows.specs.Reading.{auth_key_of, extra_of, machine_of, meta_of, pending_of, policy_of, user_of}
+use Rattle.store_rows.specs.Reading.{auth_key_of, extra_of, machine_in_cells, meta_of, pending_in_cells, policy_in_cells, user_in_cells}
 use Rattle.store_rows.specs.Rows.{IsTypedCounters, IsTypedExtra, IsTypedKey, IsTypedMachine, IsTypedPending, IsTypedUser, auth_key_cells, extra_cells, machine_cells, meta_cells, pending_cells, policy_cells, user_cells}
 use Rattle.store_rows.proofs.TableReads.{auth_key_reads, extra_reads, machine_reads, meta_reads, pending_reads, policy_reads, user_reads}
 use Rattle.store_texts.proofs.Lists.{row_of}
 use Rattle.store_texts.specs.Schema.{no_schema, schema_1}
 use Rattle.tailcfg.specs.declared.dns.DnsExtra.{DnsExtra}
 use Rattle.keeper_sqlite.specs.Tells.{Holds}
-use Rattle.keeper_sqlite.specs.Told.{extras_in, if_sound, in_order, is_schema, next_in, policy_in, rows_of, tables_in, told, tree_cells, values_in}
+use Rattle.keeper_sqlite.specs.Told.{extras_in, if_sound, in_order, is_schema, next_in, policy_in_rows, rows_of, tables_in, store_tells, tree_cells, values_in}
 use Rattle.keeper_sqlite.proofs.Schemas.{none_is_not_ours}
 use Rattle.keeper_sqlite.proofs.TellTrees.{in_order_is, is_itself, rows_rise, schema_is, some_is, value_again, value_is, values_again, values_are}
 
@@ -68,17 +68,17 @@ next_are (row ∷ other ∷ rows) next h = absurd (cc (h))
 next_again : (next : Counters) → IsTypedCounters next → next_in (tree_row (meta_cells next) ∷ []) ≡ Some next
 next_again next typed = value_again meta_cells IsTypedCounters meta_of meta_reads meta_ours (λ x e. cc (e)) next (typed, (tt, (tt, (tt, (tt, (tt, (tt, tt)))))))
 
-policy_are : (rows : List Row) (policy : Option (List ℕ)) → policy_in rows ≡ Some policy → (rows ≡ policy_row policy) × IfSome policy (λ body. is_utf8 body ≡ true)
+policy_are : (rows : List Row) (policy : Option (List ℕ)) → policy_in_rows rows ≡ Some policy → (rows ≡ policy_row policy) × IfSome policy (λ body. is_utf8 body ≡ true)
 policy_are [] policy h = let e : None ≡ policy = some_is h in subst (λ p. ([] ≡ policy_row p) × IfSome p (λ body. is_utf8 body ≡ true)) e (refl, tt)
 policy_are (row ∷ []) policy h =
-    let it = mapped (policy_of (tree_cells row)) (λ body. Some body) policy h in
-    let one = value_is policy_cells (λ _. Unit {0}) policy_of policy_reads policy_ours (λ x e. cc (e)) row it.it it.is in
+    let it = mapped (policy_in_cells (tree_cells row)) (λ body. Some body) policy h in
+    let one = value_is policy_cells (λ _. Unit {0}) policy_in_cells policy_reads policy_ours (λ x e. cc (e)) row it.it it.is in
     subst (λ p. ((row ∷ []) ≡ policy_row p) × IfSome p (λ body. is_utf8 body ≡ true)) it.gives (ap (λ r. r ∷ []) one.0, one.1.1.1.0)
 policy_are (row ∷ other ∷ rows) policy h = absurd (cc (h))
 
-policy_again : (policy : Option (List ℕ)) → IfSome policy (λ body. is_utf8 body ≡ true) → policy_in (policy_row policy) ≡ Some policy
+policy_again : (policy : Option (List ℕ)) → IfSome policy (λ body. is_utf8 body ≡ true) → policy_in_rows (policy_row policy) ≡ Some policy
 policy_again None h = refl
-policy_again (Some body) h = ap (option_map (λ b. Some b)) (value_again policy_cells (λ _. Unit {0}) policy_of policy_reads policy_ours (λ x e. cc (e)) body (tt, (tt, (h, tt))))
+policy_again (Some body) h = ap (option_map (λ b. Some b)) (value_again policy_cells (λ _. Unit {0}) policy_in_cells policy_reads policy_ours (λ x e. cc (e)) body (tt, (tt, (h, tt))))
 
 extras_are : (place : ℕ) (rows : List Row) (xs : List DnsExtra) → extras_in place rows ≡ Some xs → (rows ≡ placed_rows place xs) × AllByRecursion IsReadableExtra xs
 extras_are place [] xs h = let e : [] ≡ xs = some_is h in subst (λ ys. ([] ≡ placed_rows place ys) × AllByRecursion IsReadableExtra ys) e (refl, tt)
@@ -104,17 +104,17 @@ ordered_tree tree rows e = subst (λ l. IsPermutation l tree) e (IsPermutation-s
 tables_are : (trees : Trees) (rows : Rows) → tables_in trees ≡ Some rows → AreStored trees rows × AreReadable rows
 tables_are trees rows h =
     let next = chosen (next_in (trees 0)) _ rows h in
-    let users = chosen (values_in user_of (in_order (trees 1))) _ rows next.gives in
+    let users = chosen (values_in user_in_cells (in_order (trees 1))) _ rows next.gives in
     let keys = chosen (values_in auth_key_of (in_order (trees 3))) _ rows users.gives in
-    let pending = chosen (values_in pending_of (in_order (trees 5))) _ rows keys.gives in
-    let machines = chosen (values_in machine_of (in_order (trees 8))) _ rows pending.gives in
+    let pending = chosen (values_in pending_in_cells (in_order (trees 5))) _ rows keys.gives in
+    let machines = chosen (values_in machine_in_cells (in_order (trees 8))) _ rows pending.gives in
     let extras = chosen (extras_in 1 (in_order (trees 14))) _ rows machines.gives in
-    let policy = mapped (policy_in (trees 15)) _ rows extras.gives in
+    let policy = mapped (policy_in_rows (trees 15)) _ rows extras.gives in
     let a = next_are (trees 0) next.it next.is in
-    let b = values_are user_cells IsTypedUser user_of user_reads user_ours (λ x e. cc (e)) (in_order (trees 1)) users.it users.is in
+    let b = values_are user_cells IsTypedUser user_in_cells user_reads user_ours (λ x e. cc (e)) (in_order (trees 1)) users.it users.is in
     let c = values_are auth_key_cells IsTypedKey auth_key_of auth_key_reads auth_key_ours (λ x e. cc (e)) (in_order (trees 3)) keys.it keys.is in
-    let d = values_are pending_cells IsTypedPending pending_of pending_reads pending_ours (λ x e. cc (e)) (in_order (trees 5)) pending.it pending.is in
-    let e = values_are machine_cells IsTypedMachine machine_of machine_reads machine_ours (λ x e. cc (e)) (in_order (trees 8)) machines.it machines.is in
+    let d = values_are pending_cells IsTypedPending pending_in_cells pending_reads pending_ours (λ x e. cc (e)) (in_order (trees 5)) pending.it pending.is in
+    let e = values_are machine_cells IsTypedMachine machine_in_cells machine_reads machine_ours (λ x e. cc (e)) (in_order (trees 8)) machines.it machines.is in
     let f = extras_are 1 (in_order (trees 14)) extras.it extras.is in
     let p = policy_are (trees 15) policy.it policy.is in
     subst (λ (r : Rows). AreStored trees r × AreReadable r) policy.gives (
@@ -145,12 +145,12 @@ tables_again trees rows stored by good =
     let e = in_order_is _ (trees 8) (rows_rise machine_id (λ x. tree_row (machine_cells x)) (λ x. refl) rows.machines (rising machine_id rows.machines by.machines)) stored.machines in
     let f = in_order_is (map (row_of place extra_rest) (with_places 1 rows.extras)) (trees 14) (rows_rise place (row_of place extra_rest) (λ x. refl) (with_places 1 rows.extras) (places_rise 1 rows.extras))
     (subst (λ l. IsPermutation l (trees 14)) (placed_are 1 rows.extras) stored.extras) in
-    let users = ap (values_in user_of) b ∙ values_again user_cells IsTypedUser user_of user_reads user_ours (λ x e. cc (e)) rows.users good.users in
+    let users = ap (values_in user_in_cells) b ∙ values_again user_cells IsTypedUser user_in_cells user_reads user_ours (λ x e. cc (e)) rows.users good.users in
     let keys = ap (values_in auth_key_of) c ∙ values_again auth_key_cells IsTypedKey auth_key_of auth_key_reads auth_key_ours (λ x e. cc (e)) rows.keys good.keys in
-    let pending = ap (values_in pending_of) d ∙ values_again pending_cells IsTypedPending pending_of pending_reads pending_ours (λ x e. cc (e)) rows.pending good.pending in
-    let machines = ap (values_in machine_of) e ∙ values_again machine_cells IsTypedMachine machine_of machine_reads machine_ours (λ x e. cc (e)) rows.machines good.machines in
+    let pending = ap (values_in pending_in_cells) d ∙ values_again pending_cells IsTypedPending pending_in_cells pending_reads pending_ours (λ x e. cc (e)) rows.pending good.pending in
+    let machines = ap (values_in machine_in_cells) e ∙ values_again machine_cells IsTypedMachine machine_in_cells machine_reads machine_ours (λ x e. cc (e)) rows.machines good.machines in
     let extras = ap (extras_in 1) (f ∙ sym (placed_are 1 rows.extras)) ∙ extras_again 1 rows.extras good.extras in
-    let policy = ap policy_in stored.policy ∙ policy_again rows.policy good.policy in
+    let policy = ap policy_in_rows stored.policy ∙ policy_again rows.policy good.policy in
     rw (a, users, keys, pending, machines, extras, policy) refl
 
 -- ---- what is told
@@ -197,8 +197,8 @@ pub record Tells (s : State) (rows : Rows) : Type 0 where
   pub opened : IsTrue s.is_open
   pub stands : Holds s.now rows ⊎ ((s.now.schema ≡ no_schema) × (rows ≡ empty_rows))
 
-pub told_is : (s : State) (rows : Rows) → told s ≡ Some rows → Tells s rows
-unfolding told
+pub told_is : (s : State) (rows : Rows) → store_tells s ≡ Some rows → Tells s rows
+unfolding store_tells
 told_is s rows h = go s.is_clean s.is_open refl refl h
   where
     go : (a b : Bool) → s.is_clean ≡ a → s.is_open ≡ b → cond (a && b) (rows_of s.now) None ≡ Some rows → Tells s rows
@@ -206,19 +206,19 @@ told_is s rows h = go s.is_clean s.is_open refl refl h
     go true false clean opened e = absurd (cc (e))
     go false b clean opened e = absurd (cc (e))
 
-told_by : (s : State) → HasCleanDisk s → IsTrue s.is_open → told s ≡ rows_of s.now
-unfolding told
+told_by : (s : State) → HasCleanDisk s → IsTrue s.is_open → store_tells s ≡ rows_of s.now
+unfolding store_tells
 told_by s clean opened = rw (clean_of s.is_clean clean, opened) refl
 
 -- a clean, open store tells what it holds
-pub holds_told : (s : State) (rows : Rows) → HasCleanDisk s → IsTrue s.is_open → Holds s.now rows → told s ≡ Some rows
+pub holds_told : (s : State) (rows : Rows) → HasCleanDisk s → IsTrue s.is_open → Holds s.now rows → store_tells s ≡ Some rows
 holds_told s rows clean opened holds = told_by s clean opened ∙ rows_again s.now rows holds
 
-pub none_told : (s : State) → HasCleanDisk s → IsTrue s.is_open → s.now.schema ≡ no_schema → told s ≡ Some empty_rows
+pub none_told : (s : State) → HasCleanDisk s → IsTrue s.is_open → s.now.schema ≡ no_schema → store_tells s ≡ Some empty_rows
 none_told s clean opened none = told_by s clean opened ∙ none_again s.now none
 
 -- stores that are clean and open and show the same tell the same
-pub same_told : (old new : State) (rows : Rows) → HasCleanDisk old → IsTrue old.is_open → new.now ≡ old.now → told new ≡ Some rows → told old ≡ Some rows
+pub same_told : (old new : State) (rows : Rows) → HasCleanDisk old → IsTrue old.is_open → new.now ≡ old.now → store_tells new ≡ Some rows → store_tells old ≡ Some rows
 same_told old new rows clean opened same h =
     let there = told_is new rows h in
     told_by old clean opened ∙ ap rows_of (sym same) ∙ sym (told_by new there.clean there.opened) ∙ h

@@ -15,7 +15,7 @@ use Rattle.sqlite_sql.specs.Ops.{is_null}
 use Rattle.sqlite_trees.specs.Tree.{Trees, rowid}
 use Rattle.sqlite_value.specs.Order.{Row, value_cmp}
 use Rattle.store_reads.specs.Readable.{cell_in}
-use Rattle.store_rows.specs.Reading.{auth_key_of, extra_of, machine_of, meta_of, pending_of, policy_of, user_of}
+use Rattle.store_rows.specs.Reading.{auth_key_of, extra_of, machine_in_cells, meta_of, pending_in_cells, policy_in_cells, user_in_cells}
 use Rattle.store_rows.specs.declared.cell.Cell.{Cell}
 use Rattle.store_texts.specs.Schema.{no_schema, schema_1}
 use Rattle.tailcfg.specs.declared.dns.DnsExtra.{DnsExtra}
@@ -61,10 +61,10 @@ next_in (row ∷ []) = meta_of (tree_cells row)
 next_in (row ∷ other ∷ rows) = None
 
 -- the policy's text of the one row of `policy`, if there is one
-abbrev pub policy_in : List Row → Option (Option (List ℕ))
-policy_in [] = Some None
-policy_in (row ∷ []) = option_map (λ body. Some body) (policy_of (tree_cells row))
-policy_in (row ∷ other ∷ rows) = None
+abbrev pub policy_in_rows : List Row → Option (Option (List ℕ))
+policy_in_rows [] = Some None
+policy_in_rows (row ∷ []) = option_map (λ body. Some body) (policy_in_cells (tree_cells row))
+policy_in_rows (row ∷ other ∷ rows) = None
 
 -- the rows of a tree by their rowids
 abbrev pub in_order : List Row → List Row
@@ -82,12 +82,12 @@ tables_in trees =
     option_and_then (λ machines.
     option_and_then (λ extras.
     option_map (λ policy. record { users = users; keys = keys; pending = pending; machines = machines; extras = extras; policy = policy; next = next })
-    (policy_in (trees 15)))
+    (policy_in_rows (trees 15)))
     (extras_in 1 (in_order (trees 14))))
-    (values_in machine_of (in_order (trees 8))))
-    (values_in pending_of (in_order (trees 5))))
+    (values_in machine_in_cells (in_order (trees 8))))
+    (values_in pending_in_cells (in_order (trees 5))))
     (values_in auth_key_of (in_order (trees 3))))
-    (values_in user_of (in_order (trees 1))))
+    (values_in user_in_cells (in_order (trees 1))))
     (next_in (trees 0))
 
 -- the rows, unless they break a rule of the tables
@@ -101,5 +101,5 @@ rows_of db =
     else (if is_schema db.schema no_schema then Some empty_rows else None)
 
 -- A store that is clean and open tells the rows of what it shows.
-unfoldable pub told : State → Option Rows
-told s = if s.is_clean && s.is_open then rows_of s.now else None
+unfoldable pub store_tells : State → Option Rows
+store_tells s = if s.is_clean && s.is_open then rows_of s.now else None

@@ -3,7 +3,7 @@ ghost use Rattle.std.specs.Prelude.{◌≡◌, ◌≤◌, ℕ, None, Err, false,
 ghost use Rattle.std.specs.Option.{option_map};
 ghost use Rattle.io_edge.specs.Edge.{IsWhereTold, Rose, StillTells};
 ghost use Rattle.keeper_sqlite.specs.Tells.{IsKnown};
-ghost use Rattle.keeper_sqlite.specs.Told.{told};
+ghost use Rattle.keeper_sqlite.specs.Told.{store_tells};
 ghost use Rattle.net_rows.specs.declared.change.Kind.{Kind};
 ghost use Rattle.net_rows.specs.Damage.{damage};
 ghost use Rattle.net_rows.specs.Rows.{after, empty_rows};
@@ -94,11 +94,11 @@ impl<S: Alter> SqliteKeeper<S> {
             → Survives (state S.Store self.old.conn) (state S.Store self.new.conn)
             (λ trees. AreStored trees empty_rows) }
         ensures tells { IfOk result (λ tables.
-            IsWhereTold tables.rows (told (state S.Store self.new.conn))) }
+            IsWhereTold tables.rows (store_tells (state S.Store self.new.conn))) }
         ensures damaged { IfErr result (λ e. (kind : Kind) (id : ℕ)
-            → e ≡ LoadFault.Damaged kind id → told (state S.Store self.new.conn) ≡ None) }
-        ensures still { StillTells (told (state S.Store self.old.conn))
-            (told (state S.Store self.new.conn)) }
+            → e ≡ LoadFault.Damaged kind id → store_tells (state S.Store self.new.conn) ≡ None) }
+        ensures still { StillTells (store_tells (state S.Store self.old.conn))
+            (store_tells (state S.Store self.new.conn)) }
         ensures known { OnOk result (IsKnown (state S.Store self.new.conn)) }
         ensures taken { OnOk result (IsTrue self.new.is_loaded) }
         ensures calls { self.new.calls ≡ self.old.calls }
@@ -128,14 +128,15 @@ impl<S: Alter> SqliteKeeper<S> {
         ensures crash { Survives (state S.Store self.old.conn) (state S.Store self.new.conn)
             (HoldsMade (state S.Store self.old.conn).now (λ rows. after rows change.now)) }
         ensures still_ok { IsKnown (state S.Store self.old.conn)
-            → IfSome (told (state S.Store self.old.conn))
+            → IfSome (store_tells (state S.Store self.old.conn))
             (λ rows. damage (after rows change.now) ≡ None)
             → OnOk result (StillTells (option_map (λ rows. after rows change.now)
-            (told (state S.Store self.old.conn))) (told (state S.Store self.new.conn))) }
-        ensures still_err { OnErr result (StillTells (told (state S.Store self.old.conn))
-            (told (state S.Store self.new.conn))) }
+            (store_tells (state S.Store self.old.conn)))
+            (store_tells (state S.Store self.new.conn))) }
+        ensures still_err { OnErr result (StillTells (store_tells (state S.Store self.old.conn))
+            (store_tells (state S.Store self.new.conn))) }
         ensures known { IsKnown (state S.Store self.old.conn)
-            → IfSome (told (state S.Store self.old.conn))
+            → IfSome (store_tells (state S.Store self.old.conn))
             (λ rows. damage (after rows change.now) ≡ None)
             → IsKnown (state S.Store self.new.conn) }
         ensures calls { self.new.calls ≡ self.old.calls }

@@ -3,7 +3,7 @@ ghost use Rattle.std.specs.Prelude.{◌≡◌, ℕ, None, Ok, IfOk, IfErr, IsTru
 ghost use Rattle.io_edge.specs.Edge.{IsWhereTold, StillTells};
 ghost use Rattle.net_rows.specs.declared.change.Kind.{Kind as RowKind};
 ghost use Rattle.keeper_sqlite.specs.Tells.{Holds, IsAtRest, IsFirst, IsKnown};
-ghost use Rattle.keeper_sqlite.specs.Told.{told};
+ghost use Rattle.keeper_sqlite.specs.Told.{store_tells};
 ghost use Rattle.net_rows.specs.Damage.{damage};
 ghost use Rattle.net_rows.specs.Rows.{empty_rows};
 ghost use Rattle.net_rows.specs.declared.rows.Rows.{Rows};
@@ -178,7 +178,7 @@ fn load_tables<S: Alter>(conn: &mut Connection<S>, alloc: Global) -> Result<Tabl
         → Survives (state S.Store conn.old) (state S.Store conn.new)
         (λ trees. AreStored trees empty_rows) }
     ensures still { IsAtRest (state S.Store conn.old)
-        → StillTells (told (state S.Store conn.old)) (told (state S.Store conn.new)) }
+        → StillTells (store_tells (state S.Store conn.old)) (store_tells (state S.Store conn.new)) }
     ensures known { HasCleanDisk (state S.Store conn.new) → IfOk result (λ tables.
         IsTrue (state S.Store conn.new).is_open
         → Holds (state S.Store conn.new).now tables.rows) }
@@ -209,13 +209,15 @@ pub(crate) fn load<S: Alter>(conn: &mut Connection<S>, alloc: Global) -> Result<
         → (state S.Store conn.old).now.schema ≡ no_schema
         → Survives (state S.Store conn.old) (state S.Store conn.new)
         (λ trees. AreStored trees empty_rows) }
-    ensures still { StillTells (told (state S.Store conn.old)) (told (state S.Store conn.new)) }
+    ensures still { StillTells (store_tells (state S.Store conn.old))
+        (store_tells (state S.Store conn.new)) }
     ensures known { HasCleanDisk (state S.Store conn.new) → IfOk result (λ tables.
         IsTrue (state S.Store conn.new).is_open
         → Holds (state S.Store conn.new).now tables.rows) }
-    ensures tells { IfOk result (λ tables. IsWhereTold tables.rows (told (state S.Store conn.new))) }
+    ensures tells { IfOk result (λ tables. IsWhereTold tables.rows
+        (store_tells (state S.Store conn.new))) }
     ensures damaged { IfErr result (λ e. (kind : RowKind) (id : ℕ)
-        → e ≡ LoadFault.Damaged kind id → told (state S.Store conn.new) ≡ None) }
+        → e ≡ LoadFault.Damaged kind id → store_tells (state S.Store conn.new) ≡ None) }
     ensures knows { OnOk result (IsKnown (state S.Store conn.new)) }
 {
     if !conn.is_autocommit() {

@@ -40,7 +40,7 @@ use Rattle.store_texts.specs.Schema.{auth_keys_table, column_of, extras_table, m
 use Rattle.store_texts.specs.Texts.{select_auth_keys_text, select_extras_text, select_machines_text, select_meta_text, select_pending_text, select_policy_text, select_users_text}
 use Rattle.store_texts.proofs.Selects.{select_auth_keys_means, select_extras_means, select_machines_means, select_meta_means, select_pending_means, select_policy_means, select_users_means}
 use Rattle.store_texts.proofs.Shows.{shows_each}
-use Rattle.store_reads.specs.Back.{IsOfOurs, IsOurs, IsTaken, IsTakenExtra}
+use Rattle.store_reads.specs.Back.{IsOfOurs, IsOurs, IsRowTaken, IsTakenExtra}
 use Rattle.store_reads.proofs.Lists.{shown_count}
 use Rattle.store_reads.proofs.ShownRows.{shown_places}
 use Rattle.store_reads.specs.Readable.{IsGivenBack, IsReadable, IsReadableExtra, cell_in, shown_extras, shown_row}
@@ -268,7 +268,7 @@ one_more : {T : Type 0} (xs : List T) (i : ℕ) (x : T) → i < length xs → x 
 one_more xs i x less is = take_more xs i x less ∙ ap (λ y. take i xs ++ y ∷ []) (sym is)
 
 pub read_on : {T : Type 0} (cells : T → List Cell) (Typed : T → Type 0) (rows : List Row) (i : ℕ) (row : Row) (all new : List T) → i < length rows → row ≡ get_or rows i row → AreReadSo cells Typed (take i rows) all
-    → IsTaken cells Typed row all new → AreReadSo cells Typed (take (i + 1) rows) new
+    → IsRowTaken cells Typed row all new → AreReadSo cells Typed (take (i + 1) rows) new
 read_on {T} cells Typed rows i row all new less is so taken =
     let f : T → Row = λ x. shown_row (cells x) in
     record {

@@ -25,7 +25,7 @@ IsOfOurs (Blob bytes) = Unit {0}
 IsOfOurs Other = ⊥
 
 -- The row shows a readable value, which was added.
-pub record IsTaken {T : Type 0} (cells : T → List Cell) (Typed : T → Type 0) (row : Row) (old new : List T) : Type 0 where
+pub record IsRowTaken {T : Type 0} (cells : T → List Cell) (Typed : T → Type 0) (row : Row) (old new : List T) : Type 0 where
   pub it : T
   pub shows : row ≡ shown_row (cells it)
   pub readable : IsReadable cells Typed it

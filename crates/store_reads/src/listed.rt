@@ -8,7 +8,7 @@ ghost use Rattle.sqlite.specs.State.{HasCleanDisk, Shown};
 ghost use Rattle.sqlite_value.specs.Order.{Row};
 ghost use Rattle.store_texts.specs.Schema.{schema_1};
 ghost use Rattle.store_reads.specs.Readable.{Fills, IsOutside, IsReadable, Yields, shown_row};
-ghost use Rattle.store_reads.specs.Back.{IsTaken};
+ghost use Rattle.store_reads.specs.Back.{IsRowTaken};
 ghost use Rattle.store_reads.specs.Seen.{IsSeen};
 
 use crate::cells::cells_of;
@@ -55,7 +55,7 @@ fn read_row<T: Loaded>(alloc: Global, row: &Row) -> Result<Option<T>, Fault>
 fn take_row<T: Loaded>(alloc: Global, row: &Row, all: &mut Items<T>) -> Result<(), LoadFault>
     ensures read { (x : T) → row.now ≡ shown_row (T.stored x) → IsReadable T.stored T.Typed x
         → Fills result (all.new ≡ all.old ++ x ∷ []) }
-    ensures back { OnOk result (IsTaken T.stored T.Typed row.now all.old all.new) }
+    ensures back { OnOk result (IsRowTaken T.stored T.Typed row.now all.old all.new) }
 {
     match read_row(alloc, row) {
         Ok(Some(read)) => match all.push(read) {

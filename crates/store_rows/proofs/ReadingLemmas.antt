@@ -5,7 +5,7 @@ use Rattle.std.specs.Option.{option_and_then, option_map}
 use Rattle.std.proofs.lemmas.Bool.{and_parts, and_from, eq-eqb}
 use Rattle.std.proofs.lemmas.Slice.Eq.{bytes_eq-Decides}
 use Rattle.store_rows.specs.Reads.{IsReadBack}
-use Rattle.store_rows.specs.Reading.{checked, end_of, on_blob, on_number, on_text, then_of}
+use Rattle.store_rows.specs.Reading.{checked_text, end_of_cells, on_blob, on_number, on_text, then_of}
 use Rattle.store_rows.specs.declared.cell.Cell.{Cell}
 use Rattle.store_rows.specs.declared.cell.Cell.TheVariants.{Null, Number, Text, Blob, Other}
 use Rattle.store_rows.proofs.ReadLemmas.{Guesses, guess_none, guess_same}
@@ -55,7 +55,7 @@ blob_reads stored Fits f reads Other = record { is = tt; only = λ x fit e. absu
 
 -- what is checked is read back
 pub checked_reads : {T : Type 0} (stored : T → List ℕ) (Fits : T → Type 0) (fits : T → Bool) (guess : List ℕ → Option T) → Guesses stored Fits guess → ((x : T) → fits x ≡ true → Fits x) → ((x : T) → Fits x → fits x ≡ true)
-    → Reads stored Fits (checked stored fits guess)
+    → Reads stored Fits (checked_text stored fits guess)
 checked_reads {T} stored Fits fits guess again there back given = go (guess given) refl
   where
     judged : (x : T) (b : Bool) → guess given ≡ Some x → bytes_eq (stored x) given && fits x ≡ b → IsReadBack stored Fits given (cond b (Some x) None)
@@ -73,7 +73,7 @@ checked_reads {T} stored Fits fits guess again there back given = go (guess give
     go None none = guess_none stored Fits guess given again none
     go (Some x) some = judged x (bytes_eq (stored x) given && fits x) some refl
 
-pub end_reads : Reads (λ (u : ⊤). let none : List Cell = [] in none) (λ _. ⊤) end_of
+pub end_reads : Reads (λ (u : ⊤). let none : List Cell = [] in none) (λ _. ⊤) end_of_cells
 end_reads [] = record { is = (refl, tt); only = λ x fit e. refl }
 end_reads (c ∷ cs) = record { is = tt; only = λ x fit e. absurd (cc (e)) }
 

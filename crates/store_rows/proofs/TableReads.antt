@@ -29,7 +29,7 @@ use Rattle.store_rows.specs.Cells.{IsExpiry, expiry_cell, truth_cell}
 use Rattle.store_rows.specs.Endpoints.{IsEndpoint}
 use Rattle.store_rows.specs.Lists.{list_text, spelled_list}
 use Rattle.store_rows.specs.Reads.{IsReadBack}
-use Rattle.store_rows.specs.Reading.{address_of, any_text, auth_key_of, checked, endpoints_of, expiry_of, extra_of, is_address, is_block, is_endpoint, key_of, list_of, machine_of, meta_of, moment_of, natural_of, on_number, pending_of, policy_of, routes_of, tags_of, text_that, this_of, truth_of, user_of, v4_of, v6_of}
+use Rattle.store_rows.specs.Reading.{address_of, any_text, auth_key_of, checked_text, endpoints_of, expiry_in_cell, extra_of, is_address, is_block, is_endpoint, key_in_cell, list_in_cell, machine_in_cells, meta_of, moment_in_cell, natural_of, on_number, pending_in_cells, policy_in_cells, routes_of, tags_of, text_that, this_of, truth_of, user_in_cells, v4_of, v6_of}
 use Rattle.store_rows.specs.Rows.{IsTypedCounters, IsTypedExtra, IsTypedKey, IsTypedMachine, IsTypedPending, IsTypedUser, auth_key_cells, extra_cells, machine_cells, meta_cells, pending_cells, policy_cells, tags_cell, user_cells}
 use Rattle.store_rows.specs.declared.cell.Cell.{Cell}
 use Rattle.store_rows.specs.declared.cell.Cell.TheVariants.{Null, Number, Text, Blob, Other}
@@ -99,23 +99,23 @@ truths_from f same given (Some b) read = record { is = (sym (same b) ∙ read.is
 pub truths : Reads truth_cell (λ _. ⊤) (on_number truth_of)
 truths given = truths_from truth_cell truth_cells given (on_number truth_of given) (number_reads truth_number (λ _. ⊤) truth_of truth_reads given)
 
-moment_reads : Reads (λ n. n) IsMoment moment_of
+moment_reads : Reads (λ n. n) IsMoment moment_in_cell
 moment_reads n = go (int_le first_moment n && int_le n last_moment) refl
   where
     go : (b : Bool) → int_le first_moment n && int_le n last_moment ≡ b → IsReadBack (λ m. m) IsMoment n (cond b (Some n) None)
     go true is = record { is = (refl, grind (arith, ints, nat_tests)); only = λ x fit e. ap Some (sym e) }
     go false is = record { is = tt; only = λ x fit e. absurd (grind (arith, ints, nat_tests)) }
 
-pub moments : Reads Number IsMoment (on_number moment_of)
-moments = number_reads (λ n. n) IsMoment moment_of moment_reads
+pub moments : Reads Number IsMoment (on_number moment_in_cell)
+moments = number_reads (λ n. n) IsMoment moment_in_cell moment_reads
 
-pub expiries : Reads expiry_cell IsExpiry expiry_of
+pub expiries : Reads expiry_cell IsExpiry expiry_in_cell
 expiries Null = record { is = (refl, tt); only = go }
   where
     go : (o : Option ℤ) → IsExpiry o → expiry_cell o ≡ Null → Some None ≡ Some o
     go None fit e = refl
     go (Some m) fit e = absurd (cc (e))
-expiries (Number n) = go (moment_of n) (moment_reads n)
+expiries (Number n) = go (moment_in_cell n) (moment_reads n)
   where
     none_only : (o : Option ℤ) → IsReadBack (λ m. m) IsMoment n None → IsExpiry o → expiry_cell o ≡ Number n → None ≡ Some o
     none_only None read fit e = absurd (cc (e))
@@ -150,11 +150,11 @@ pub any_texts : Reads Text (λ _. ⊤) any_text
 any_texts = text_reads (λ bytes. bytes) (λ _. ⊤) (λ bytes. Some bytes) (λ given. record { is = (refl, tt); only = λ x fit e. ap Some (sym e) })
 
 pub texts_that : (fits : List ℕ → Bool) → Reads Text (λ bytes. fits bytes ≡ true) (text_that fits)
-texts_that fits = text_reads (λ bytes. bytes) (λ bytes. fits bytes ≡ true) (checked (λ bytes. bytes) fits (λ bytes. Some bytes))
+texts_that fits = text_reads (λ bytes. bytes) (λ bytes. fits bytes ≡ true) (checked_text (λ bytes. bytes) fits (λ bytes. Some bytes))
     (checked_reads (λ bytes. bytes) (λ bytes. fits bytes ≡ true) fits (λ bytes. Some bytes) (λ x fit. refl) (λ x h. h) (λ x h. h))
 
-pub keys : Reads Blob (λ bytes. length bytes ≡ 32) key_of
-keys = blob_reads (λ bytes. bytes) (λ bytes. length bytes ≡ 32) (checked (λ bytes. bytes) (λ bytes. eqb (length bytes) 32) (λ bytes. Some bytes))
+pub keys : Reads Blob (λ bytes. length bytes ≡ 32) key_in_cell
+keys = blob_reads (λ bytes. bytes) (λ bytes. length bytes ≡ 32) (checked_text (λ bytes. bytes) (λ bytes. eqb (length bytes) 32) (λ bytes. Some bytes))
     (checked_reads (λ bytes. bytes) (λ bytes. length bytes ≡ 32) (λ bytes. eqb (length bytes) 32) (λ bytes. Some bytes) (λ x fit. refl) (λ x h. grind (arith, nat_tests)) (λ x h. eq-eqb (length x) 32 h))
 
 all_fit : {T : Type 0} (fits : T → Bool) (Fits : T → Type 0) → ((x : T) → fits x ≡ true → Fits x) → (xs : List T) → list_all fits xs ≡ true → All Fits xs
@@ -166,8 +166,8 @@ fit_all fits Fits back [] h = refl
 fit_all fits Fits back (x ∷ xs) h = and_from _ _ (back x (All-head Fits x xs h)) (fit_all fits Fits back xs (All-tail Fits x xs h))
 
 pub lists : {T : Type 0} (text : T → List ℕ) (of_text : List ℕ → Option T) (Fits : T → Type 0) (fits : T → Bool) → AreListed text of_text Fits → ((x : T) → fits x ≡ true → Fits x) → ((x : T) → Fits x → fits x ≡ true)
-    → Reads (λ xs. Text (list_text text xs)) (All Fits) (list_of text fits of_text)
-lists text of_text Fits fits listed there back = text_reads (list_text text) (All Fits) (checked (list_text text) (list_all fits) (spelled_list of_text))
+    → Reads (λ xs. Text (list_text text xs)) (All Fits) (list_in_cell text fits of_text)
+lists text of_text Fits fits listed there back = text_reads (list_text text) (All Fits) (checked_text (list_text text) (list_all fits) (spelled_list of_text))
     (checked_reads (list_text text) (All Fits) (list_all fits) (spelled_list of_text) (list_again text of_text Fits listed) (all_fit fits Fits there) (fit_all fits Fits back))
 
 pub tags : Reads tags_cell (All (λ tag. is_tag tag ≡ true)) tags_of
@@ -218,18 +218,18 @@ v4s (Text bytes) = record { is = tt; only = λ x fit e. let bad : Number (pos x.
 v4s (Blob bytes) = record { is = tt; only = λ x fit e. let bad : Number (pos x.bits) ≡ Blob bytes = sym (v4_stored x fit.family) ∙ e in absurd (cc (bad)) }
 v4s Other = record { is = tt; only = λ x fit e. let bad : Number (pos x.bits) ≡ Other = sym (v4_stored x fit.family) ∙ e in absurd (cc (bad)) }
 
-v6_number_reads : Reads v6_bytes IsV6Number (checked v6_bytes (λ bits. nat_lt bits (2 ^ 128)) v6_in)
+v6_number_reads : Reads v6_bytes IsV6Number (checked_text v6_bytes (λ bits. nat_lt bits (2 ^ 128)) v6_in)
 v6_number_reads = checked_reads v6_bytes IsV6Number (λ bits. nat_lt bits (2 ^ 128)) v6_in v6_again (λ x h. lt_there x (2 ^ 128) h) (λ x h. lt_back x (2 ^ 128) h)
 
 pub v6s : Reads address_cell IsV6 v6_of
 v6s Null = record { is = tt; only = λ x fit e. let bad : Blob (v6_bytes x.bits) ≡ Null = sym (v6_stored x fit.family) ∙ e in absurd (cc (bad)) }
 v6s (Number n) = record { is = tt; only = λ x fit e. let bad : Blob (v6_bytes x.bits) ≡ Number n = sym (v6_stored x fit.family) ∙ e in absurd (cc (bad)) }
 v6s (Text bytes) = record { is = tt; only = λ x fit e. let bad : Blob (v6_bytes x.bits) ≡ Text bytes = sym (v6_stored x fit.family) ∙ e in absurd (cc (bad)) }
-v6s (Blob bytes) = blob_read bytes (checked v6_bytes (λ bits. nat_lt bits (2 ^ 128)) v6_in bytes) (v6_number_reads bytes)
+v6s (Blob bytes) = blob_read bytes (checked_text v6_bytes (λ bits. nat_lt bits (2 ^ 128)) v6_in bytes) (v6_number_reads bytes)
 v6s Other = record { is = tt; only = λ x fit e. let bad : Blob (v6_bytes x.bits) ≡ Other = sym (v6_stored x fit.family) ∙ e in absurd (cc (bad)) }
 
 pub addresses : Reads address_text_cell IsAddress address_of
-addresses = text_reads addr_text IsAddress (checked addr_text is_address addr_of_text)
+addresses = text_reads addr_text IsAddress (checked_text addr_text is_address addr_of_text)
     (checked_reads addr_text IsAddress is_address addr_of_text (λ addr small. addr_again addr small (addr_text addr) refl) (λ addr h. lt_there _ _ h) (λ addr h. lt_back _ _ h))
 
 -- ---- rows
@@ -241,7 +241,7 @@ meta_reads = mapped_reads meta_cells IsTypedCounters _ _ _ (λ (x : Counters). (
     (λ x. refl) (λ x fit. (tt, (tt, (fit.user, (fit.key, (fit.pending, (fit.machine, tt))))))) (λ x. refl) (λ q fit. refl)
     (λ q fit. record { user = fit.1.1.0; key = fit.1.1.1.0; pending = fit.1.1.1.1.0; machine = fit.1.1.1.1.1.0 })
 
-pub user_reads : Reads user_cells IsTypedUser user_of
+pub user_reads : Reads user_cells IsTypedUser user_in_cells
 user_reads = mapped_reads user_cells IsTypedUser _ _ _ (λ (x : User). (x.id, (x.login, tt))) (λ p. record { id = p.0; login = p.1.0 })
     (then_reads _ _ _ _ _ _ naturals (then_reads _ _ _ _ _ _ (texts_that is_login) end_reads))
     (λ x. refl) (λ x fit. (fit.id, (fit.login, tt))) (λ x. refl) (λ q fit. refl) (λ q fit. record { id = fit.0; login = fit.1.0 })
@@ -254,7 +254,7 @@ auth_key_reads = mapped_reads auth_key_cells IsTypedKey _ _ _ (λ (x : AuthKey).
     (λ x. refl) (λ x fit. (fit.id, (tt, (fit.user, (tt, (tt, (tt, (fit.expiry, (fit.tags, tt))))))))) (λ x. refl) (λ q fit. refl)
     (λ q fit. record { id = fit.0; user = fit.1.1.0; expiry = fit.1.1.1.1.1.1.0; tags = fit.1.1.1.1.1.1.1.0 })
 
-pub pending_reads : Reads pending_cells IsTypedPending pending_of
+pub pending_reads : Reads pending_cells IsTypedPending pending_in_cells
 pending_reads = mapped_reads pending_cells IsTypedPending _ _ _
     (λ (x : Pending). (x.id, (x.text, (x.machine.0, (x.node.0, (x.host, (x.routes, (x.tags, (x.ephemeral, (x.expiry, (x.made, tt)))))))))))
     (λ p. record { id = p.0; text = p.1.0; machine = record { 0 = p.1.1.0 }; node = record { 0 = p.1.1.1.0 }; host = p.1.1.1.1.0; routes = p.1.1.1.1.1.0; tags = p.1.1.1.1.1.1.0; ephemeral = p.1.1.1.1.1.1.1.0; expiry = p.1.1.1.1.1.1.1.1.0; made = p.1.1.1.1.1.1.1.1.1.0 })
@@ -263,7 +263,7 @@ pending_reads = mapped_reads pending_cells IsTypedPending _ _ _
     (λ x. refl) (λ x fit. (fit.id, (tt, (fit.machine, (fit.node, (tt, (fit.routes, (fit.tags, (tt, (fit.expiry, (fit.made, tt))))))))))) (λ x. refl) (λ q fit. refl)
     (λ q fit. record { id = fit.0; machine = fit.1.1.0; node = fit.1.1.1.0; routes = fit.1.1.1.1.1.0; tags = fit.1.1.1.1.1.1.0; expiry = fit.1.1.1.1.1.1.1.1.0; made = fit.1.1.1.1.1.1.1.1.1.0 })
 
-pub machine_reads : Reads machine_cells IsTypedMachine machine_of
+pub machine_reads : Reads machine_cells IsTypedMachine machine_in_cells
 machine_reads = mapped_reads machine_cells IsTypedMachine _ _ _
     (λ (x : Machine). (x.id, (x.user, (x.machine.0, (x.node.0, (x.disco.0, (x.host, (x.name, (x.v4, (x.v6, (x.endpoints, (x.derp, (x.routes, (x.approved, (x.tags, (x.ephemeral, (x.expiry, (x.created, tt))))))))))))))))))
     (λ p. record { id = p.0; user = p.1.0; machine = record { 0 = p.1.1.0 }; node = record { 0 = p.1.1.1.0 }; disco = record { 0 = p.1.1.1.1.0 }; host = p.1.1.1.1.1.0; name = p.1.1.1.1.1.1.0; v4 = p.1.1.1.1.1.1.1.0; v6 = p.1.1.1.1.1.1.1.1.0; endpoints = p.1.1.1.1.1.1.1.1.1.0; derp = p.1.1.1.1.1.1.1.1.1.1.0; routes = p.1.1.1.1.1.1.1.1.1.1.1.0; approved = p.1.1.1.1.1.1.1.1.1.1.1.1.0; tags = p.1.1.1.1.1.1.1.1.1.1.1.1.1.0; ephemeral = p.1.1.1.1.1.1.1.1.1.1.1.1.1.1.0; expiry = p.1.1.1.1.1.1.1.1.1.1.1.1.1.1.1.0; created = p.1.1.1.1.1.1.1.1.1.1.1.1.1.1.1.1.0 })
@@ -278,7 +278,7 @@ extra_reads place = mapped_reads (extra_cells place) IsTypedExtra _ _ _ (λ (x :
     (then_reads _ _ _ _ _ _ (these place) (then_reads _ _ _ _ _ _ any_texts (then_reads _ _ _ _ _ _ addresses end_reads)))
     (λ x. refl) (λ x fit. (tt, (tt, (fit, tt)))) (λ x. refl) (λ q fit. refl) (λ q fit. fit.1.1.0)
 
-pub policy_reads : Reads policy_cells (λ _. ⊤) policy_of
+pub policy_reads : Reads policy_cells (λ _. ⊤) policy_in_cells
 policy_reads = mapped_reads policy_cells (λ _. ⊤) _ _ _ (λ (x : List ℕ). (tt, (x, tt))) (λ p. p.1.0)
     (then_reads _ _ _ _ _ _ (these 1) (then_reads _ _ _ _ _ _ any_texts end_reads))
     (λ x. refl) (λ x fit. (tt, (tt, tt))) (λ x. refl) (λ q fit. refl) (λ q fit. tt)

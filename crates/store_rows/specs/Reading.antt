@@ -47,8 +47,8 @@ on_blob f (Blob bytes) = f bytes
 on_blob f Other = None
 
 -- what is guessed of bytes, where it passes the test and is stored as these bytes
-abbrev pub checked : {T : Type 0} → (T → List ℕ) → (T → Bool) → (List ℕ → Option T) → List ℕ → Option T
-checked stored fits guess given = option_and_then (λ x. if bytes_eq (stored x) given && fits x then Some x else None) (guess given)
+abbrev pub checked_text : {T : Type 0} → (T → List ℕ) → (T → Bool) → (List ℕ → Option T) → List ℕ → Option T
+checked_text stored fits guess given = option_and_then (λ x. if bytes_eq (stored x) given && fits x then Some x else None) (guess given)
 
 -- ---- columns
 
@@ -63,20 +63,20 @@ truth_of (pos n) = if n == 0 then Some false else (if n == 1 then Some true else
 truth_of (negsuc n) = None
 
 -- the seconds of a moment
-abbrev pub moment_of : ℤ → Option ℤ
-moment_of n = if int_le first_moment n && int_le n last_moment then Some n else None
+abbrev pub moment_in_cell : ℤ → Option ℤ
+moment_in_cell n = if int_le first_moment n && int_le n last_moment then Some n else None
 
 -- this number
 abbrev pub this_of : ℕ → ℤ → Option ⊤
 this_of m (pos n) = if n == m then Some tt else None
 this_of m (negsuc n) = None
 
-abbrev pub expiry_of : Cell → Option (Option ℤ)
-expiry_of Null = Some None
-expiry_of (Number n) = option_map (λ m. Some m) (moment_of n)
-expiry_of (Text bytes) = None
-expiry_of (Blob bytes) = None
-expiry_of Other = None
+abbrev pub expiry_in_cell : Cell → Option (Option ℤ)
+expiry_in_cell Null = Some None
+expiry_in_cell (Number n) = option_map (λ m. Some m) (moment_in_cell n)
+expiry_in_cell (Text bytes) = None
+expiry_in_cell (Blob bytes) = None
+expiry_in_cell Other = None
 
 -- a text of any form
 abbrev pub any_text : Cell → Option (List ℕ)
@@ -84,24 +84,24 @@ any_text = on_text (λ bytes. Some bytes)
 
 -- a text of a form
 abbrev pub text_that : (List ℕ → Bool) → Cell → Option (List ℕ)
-text_that fits = on_text (checked (λ bytes. bytes) fits (λ bytes. Some bytes))
+text_that fits = on_text (checked_text (λ bytes. bytes) fits (λ bytes. Some bytes))
 
 -- the 32 bytes of a key
-abbrev pub key_of : Cell → Option (List ℕ)
-key_of = on_blob (checked (λ bytes. bytes) (λ bytes. length bytes == 32) (λ bytes. Some bytes))
+abbrev pub key_in_cell : Cell → Option (List ℕ)
+key_in_cell = on_blob (checked_text (λ bytes. bytes) (λ bytes. length bytes == 32) (λ bytes. Some bytes))
 
 -- the elements of a list, which pass the test
-abbrev pub list_of : {T : Type 0} → (T → List ℕ) → (T → Bool) → (List ℕ → Option T) → Cell → Option (List T)
-list_of text fits of_text = on_text (checked (list_text text) (list_all fits) (spelled_list of_text))
+abbrev pub list_in_cell : {T : Type 0} → (T → List ℕ) → (T → Bool) → (List ℕ → Option T) → Cell → Option (List T)
+list_in_cell text fits of_text = on_text (checked_text (list_text text) (list_all fits) (spelled_list of_text))
 
 abbrev pub tags_of : Cell → Option (List (List ℕ))
-tags_of = list_of (λ tag. tag) is_tag tag_of
+tags_of = list_in_cell (λ tag. tag) is_tag tag_of
 
 abbrev pub is_block : Block → Bool
 is_block p = nat_lt p.base.bits (family_size p.base.v6) && nat_le p.len (family_bits p.base.v6) && (p.base.bits % size_of p == 0)
 
 abbrev pub routes_of : Cell → Option (List Block)
-routes_of = list_of prefix_text is_block (λ text. result_ok (prefix_of_text text))
+routes_of = list_in_cell prefix_text is_block (λ text. result_ok (prefix_of_text text))
 
 -- the address's number is one of its family
 abbrev pub is_address : Address → Bool
@@ -111,23 +111,23 @@ abbrev pub is_endpoint : Endpoint → Bool
 is_endpoint e = is_address e.addr && nat_lt e.port (2 ^ 16)
 
 abbrev pub endpoints_of : Cell → Option (List Endpoint)
-endpoints_of = list_of endpoint_text is_endpoint endpoint_of_text
+endpoints_of = list_in_cell endpoint_text is_endpoint endpoint_of_text
 
 abbrev pub v4_of : Cell → Option Address
 v4_of cell = option_map (λ bits. record { v6 = false; bits = bits }) (on_number natural_of cell)
 
 abbrev pub v6_of : Cell → Option Address
-v6_of cell = option_map (λ bits. record { v6 = true; bits = bits }) (on_blob (checked v6_bytes (λ bits. nat_lt bits (2 ^ 128)) v6_in) cell)
+v6_of cell = option_map (λ bits. record { v6 = true; bits = bits }) (on_blob (checked_text v6_bytes (λ bits. nat_lt bits (2 ^ 128)) v6_in) cell)
 
 abbrev pub address_of : Cell → Option Address
-address_of = on_text (checked addr_text is_address addr_of_text)
+address_of = on_text (checked_text addr_text is_address addr_of_text)
 
 -- ---- rows
 
 -- no more columns
-abbrev pub end_of : List Cell → Option ⊤
-end_of [] = Some tt
-end_of (cell ∷ cells) = None
+abbrev pub end_of_cells : List Cell → Option ⊤
+end_of_cells [] = Some tt
+end_of_cells (cell ∷ cells) = None
 
 -- one column, and those behind it
 abbrev pub then_of : {A B : Type 0} → (Cell → Option A) → (List Cell → Option B) → List Cell → Option (A × B)
@@ -138,10 +138,10 @@ abbrev pub meta_of : List Cell → Option Counters
 meta_of cells =
     option_map (λ p. record { user = p.1.1.0; key = p.1.1.1.0; pending = p.1.1.1.1.0; machine = p.1.1.1.1.1.0 })
     (then_of (on_number (this_of 1)) (then_of (on_number (this_of 1))
-    (then_of (on_number natural_of) (then_of (on_number natural_of) (then_of (on_number natural_of) (then_of (on_number natural_of) end_of))))) cells)
+    (then_of (on_number natural_of) (then_of (on_number natural_of) (then_of (on_number natural_of) (then_of (on_number natural_of) end_of_cells))))) cells)
 
-abbrev pub user_of : List Cell → Option User
-user_of cells = option_map (λ p. record { id = p.0; login = p.1.0 }) (then_of (on_number natural_of) (then_of (text_that is_login) end_of) cells)
+abbrev pub user_in_cells : List Cell → Option User
+user_in_cells cells = option_map (λ p. record { id = p.0; login = p.1.0 }) (then_of (on_number natural_of) (then_of (text_that is_login) end_of_cells) cells)
 
 abbrev pub auth_key_of : List Cell → Option AuthKey
 auth_key_of cells =
@@ -157,10 +157,10 @@ auth_key_of cells =
     })
     (then_of (on_number natural_of) (then_of any_text (then_of (on_number natural_of)
     (then_of (on_number truth_of) (then_of (on_number truth_of) (then_of (on_number truth_of)
-    (then_of expiry_of (then_of tags_of end_of))))))) cells)
+    (then_of expiry_in_cell (then_of tags_of end_of_cells))))))) cells)
 
-abbrev pub pending_of : List Cell → Option Pending
-pending_of cells =
+abbrev pub pending_in_cells : List Cell → Option Pending
+pending_in_cells cells =
     option_map (λ p. record {
       id = p.0;
       text = p.1.0;
@@ -173,11 +173,11 @@ pending_of cells =
       expiry = p.1.1.1.1.1.1.1.1.0;
       made = p.1.1.1.1.1.1.1.1.1.0;
     })
-    (then_of (on_number natural_of) (then_of any_text (then_of key_of (then_of key_of (then_of any_text
-    (then_of routes_of (then_of tags_of (then_of (on_number truth_of) (then_of expiry_of (then_of (on_number moment_of) end_of))))))))) cells)
+    (then_of (on_number natural_of) (then_of any_text (then_of key_in_cell (then_of key_in_cell (then_of any_text
+    (then_of routes_of (then_of tags_of (then_of (on_number truth_of) (then_of expiry_in_cell (then_of (on_number moment_in_cell) end_of_cells))))))))) cells)
 
-abbrev pub machine_of : List Cell → Option Machine
-machine_of cells =
+abbrev pub machine_in_cells : List Cell → Option Machine
+machine_in_cells cells =
     option_map (λ p. record {
       id = p.0;
       user = p.1.0;
@@ -197,14 +197,14 @@ machine_of cells =
       expiry = p.1.1.1.1.1.1.1.1.1.1.1.1.1.1.1.0;
       created = p.1.1.1.1.1.1.1.1.1.1.1.1.1.1.1.1.0;
     })
-    (then_of (on_number natural_of) (then_of (on_number natural_of) (then_of key_of (then_of key_of (then_of key_of
+    (then_of (on_number natural_of) (then_of (on_number natural_of) (then_of key_in_cell (then_of key_in_cell (then_of key_in_cell
     (then_of any_text (then_of (text_that is_label) (then_of v4_of (then_of v6_of
     (then_of endpoints_of (then_of (on_number natural_of) (then_of routes_of (then_of routes_of (then_of tags_of
-    (then_of (on_number truth_of) (then_of expiry_of (then_of (on_number moment_of) end_of)))))))))))))))) cells)
+    (then_of (on_number truth_of) (then_of expiry_in_cell (then_of (on_number moment_in_cell) end_of_cells)))))))))))))))) cells)
 
 -- the extra record of a place
 abbrev pub extra_of : ℕ → List Cell → Option DnsExtra
-extra_of place cells = option_map (λ p. record { name = p.1.0; addr = p.1.1.0 }) (then_of (on_number (this_of place)) (then_of any_text (then_of address_of end_of)) cells)
+extra_of place cells = option_map (λ p. record { name = p.1.0; addr = p.1.1.0 }) (then_of (on_number (this_of place)) (then_of any_text (then_of address_of end_of_cells)) cells)
 
-abbrev pub policy_of : List Cell → Option (List ℕ)
-policy_of cells = option_map (λ p. p.1.0) (then_of (on_number (this_of 1)) (then_of any_text end_of) cells)
+abbrev pub policy_in_cells : List Cell → Option (List ℕ)
+policy_in_cells cells = option_map (λ p. p.1.0) (then_of (on_number (this_of 1)) (then_of any_text end_of_cells) cells)

@@ -2,7 +2,7 @@ use Rattle.net_rows.specs.Rows.{empty_rows}
 use Rattle.net_rows.proofs.Empty.{damage-empty}
 use Rattle.std.proofs.Common.{ap, is_ok, arith}
 use Rattle.sqlite.specs.Held.{state}
-use Rattle.keeper_sqlite.specs.Told.{told}
+use Rattle.keeper_sqlite.specs.Told.{store_tells}
 use Rattle.keeper_sqlite.proofs.Firsts.{empty_readable}
 use Rattle.keeper_sqlite.proofs.Loading.{still_first, still_seen, still_then}
 use Rattle.keeper_sqlite.proofs.load.load_tables.Goals as goal
@@ -16,9 +16,9 @@ returns-in-Ok-clause-still g c rest =
     let old = state g.S.Store c.args.conn.now in
     let mid = state g.S.Store c.prepare.new.conn in
     let new = state g.S.Store c.read_tables.new.conn in
-    still_then (told old) (told mid) (told new)
+    still_then (store_tells old) (store_tells mid) (store_tells new)
     (still_first old mid rest (λ clean none. omega (arith, (c.prepare.ensures.crash clean none).clean, clean)) (λ none clean opened. c.prepare.ensures.left rest none clean opened)
-    (λ other. ap (λ h. told (state g.S.Store h)) (c.prepare.ensures.other other)))
+    (λ other. ap (λ h. store_tells (state g.S.Store h)) (c.prepare.ensures.other other)))
     (still_seen mid new (is_ok c.read_tables.result) c.read_tables.ensures.seen c.in-Ok.ensures.ours (λ clean. c.in-Ok.ensures.rest clean rest))
 
 pub returns-in-Err-clause-still : goal.returns-in-Err-clause-still
@@ -26,4 +26,4 @@ returns-in-Err-clause-still g c rest =
     let old = state g.S.Store c.args.conn.now in
     let mid = state g.S.Store c.prepare.new.conn in
     still_first old mid rest (λ clean none. omega (arith, (c.prepare.ensures.crash clean none).clean, clean)) (λ none clean opened. c.prepare.ensures.left rest none clean opened)
-    (λ other. ap (λ h. told (state g.S.Store h)) (c.prepare.ensures.other other))
+    (λ other. ap (λ h. store_tells (state g.S.Store h)) (c.prepare.ensures.other other))

@@ -1,7 +1,7 @@
 use Rattle.std.proofs.Common.{◌≡◌, arith, rules, subst, sym}
 use Rattle.io_edge.specs.Edge.{StillTells}
 use Rattle.sqlite.specs.Held.{state}
-use Rattle.keeper_sqlite.specs.Told.{told}
+use Rattle.keeper_sqlite.specs.Told.{store_tells}
 use Rattle.keeper_sqlite.proofs.Changing.{known_ok, still_err, still_ok}
 use Rattle.keeper_sqlite.proofs.keeper.SqliteKeeper.keep.Goals as goal
 
@@ -23,5 +23,5 @@ pub returns-in-Err-Failed-clause-still_err : goal.returns-in-Err-Failed-clause-s
 returns-in-Err-Failed-clause-still_err g c =
     let old = state g.S.Store c.args.self.now.conn in
     let same : c.raise-in-Err-Failed.new.self.conn ≡ c.commit.new.conn = search rules in
-    subst (λ h. StillTells (told old) (told (state g.S.Store h))) (sym same)
+    subst (λ h. StillTells (store_tells old) (store_tells (state g.S.Store h))) (sym same)
     (still_err old (state g.S.Store c.commit.new.conn) (λ clean. omega (arith, c.commit.ensures.crash.clean, clean)) c.commit.ensures.opened c.in-Err-Failed.ensures.err)
