@@ -59,5 +59,6 @@ pub fn rows_are_read_by_columns()
         → IsReadBack machine_cells IsTypedMachine row (machine_in_cells row) }
     ensures extras { (place : ℕ) (row : List Cell)
         → IsReadBack (extra_cells place) IsTypedExtra row (extra_of place row) }
-    ensures policy { (row : List Cell) → IsReadBack policy_cells (λ _. ⊤) row (policy_in_cells row) }
+    ensures policy { (row : List Cell)
+        → IsReadBack policy_cells (λ _. ⊤) row (policy_in_cells row) }
 {}
