@@ -1,6 +1,10 @@
 //! A keeper over a connection to a database.
-ghost use Rattle.std.specs.Prelude.{◌≡◌, ◌≤◌, None, Err, false, is_ok, IsTrue, IfOk, IfErr, OnOk, OnErr, IsErrOf};
-ghost use Rattle.io_edge.specs.Edge.{Rose};
+ghost use Rattle.std.specs.Prelude.{◌≡◌, ◌≤◌, ℕ, None, Err, false, is_ok, IsTrue, IfOk, IfErr, IfSome, OnOk, OnErr, IsErrOf};
+ghost use Rattle.std.specs.Option.{option_map};
+ghost use Rattle.io_edge.specs.Edge.{IsWhereTold, Rose, StillTells};
+ghost use Rattle.keeper_sqlite.specs.Tells.{IsKnown};
+ghost use Rattle.keeper_sqlite.specs.Told.{store_tells};
+ghost use Rattle.net_rows.specs.declared.change.Kind.{Kind};
 ghost use Rattle.net_rows.specs.Damage.{damage};
 ghost use Rattle.net_rows.specs.Rows.{after, empty_rows};
 ghost use Rattle.net_rows.specs.declared.rows.Rows.{Rows};
@@ -89,6 +93,13 @@ impl<S: Alter> SqliteKeeper<S> {
             → (state S.Store self.old.conn).now.schema ≡ no_schema
             → Survives (state S.Store self.old.conn) (state S.Store self.new.conn)
             (λ trees. AreStored trees empty_rows) }
+        ensures tells { IfOk result (λ tables.
+            IsWhereTold tables.rows (store_tells (state S.Store self.new.conn))) }
+        ensures damaged { IfErr result (λ e. (kind : Kind) (id : ℕ)
+            → e ≡ LoadFault.Damaged kind id → store_tells (state S.Store self.new.conn) ≡ None) }
+        ensures still { StillTells (store_tells (state S.Store self.old.conn))
+            (store_tells (state S.Store self.new.conn)) }
+        ensures known { OnOk result (IsKnown (state S.Store self.new.conn)) }
         ensures taken { OnOk result (IsTrue self.new.is_loaded) }
         ensures calls { self.new.calls ≡ self.old.calls }
         ensures later { self.old.faults ≤ self.new.faults }
@@ -116,6 +127,18 @@ impl<S: Alter> SqliteKeeper<S> {
             → OnErr result (Leaves (state S.Store self.old.conn) (state S.Store self.new.conn)) }
         ensures crash { Survives (state S.Store self.old.conn) (state S.Store self.new.conn)
             (HoldsMade (state S.Store self.old.conn).now (λ rows. after rows change.now)) }
+        ensures still_ok { IsKnown (state S.Store self.old.conn)
+            → IfSome (store_tells (state S.Store self.old.conn))
+            (λ rows. damage (after rows change.now) ≡ None)
+            → OnOk result (StillTells (option_map (λ rows. after rows change.now)
+            (store_tells (state S.Store self.old.conn)))
+            (store_tells (state S.Store self.new.conn))) }
+        ensures still_err { OnErr result (StillTells (store_tells (state S.Store self.old.conn))
+            (store_tells (state S.Store self.new.conn))) }
+        ensures known { IsKnown (state S.Store self.old.conn)
+            → IfSome (store_tells (state S.Store self.old.conn))
+            (λ rows. damage (after rows change.now) ≡ None)
+            → IsKnown (state S.Store self.new.conn) }
         ensures calls { self.new.calls ≡ self.old.calls }
         ensures later { self.old.faults ≤ self.new.faults }
         ensures cause { IsErrOf result EdgeFault.Failed → Rose self.old.faults self.new.faults }

@@ -1,10 +1,14 @@
 //! The tables that a database keeps.
-ghost use Rattle.std.specs.Prelude.{◌≡◌, None, Ok, IfOk, IfErr, OnOk, is_ok};
+ghost use Rattle.std.specs.Prelude.{◌≡◌, ℕ, None, Ok, IfOk, IfErr, IsTrue, OnOk, is_ok};
+ghost use Rattle.io_edge.specs.Edge.{IsWhereTold, StillTells};
+ghost use Rattle.net_rows.specs.declared.change.Kind.{Kind as RowKind};
+ghost use Rattle.keeper_sqlite.specs.Tells.{Holds, IsAtRest, IsFirst, IsKnown};
+ghost use Rattle.keeper_sqlite.specs.Told.{store_tells};
 ghost use Rattle.net_rows.specs.Damage.{damage};
 ghost use Rattle.net_rows.specs.Rows.{empty_rows};
 ghost use Rattle.net_rows.specs.declared.rows.Rows.{Rows};
 ghost use Rattle.sqlite.specs.Held.{state};
-ghost use Rattle.sqlite.specs.State.{HasCleanDisk, Survives};
+ghost use Rattle.sqlite.specs.State.{HasCleanDisk, IsLive, Survives};
 ghost use Rattle.store_commits.specs.Kept.{AreStored, Keeps};
 ghost use Rattle.store_reads.specs.Readable.{AreReadable, Fills, IsOutside};
 ghost use Rattle.store_reads.specs.Seen.{IsSeen};
@@ -37,6 +41,12 @@ fn make<S: Alter>(conn: &mut Connection<S>, alloc: Global) -> Result<(), Fault>
         → (state S.Store conn.old).now.schema ≡ no_schema
         → Survives (state S.Store conn.old) (state S.Store conn.new)
         (λ trees. AreStored trees empty_rows) }
+    ensures left { IsAtRest (state S.Store conn.old)
+        → (state S.Store conn.old).now.schema ≡ no_schema
+        → HasCleanDisk (state S.Store conn.new) → IsTrue (state S.Store conn.new).is_open
+        → IsFirst (state S.Store conn.old) (state S.Store conn.new) }
+    ensures rest { HasCleanDisk (state S.Store conn.new)
+        → OnOk result (IsAtRest (state S.Store conn.new)) }
 {
     match listed(conn) {
         Ok(listed) if listed.is_empty() => create(conn, alloc),
@@ -49,6 +59,7 @@ fn make<S: Alter>(conn: &mut Connection<S>, alloc: Global) -> Result<(), Fault>
 fn require_ours<S: Alter>(conn: &Connection<S>) -> Result<(), LoadFault>
     ensures ours { OnOk result ((state S.Store conn.now).now.schema ≡ schema_1) }
     ensures there { (state S.Store conn.now).now.schema ≡ schema_1 → result ≡ Ok tt }
+    ensures live { IsLive (state S.Store conn.now) }
 {
     if is_schema_1(conn.schema()) {
         Ok(())
@@ -70,6 +81,13 @@ fn make_first<S: Alter>(conn: &mut Connection<S>, alloc: Global) -> Result<(), L
         → (state S.Store conn.old).now.schema ≡ no_schema
         → Survives (state S.Store conn.old) (state S.Store conn.new)
         (λ trees. AreStored trees empty_rows) }
+    ensures left { IsAtRest (state S.Store conn.old)
+        → (state S.Store conn.old).now.schema ≡ no_schema
+        → HasCleanDisk (state S.Store conn.new) → IsTrue (state S.Store conn.new).is_open
+        → IsFirst (state S.Store conn.old) (state S.Store conn.new) }
+    ensures rest { HasCleanDisk (state S.Store conn.new)
+        → OnOk result (IsAtRest (state S.Store conn.new)) }
+    ensures live { OnOk result (IsLive (state S.Store conn.new)) }
 {
     match make(conn, alloc) {
         Ok(()) => require_ours(conn),
@@ -90,6 +108,15 @@ fn prepare<S: Alter>(conn: &mut Connection<S>, alloc: Global) -> Result<(), Load
         → (state S.Store conn.old).now.schema ≡ no_schema
         → Survives (state S.Store conn.old) (state S.Store conn.new)
         (λ trees. AreStored trees empty_rows) }
+    ensures left { IsAtRest (state S.Store conn.old)
+        → (state S.Store conn.old).now.schema ≡ no_schema
+        → HasCleanDisk (state S.Store conn.new) → IsTrue (state S.Store conn.new).is_open
+        → IsFirst (state S.Store conn.old) (state S.Store conn.new) }
+    ensures rest { HasCleanDisk (state S.Store conn.new) → IsAtRest (state S.Store conn.old)
+        → OnOk result (IsAtRest (state S.Store conn.new)) }
+    ensures live { OnOk result (IsLive (state S.Store conn.new)) }
+    ensures other { ((state S.Store conn.old).now.schema ≡ no_schema → ⊥)
+        → conn.new ≡ conn.old }
 {
     if is_empty(conn.schema()) {
         make_first(conn, alloc)
@@ -102,6 +129,7 @@ fn prepare<S: Alter>(conn: &mut Connection<S>, alloc: Global) -> Result<(), Load
 fn tables_of(rows: Rows) -> Result<Tables, LoadFault>
     ensures ok { IfOk result (λ tables. tables.rows ≡ rows) }
     ensures whole { damage rows ≡ None → IfErr result IsOutside }
+    ensures sound { OnOk result (damage rows ≡ None) }
 {
     match Tables::checked(rows) {
         Ok(tables) => Ok(tables),
@@ -119,6 +147,10 @@ fn read_tables<S: Alter>(conn: &mut Connection<S>, alloc: Global) -> Result<Tabl
     ensures whole { HasCleanDisk (state S.Store conn.new) → (rows : Rows)
         → Keeps (state S.Store conn.old).now rows → AreReadable rows → damage rows ≡ None
         → IfErr result IsOutside }
+    ensures known { HasCleanDisk (state S.Store conn.new)
+        → (state S.Store conn.old).now.schema ≡ schema_1 → IsLive (state S.Store conn.old)
+        → IfOk result (λ tables. IsTrue (state S.Store conn.new).is_open
+        → Holds (state S.Store conn.new).now tables.rows) }
 {
     match read_rows(conn, alloc) {
         Ok(rows) => tables_of(rows),
@@ -145,6 +177,11 @@ fn load_tables<S: Alter>(conn: &mut Connection<S>, alloc: Global) -> Result<Tabl
         → (state S.Store conn.old).now.schema ≡ no_schema
         → Survives (state S.Store conn.old) (state S.Store conn.new)
         (λ trees. AreStored trees empty_rows) }
+    ensures still { IsAtRest (state S.Store conn.old)
+        → StillTells (store_tells (state S.Store conn.old)) (store_tells (state S.Store conn.new)) }
+    ensures known { HasCleanDisk (state S.Store conn.new) → IfOk result (λ tables.
+        IsTrue (state S.Store conn.new).is_open
+        → Holds (state S.Store conn.new).now tables.rows) }
 {
     match prepare(conn, alloc) {
         Ok(()) => read_tables(conn, alloc),
@@ -172,6 +209,16 @@ pub(crate) fn load<S: Alter>(conn: &mut Connection<S>, alloc: Global) -> Result<
         → (state S.Store conn.old).now.schema ≡ no_schema
         → Survives (state S.Store conn.old) (state S.Store conn.new)
         (λ trees. AreStored trees empty_rows) }
+    ensures still { StillTells (store_tells (state S.Store conn.old))
+        (store_tells (state S.Store conn.new)) }
+    ensures known { HasCleanDisk (state S.Store conn.new) → IfOk result (λ tables.
+        IsTrue (state S.Store conn.new).is_open
+        → Holds (state S.Store conn.new).now tables.rows) }
+    ensures tells { IfOk result (λ tables. IsWhereTold tables.rows
+        (store_tells (state S.Store conn.new))) }
+    ensures damaged { IfErr result (λ e. (kind : RowKind) (id : ℕ)
+        → e ≡ LoadFault.Damaged kind id → store_tells (state S.Store conn.new) ≡ None) }
+    ensures knows { OnOk result (IsKnown (state S.Store conn.new)) }
 {
     if !conn.is_autocommit() {
         return Err(LoadFault::Failed);

@@ -1,5 +1,6 @@
 -- Steps of a change, one behind the other.
-use Rattle.std.proofs.Common.{◌≡◌, ◌+◌, ◌<◌, ◌⊎◌, ℕ, List, [], ◌∷◌, ◌++◌, map, length, take, get_or, Bool, true, Ok, Err, Result, OnOk, refl, sym, ap, subst, ◌∙◌, arith}
+use Rattle.std.proofs.Common.{◌≡◌, ◌+◌, ◌<◌, ℕ, List, [], ◌∷◌, ◌++◌, map, length, take, get_or, Ok, Err, Result, OnOk, refl, sym, ap, subst, ◌∙◌, arith}
+use Rattle.std.specs.List.{AllByRecursion}
 use Rattle.std.proofs.Math.Seq.{take-length}
 use Rattle.std.proofs.lemmas.List.{take_more, length-take-le}
 use Rattle.net_rows.specs.Rows.{put, put_all, take_out, take_all_out}
@@ -56,3 +57,15 @@ whole_put a b xs one rows was = subst (λ l. Keeps b (put_all rows l)) (take-len
 
 pub whole_extras : (a b : Database) (xs : List DnsExtra) → Makes a b (λ rows. record rows { extras = take (length xs) xs }) → Makes a b (λ rows. record rows { extras = xs })
 whole_extras a b xs one rows was = subst (λ l. Keeps b (record rows { extras = l })) (take-length xs) (one rows was)
+
+-- ---- what is written is readable, one row behind the other
+
+all_with_last : {T : Type 0} (P : T → Type 0) (xs : List T) (x : T) → AllByRecursion P xs → P x → AllByRecursion P (xs ++ x ∷ [])
+all_with_last P [] x all one = (one, tt)
+all_with_last P (y ∷ xs) x all one = (all.0, all_with_last P xs x all.1 one)
+
+pub one_more_readable : {T : Type 0} (P : T → Type 0) (xs : List T) (i : ℕ) (x : T) → i < length xs → x ≡ get_or xs i x → AllByRecursion P (take i xs) → P x → AllByRecursion P (take (i + 1) xs)
+one_more_readable P xs i x less is all one = subst (AllByRecursion P) (sym (one_more xs i x less is)) (all_with_last P (take i xs) x all one)
+
+pub whole_readable : {T : Type 0} (P : T → Type 0) (xs : List T) → AllByRecursion P (take (length xs) xs) → AllByRecursion P xs
+whole_readable P xs all = subst (AllByRecursion P) (take-length xs) all

@@ -1,14 +1,16 @@
 -- The tables that were made, with the first counters, keep no row.
-use Rattle.std.proofs.Common.{◌≡◌, ◌∷◌, ◌∙◌, ℕ, pos, List, [], drop, map, refl, sym, subst, arith}
+use Rattle.std.proofs.Common.{◌≡◌, ◌∷◌, ◌∙◌, ℕ, pos, List, [], drop, map, refl, sym, subst, arith, IsPermutation}
+use Rattle.std.proofs.lemmas.List.Sorted.{IsPermutation-refl}
 use Rattle.net_rows.specs.Rows.{empty_rows}
 use Rattle.net_rows.specs.declared.change.Counters.{Counters}
 use Rattle.sqlite.specs.Effect.{Database}
+use Rattle.sqlite_value.specs.Order.{Row}
 use Rattle.sqlite_schema.specs.declared.schema.Schema.{Schema}
 use Rattle.sqlite_schema.specs.declared.schema.Table.{Table}
 use Rattle.store_rows.specs.Rows.{meta_cells}
 use Rattle.store_texts.specs.Making.{AreEmpty, LeadsTo}
 use Rattle.store_texts.specs.Ran.{IsPutBy}
-use Rattle.store_texts.specs.Schema.{schema_1, meta_table}
+use Rattle.store_texts.specs.Schema.{meta_table}
 use Rattle.store_texts.specs.Texts.{insert_meta_text, update_meta_text}
 use Rattle.store_texts.proofs.Inserts.{insert_meta_means}
 use Rattle.store_texts.proofs.Places.{meta_place}
@@ -19,6 +21,9 @@ use Rattle.store_commits.specs.Kept.{Keeps, tree_row, value_of}
 -- the text of a function is the one that the definition names
 pub leads_named : (text named : List ℕ) (table : Table) (rest : List (List ℕ × Table)) (db : Database) → text ≡ named → LeadsTo ((named, table) ∷ rest) db → LeadsTo ((text, table) ∷ rest) db
 leads_named text named table rest db e was = subst (λ t. LeadsTo ((t, table) ∷ rest) db) (sym e) was
+
+none_in : (tree : List Row) → tree ≡ [] → IsPermutation [] tree
+none_in tree e = subst (IsPermutation []) (sym e) (IsPermutation-refl [])
 
 pub keeps_first : (mid new : Database) → LeadsTo [] mid → IsPutBy update_meta_text insert_meta_text (map value_of (meta_cells empty_rows.next)) mid new → Keeps new empty_rows
 keeps_first mid new made put =
@@ -31,11 +36,11 @@ keeps_first mid new made put =
       schema = set.schema_is;
       stored = record {
         meta = set.rows_are;
-        users = set.others.1.0 (λ (e : 1 ≡ 0). omega (arith, e)) ∙ empty.1.0;
-        keys = set.others.1.1.0 (λ (e : 3 ≡ 0). omega (arith, e)) ∙ empty.1.1.0;
-        pending = set.others.1.1.1.0 (λ (e : 5 ≡ 0). omega (arith, e)) ∙ empty.1.1.1.0;
-        machines = set.others.1.1.1.1.0 (λ (e : 8 ≡ 0). omega (arith, e)) ∙ empty.1.1.1.1.0;
-        extras = set.others.1.1.1.1.1.0 (λ (e : 14 ≡ 0). omega (arith, e)) ∙ empty.1.1.1.1.1.0;
+        users = none_in _ (set.others.1.0 (λ (e : 1 ≡ 0). omega (arith, e)) ∙ empty.1.0);
+        keys = none_in _ (set.others.1.1.0 (λ (e : 3 ≡ 0). omega (arith, e)) ∙ empty.1.1.0);
+        pending = none_in _ (set.others.1.1.1.0 (λ (e : 5 ≡ 0). omega (arith, e)) ∙ empty.1.1.1.0);
+        machines = none_in _ (set.others.1.1.1.1.0 (λ (e : 8 ≡ 0). omega (arith, e)) ∙ empty.1.1.1.1.0);
+        extras = none_in _ (set.others.1.1.1.1.1.0 (λ (e : 14 ≡ 0). omega (arith, e)) ∙ empty.1.1.1.1.1.0);
         policy = set.others.1.1.1.1.1.1.0 (λ (e : 15 ≡ 0). omega (arith, e)) ∙ empty.1.1.1.1.1.1.0;
       };
       ordered = record { users = tt; keys = tt; pending = tt; machines = tt };

@@ -1,8 +1,8 @@
 -- What each statement of a change makes of the rows that a database keeps.
-use Rattle.std.proofs.Common.{◌≡◌, ◌+◌, ℕ, ℤ, cond, pos, List, [], ◌∷◌, ◌++◌, map, drop, length, codes, Bool, true, false, Option, None, Some, refl, sym, ap, subst, ◌∙◌, arith}
-use Rattle.sqlite_value.specs.declared.value.Value.{Value}
-use Rattle.sqlite_value.specs.declared.value.Value.TheVariants.{Null, Int, Text, Blob}
+use Rattle.std.proofs.Common.{◌≡◌, ◌+◌, ℕ, ℤ, cond, pos, List, [], ◌∷◌, ◌++◌, map, drop, length, Bool, true, false, Option, None, Some, refl, sym, ap, subst, ◌∙◌, arith, IsPermutation}
+use Rattle.sqlite_value.specs.declared.value.Value.TheVariants.{Int, Text}
 use Rattle.sqlite_value.specs.Order.{Row}
+use Rattle.std.proofs.lemmas.List.Sorted.{IsPermutation-map, IsPermutation-refl}
 use Rattle.std.specs.Option.{option_to_list}
 use Rattle.sqlite_trees.specs.Tree.{put_row as put_tree}
 use Rattle.store_rows.specs.declared.cell.Cell.TheVariants as cell
@@ -36,10 +36,13 @@ use Rattle.store_texts.proofs.Places.{users_place, auth_keys_place, pending_plac
 use Rattle.store_texts.proofs.Puts.{cast_number, cast_nothing, cast_bytes, puts_row, takes_out, takes_all_out, adds_row}
 use Rattle.store_texts.specs.Standing.{SetsRows}
 use Rattle.tailcfg.specs.declared.dns.DnsExtra.{DnsExtra}
-use Rattle.store_commits.specs.Kept.{AreById, AreStored, Keeps, Makes, placed_rows, policy_row, tree_row, value_of}
+use Rattle.store_commits.specs.Kept.{AreById, Keeps, Makes, placed_rows, policy_row, tree_row, value_of}
 use Rattle.store_commits.specs.Gone.{gone_text, gone_id}
 use Rattle.store_commits.specs.Kept.{IsAdded}
-use Rattle.store_commits.proofs.KeptLists.{put_in_place, with_places, extra_rest, placed_are, put_last}
+use Rattle.store_commits.proofs.KeptLists.{image_of, left_in_order, put_in_place, with_places, extra_rest, placed_are, put_last}
+
+moved : (rows old new : List Row) → new ≡ old → IsPermutation rows old → IsPermutation rows new
+moved rows old new e same = subst (IsPermutation rows) (sym e) same
 
 resets : (schema : _) (tree : ℕ) (a b : List Row) (old new : Database) → a ≡ b → SetsRows schema tree a old new → SetsRows schema tree b old new
 resets schema tree a b old new e set = subst (λ rows. SetsRows schema tree rows old new) e set
@@ -60,17 +63,17 @@ address_taken : (addr : Address) → cast Integer (value_of (address_cell addr))
 address_taken addr = number_or_bytes addr addr.v6
 
 -- the rows of `users` are now these
-set_users : (old new : Database) (rows : Rows) (xs : List User) → Keeps old rows → SetsRows schema_1 1 (map (λ r. tree_row (user_cells r)) xs) old new
+set_users : (old new : Database) (rows : Rows) (xs : List User) (stood : List Row) → Keeps old rows → SetsRows schema_1 1 stood old new → IsPermutation (map (λ r. tree_row (user_cells r)) xs) stood
     → AreById (record rows { users = xs }) → Keeps new (record rows { users = xs })
-set_users old new rows xs was set by = record {
+set_users old new rows xs stood was set order by = record {
   schema = set.schema_is;
   stored = record {
     meta = set.others.0 (λ (e : 0 ≡ 1). omega (arith, e)) ∙ was.stored.meta;
-    users = set.rows_are;
-    keys = set.others.1.1.0 (λ (e : 3 ≡ 1). omega (arith, e)) ∙ was.stored.keys;
-    pending = set.others.1.1.1.0 (λ (e : 5 ≡ 1). omega (arith, e)) ∙ was.stored.pending;
-    machines = set.others.1.1.1.1.0 (λ (e : 8 ≡ 1). omega (arith, e)) ∙ was.stored.machines;
-    extras = set.others.1.1.1.1.1.0 (λ (e : 14 ≡ 1). omega (arith, e)) ∙ was.stored.extras;
+    users = subst (λ l. IsPermutation (map (λ r. tree_row (user_cells r)) xs) l) (sym set.rows_are) order;
+    keys = moved _ _ _ (set.others.1.1.0 (λ (e : 3 ≡ 1). omega (arith, e))) was.stored.keys;
+    pending = moved _ _ _ (set.others.1.1.1.0 (λ (e : 5 ≡ 1). omega (arith, e))) was.stored.pending;
+    machines = moved _ _ _ (set.others.1.1.1.1.0 (λ (e : 8 ≡ 1). omega (arith, e))) was.stored.machines;
+    extras = moved _ _ _ (set.others.1.1.1.1.1.0 (λ (e : 14 ≡ 1). omega (arith, e))) was.stored.extras;
     policy = set.others.1.1.1.1.1.1.0 (λ (e : 15 ≡ 1). omega (arith, e)) ∙ was.stored.policy;
   };
   ordered = by;
@@ -83,31 +86,33 @@ pub user_put : (old new : Database) (x : User) → IsPutBy update_users_text ins
     → Makes old new (λ rows. record rows { users = put_row (λ r. r.id) rows.users x })
 user_put old new x put rows was =
     let key = λ (r : User). r.id in
-    let set = puts_row 1 1 (drop 1 users_table.columns) users_place x.id (drop 1 (map value_of (user_cells x))) (refl, tt) key user_rest rows.users update_users_text insert_users_text _ _ _ old new
-    was.schema was.stored.users update_users_means insert_users_means (λ row. refl) refl put in
-    set_users old new rows (put_row key rows.users x) was (resets _ _ _ _ old new (put_in_place key user_rest x rows.users was.ordered.users) set)
+    let stood = image_of (row_of key user_rest) rows.users (old.trees 1) was.stored.users in
+    let set = puts_row 1 1 (drop 1 users_table.columns) users_place x.id (drop 1 (map value_of (user_cells x))) (refl, tt) key user_rest stood.them update_users_text insert_users_text _ _ _ old new
+    was.schema stood.are update_users_means insert_users_means (λ row. refl) refl put in
+    set_users old new rows (put_row key rows.users x) _ was set (put_in_place key user_rest x rows.users stood.them was.ordered.users stood.same)
     (record { users = IsAscending-put key rows.users x was.ordered.users; keys = was.ordered.keys; pending = was.ordered.pending; machines = was.ordered.machines })
 
 user_gone : (old new : Database) (id count : ℕ) → HasRun delete_users_text (Int (pos id) ∷ []) count old new
     → Makes old new (λ rows. record rows { users = without (λ r. r.id) rows.users id })
 user_gone old new id count ran rows was =
     let key = λ (r : User). r.id in
-    let set = takes_out 1 1 (drop 1 users_table.columns) users_place key user_rest rows.users delete_users_text count old new was.schema was.stored.users id delete_users_means ran in
-    set_users old new rows (without key rows.users id) was set
+    let stood = image_of (row_of key user_rest) rows.users (old.trees 1) was.stored.users in
+    let set = takes_out 1 1 (drop 1 users_table.columns) users_place key user_rest stood.them delete_users_text count old new was.schema stood.are id delete_users_means ran in
+    set_users old new rows (without key rows.users id) _ was set (IsPermutation-map (row_of key user_rest) _ _ (left_in_order key user_rest id rows.users stood.them stood.same))
     (record { users = IsAscending-without key rows.users id was.ordered.users; keys = was.ordered.keys; pending = was.ordered.pending; machines = was.ordered.machines })
 
 -- the rows of `auth_keys` are now these
-set_keys : (old new : Database) (rows : Rows) (xs : List AuthKey) → Keeps old rows → SetsRows schema_1 3 (map (λ r. tree_row (auth_key_cells r)) xs) old new
+set_keys : (old new : Database) (rows : Rows) (xs : List AuthKey) (stood : List Row) → Keeps old rows → SetsRows schema_1 3 stood old new → IsPermutation (map (λ r. tree_row (auth_key_cells r)) xs) stood
     → AreById (record rows { keys = xs }) → Keeps new (record rows { keys = xs })
-set_keys old new rows xs was set by = record {
+set_keys old new rows xs stood was set order by = record {
   schema = set.schema_is;
   stored = record {
     meta = set.others.0 (λ (e : 0 ≡ 3). omega (arith, e)) ∙ was.stored.meta;
-    users = set.others.1.0 (λ (e : 1 ≡ 3). omega (arith, e)) ∙ was.stored.users;
-    keys = set.rows_are;
-    pending = set.others.1.1.1.0 (λ (e : 5 ≡ 3). omega (arith, e)) ∙ was.stored.pending;
-    machines = set.others.1.1.1.1.0 (λ (e : 8 ≡ 3). omega (arith, e)) ∙ was.stored.machines;
-    extras = set.others.1.1.1.1.1.0 (λ (e : 14 ≡ 3). omega (arith, e)) ∙ was.stored.extras;
+    users = moved _ _ _ (set.others.1.0 (λ (e : 1 ≡ 3). omega (arith, e))) was.stored.users;
+    keys = subst (λ l. IsPermutation (map (λ r. tree_row (auth_key_cells r)) xs) l) (sym set.rows_are) order;
+    pending = moved _ _ _ (set.others.1.1.1.0 (λ (e : 5 ≡ 3). omega (arith, e))) was.stored.pending;
+    machines = moved _ _ _ (set.others.1.1.1.1.0 (λ (e : 8 ≡ 3). omega (arith, e))) was.stored.machines;
+    extras = moved _ _ _ (set.others.1.1.1.1.1.0 (λ (e : 14 ≡ 3). omega (arith, e))) was.stored.extras;
     policy = set.others.1.1.1.1.1.1.0 (λ (e : 15 ≡ 3). omega (arith, e)) ∙ was.stored.policy;
   };
   ordered = by;
@@ -120,31 +125,33 @@ pub key_put : (old new : Database) (x : AuthKey) → IsPutBy update_auth_keys_te
     → Makes old new (λ rows. record rows { keys = put_row (λ r. r.id) rows.keys x })
 key_put old new x put rows was =
     let key = λ (r : AuthKey). r.id in
-    let set = puts_row 2 3 (drop 1 auth_keys_table.columns) auth_keys_place x.id (drop 1 (map value_of (auth_key_cells x))) (refl, (cast_number (pos x.user), (truth_taken x.reusable, (truth_taken x.ephemeral, (truth_taken x.used, (expiry_taken x.expiry, (refl, tt))))))) key key_rest rows.keys update_auth_keys_text insert_auth_keys_text _ _ _ old new
-    was.schema was.stored.keys update_auth_keys_means insert_auth_keys_means (λ row. refl) refl put in
-    set_keys old new rows (put_row key rows.keys x) was (resets _ _ _ _ old new (put_in_place key key_rest x rows.keys was.ordered.keys) set)
+    let stood = image_of (row_of key key_rest) rows.keys (old.trees 3) was.stored.keys in
+    let set = puts_row 2 3 (drop 1 auth_keys_table.columns) auth_keys_place x.id (drop 1 (map value_of (auth_key_cells x))) (refl, (cast_number (pos x.user), (truth_taken x.reusable, (truth_taken x.ephemeral, (truth_taken x.used, (expiry_taken x.expiry, (refl, tt))))))) key key_rest stood.them update_auth_keys_text insert_auth_keys_text _ _ _ old new
+    was.schema stood.are update_auth_keys_means insert_auth_keys_means (λ row. refl) refl put in
+    set_keys old new rows (put_row key rows.keys x) _ was set (put_in_place key key_rest x rows.keys stood.them was.ordered.keys stood.same)
     (record { users = was.ordered.users; keys = IsAscending-put key rows.keys x was.ordered.keys; pending = was.ordered.pending; machines = was.ordered.machines })
 
 key_gone : (old new : Database) (id count : ℕ) → HasRun delete_auth_keys_text (Int (pos id) ∷ []) count old new
     → Makes old new (λ rows. record rows { keys = without (λ r. r.id) rows.keys id })
 key_gone old new id count ran rows was =
     let key = λ (r : AuthKey). r.id in
-    let set = takes_out 2 3 (drop 1 auth_keys_table.columns) auth_keys_place key key_rest rows.keys delete_auth_keys_text count old new was.schema was.stored.keys id delete_auth_keys_means ran in
-    set_keys old new rows (without key rows.keys id) was set
+    let stood = image_of (row_of key key_rest) rows.keys (old.trees 3) was.stored.keys in
+    let set = takes_out 2 3 (drop 1 auth_keys_table.columns) auth_keys_place key key_rest stood.them delete_auth_keys_text count old new was.schema stood.are id delete_auth_keys_means ran in
+    set_keys old new rows (without key rows.keys id) _ was set (IsPermutation-map (row_of key key_rest) _ _ (left_in_order key key_rest id rows.keys stood.them stood.same))
     (record { users = was.ordered.users; keys = IsAscending-without key rows.keys id was.ordered.keys; pending = was.ordered.pending; machines = was.ordered.machines })
 
 -- the rows of `pending` are now these
-set_pending : (old new : Database) (rows : Rows) (xs : List Pending) → Keeps old rows → SetsRows schema_1 5 (map (λ r. tree_row (pending_cells r)) xs) old new
+set_pending : (old new : Database) (rows : Rows) (xs : List Pending) (stood : List Row) → Keeps old rows → SetsRows schema_1 5 stood old new → IsPermutation (map (λ r. tree_row (pending_cells r)) xs) stood
     → AreById (record rows { pending = xs }) → Keeps new (record rows { pending = xs })
-set_pending old new rows xs was set by = record {
+set_pending old new rows xs stood was set order by = record {
   schema = set.schema_is;
   stored = record {
     meta = set.others.0 (λ (e : 0 ≡ 5). omega (arith, e)) ∙ was.stored.meta;
-    users = set.others.1.0 (λ (e : 1 ≡ 5). omega (arith, e)) ∙ was.stored.users;
-    keys = set.others.1.1.0 (λ (e : 3 ≡ 5). omega (arith, e)) ∙ was.stored.keys;
-    pending = set.rows_are;
-    machines = set.others.1.1.1.1.0 (λ (e : 8 ≡ 5). omega (arith, e)) ∙ was.stored.machines;
-    extras = set.others.1.1.1.1.1.0 (λ (e : 14 ≡ 5). omega (arith, e)) ∙ was.stored.extras;
+    users = moved _ _ _ (set.others.1.0 (λ (e : 1 ≡ 5). omega (arith, e))) was.stored.users;
+    keys = moved _ _ _ (set.others.1.1.0 (λ (e : 3 ≡ 5). omega (arith, e))) was.stored.keys;
+    pending = subst (λ l. IsPermutation (map (λ r. tree_row (pending_cells r)) xs) l) (sym set.rows_are) order;
+    machines = moved _ _ _ (set.others.1.1.1.1.0 (λ (e : 8 ≡ 5). omega (arith, e))) was.stored.machines;
+    extras = moved _ _ _ (set.others.1.1.1.1.1.0 (λ (e : 14 ≡ 5). omega (arith, e))) was.stored.extras;
     policy = set.others.1.1.1.1.1.1.0 (λ (e : 15 ≡ 5). omega (arith, e)) ∙ was.stored.policy;
   };
   ordered = by;
@@ -157,31 +164,33 @@ pub pending_put : (old new : Database) (x : Pending) → IsPutBy update_pending_
     → Makes old new (λ rows. record rows { pending = put_row (λ r. r.id) rows.pending x })
 pending_put old new x put rows was =
     let key = λ (r : Pending). r.id in
-    let set = puts_row 3 5 (drop 1 pending_table.columns) pending_place x.id (drop 1 (map value_of (pending_cells x))) (refl, (refl, (refl, (refl, (refl, (refl, (truth_taken x.ephemeral, (expiry_taken x.expiry, (cast_number x.made, tt))))))))) key pending_rest rows.pending update_pending_text insert_pending_text _ _ _ old new
-    was.schema was.stored.pending update_pending_means insert_pending_means (λ row. refl) refl put in
-    set_pending old new rows (put_row key rows.pending x) was (resets _ _ _ _ old new (put_in_place key pending_rest x rows.pending was.ordered.pending) set)
+    let stood = image_of (row_of key pending_rest) rows.pending (old.trees 5) was.stored.pending in
+    let set = puts_row 3 5 (drop 1 pending_table.columns) pending_place x.id (drop 1 (map value_of (pending_cells x))) (refl, (refl, (refl, (refl, (refl, (refl, (truth_taken x.ephemeral, (expiry_taken x.expiry, (cast_number x.made, tt))))))))) key pending_rest stood.them update_pending_text insert_pending_text _ _ _ old new
+    was.schema stood.are update_pending_means insert_pending_means (λ row. refl) refl put in
+    set_pending old new rows (put_row key rows.pending x) _ was set (put_in_place key pending_rest x rows.pending stood.them was.ordered.pending stood.same)
     (record { users = was.ordered.users; keys = was.ordered.keys; pending = IsAscending-put key rows.pending x was.ordered.pending; machines = was.ordered.machines })
 
 pending_gone : (old new : Database) (id count : ℕ) → HasRun delete_pending_text (Int (pos id) ∷ []) count old new
     → Makes old new (λ rows. record rows { pending = without (λ r. r.id) rows.pending id })
 pending_gone old new id count ran rows was =
     let key = λ (r : Pending). r.id in
-    let set = takes_out 3 5 (drop 1 pending_table.columns) pending_place key pending_rest rows.pending delete_pending_text count old new was.schema was.stored.pending id delete_pending_means ran in
-    set_pending old new rows (without key rows.pending id) was set
+    let stood = image_of (row_of key pending_rest) rows.pending (old.trees 5) was.stored.pending in
+    let set = takes_out 3 5 (drop 1 pending_table.columns) pending_place key pending_rest stood.them delete_pending_text count old new was.schema stood.are id delete_pending_means ran in
+    set_pending old new rows (without key rows.pending id) _ was set (IsPermutation-map (row_of key pending_rest) _ _ (left_in_order key pending_rest id rows.pending stood.them stood.same))
     (record { users = was.ordered.users; keys = was.ordered.keys; pending = IsAscending-without key rows.pending id was.ordered.pending; machines = was.ordered.machines })
 
 -- the rows of `machines` are now these
-set_machines : (old new : Database) (rows : Rows) (xs : List Machine) → Keeps old rows → SetsRows schema_1 8 (map (λ r. tree_row (machine_cells r)) xs) old new
+set_machines : (old new : Database) (rows : Rows) (xs : List Machine) (stood : List Row) → Keeps old rows → SetsRows schema_1 8 stood old new → IsPermutation (map (λ r. tree_row (machine_cells r)) xs) stood
     → AreById (record rows { machines = xs }) → Keeps new (record rows { machines = xs })
-set_machines old new rows xs was set by = record {
+set_machines old new rows xs stood was set order by = record {
   schema = set.schema_is;
   stored = record {
     meta = set.others.0 (λ (e : 0 ≡ 8). omega (arith, e)) ∙ was.stored.meta;
-    users = set.others.1.0 (λ (e : 1 ≡ 8). omega (arith, e)) ∙ was.stored.users;
-    keys = set.others.1.1.0 (λ (e : 3 ≡ 8). omega (arith, e)) ∙ was.stored.keys;
-    pending = set.others.1.1.1.0 (λ (e : 5 ≡ 8). omega (arith, e)) ∙ was.stored.pending;
-    machines = set.rows_are;
-    extras = set.others.1.1.1.1.1.0 (λ (e : 14 ≡ 8). omega (arith, e)) ∙ was.stored.extras;
+    users = moved _ _ _ (set.others.1.0 (λ (e : 1 ≡ 8). omega (arith, e))) was.stored.users;
+    keys = moved _ _ _ (set.others.1.1.0 (λ (e : 3 ≡ 8). omega (arith, e))) was.stored.keys;
+    pending = moved _ _ _ (set.others.1.1.1.0 (λ (e : 5 ≡ 8). omega (arith, e))) was.stored.pending;
+    machines = subst (λ l. IsPermutation (map (λ r. tree_row (machine_cells r)) xs) l) (sym set.rows_are) order;
+    extras = moved _ _ _ (set.others.1.1.1.1.1.0 (λ (e : 14 ≡ 8). omega (arith, e))) was.stored.extras;
     policy = set.others.1.1.1.1.1.1.0 (λ (e : 15 ≡ 8). omega (arith, e)) ∙ was.stored.policy;
   };
   ordered = by;
@@ -194,17 +203,19 @@ pub machine_put : (old new : Database) (x : Machine) → IsPutBy update_machines
     → Makes old new (λ rows. record rows { machines = put_row (λ r. r.id) rows.machines x })
 machine_put old new x put rows was =
     let key = λ (r : Machine). r.id in
-    let set = puts_row 4 8 (drop 1 machines_table.columns) machines_place x.id (drop 1 (map value_of (machine_cells x))) (cast_number (pos x.user), (refl, (refl, (refl, (refl, (refl, (address_taken x.v4, (refl, (refl, (cast_number (pos x.derp), (refl, (refl, (refl, (truth_taken x.ephemeral, (expiry_taken x.expiry, (cast_number x.created, tt)))))))))))))))) key machine_rest rows.machines update_machines_text insert_machines_text _ _ _ old new
-    was.schema was.stored.machines update_machines_means insert_machines_means (λ row. refl) refl put in
-    set_machines old new rows (put_row key rows.machines x) was (resets _ _ _ _ old new (put_in_place key machine_rest x rows.machines was.ordered.machines) set)
+    let stood = image_of (row_of key machine_rest) rows.machines (old.trees 8) was.stored.machines in
+    let set = puts_row 4 8 (drop 1 machines_table.columns) machines_place x.id (drop 1 (map value_of (machine_cells x))) (cast_number (pos x.user), (refl, (refl, (refl, (refl, (refl, (address_taken x.v4, (refl, (refl, (cast_number (pos x.derp), (refl, (refl, (refl, (truth_taken x.ephemeral, (expiry_taken x.expiry, (cast_number x.created, tt)))))))))))))))) key machine_rest stood.them update_machines_text insert_machines_text _ _ _ old new
+    was.schema stood.are update_machines_means insert_machines_means (λ row. refl) refl put in
+    set_machines old new rows (put_row key rows.machines x) _ was set (put_in_place key machine_rest x rows.machines stood.them was.ordered.machines stood.same)
     (record { users = was.ordered.users; keys = was.ordered.keys; pending = was.ordered.pending; machines = IsAscending-put key rows.machines x was.ordered.machines })
 
 machine_gone : (old new : Database) (id count : ℕ) → HasRun delete_machines_text (Int (pos id) ∷ []) count old new
     → Makes old new (λ rows. record rows { machines = without (λ r. r.id) rows.machines id })
 machine_gone old new id count ran rows was =
     let key = λ (r : Machine). r.id in
-    let set = takes_out 4 8 (drop 1 machines_table.columns) machines_place key machine_rest rows.machines delete_machines_text count old new was.schema was.stored.machines id delete_machines_means ran in
-    set_machines old new rows (without key rows.machines id) was set
+    let stood = image_of (row_of key machine_rest) rows.machines (old.trees 8) was.stored.machines in
+    let set = takes_out 4 8 (drop 1 machines_table.columns) machines_place key machine_rest stood.them delete_machines_text count old new was.schema stood.are id delete_machines_means ran in
+    set_machines old new rows (without key rows.machines id) _ was set (IsPermutation-map (row_of key machine_rest) _ _ (left_in_order key machine_rest id rows.machines stood.them stood.same))
     (record { users = was.ordered.users; keys = was.ordered.keys; pending = was.ordered.pending; machines = IsAscending-without key rows.machines id was.ordered.machines })
 
 -- a row goes by its text and its id
@@ -226,11 +237,11 @@ next_put old new next put rows was =
       schema = set.schema_is;
       stored = record {
         meta = set.rows_are;
-        users = set.others.1.0 (λ (e : 1 ≡ 0). omega (arith, e)) ∙ was.stored.users;
-        keys = set.others.1.1.0 (λ (e : 3 ≡ 0). omega (arith, e)) ∙ was.stored.keys;
-        pending = set.others.1.1.1.0 (λ (e : 5 ≡ 0). omega (arith, e)) ∙ was.stored.pending;
-        machines = set.others.1.1.1.1.0 (λ (e : 8 ≡ 0). omega (arith, e)) ∙ was.stored.machines;
-        extras = set.others.1.1.1.1.1.0 (λ (e : 14 ≡ 0). omega (arith, e)) ∙ was.stored.extras;
+        users = moved _ _ _ (set.others.1.0 (λ (e : 1 ≡ 0). omega (arith, e))) was.stored.users;
+        keys = moved _ _ _ (set.others.1.1.0 (λ (e : 3 ≡ 0). omega (arith, e))) was.stored.keys;
+        pending = moved _ _ _ (set.others.1.1.1.0 (λ (e : 5 ≡ 0). omega (arith, e))) was.stored.pending;
+        machines = moved _ _ _ (set.others.1.1.1.1.0 (λ (e : 8 ≡ 0). omega (arith, e))) was.stored.machines;
+        extras = moved _ _ _ (set.others.1.1.1.1.1.0 (λ (e : 14 ≡ 0). omega (arith, e))) was.stored.extras;
         policy = set.others.1.1.1.1.1.1.0 (λ (e : 15 ≡ 0). omega (arith, e)) ∙ was.stored.policy;
       };
       ordered = record { users = was.ordered.users; keys = was.ordered.keys; pending = was.ordered.pending; machines = was.ordered.machines };
@@ -257,26 +268,27 @@ policy_put old new body put rows was =
       schema = set.schema_is;
       stored = record {
         meta = set.others.0 (λ (e : 0 ≡ 15). omega (arith, e)) ∙ was.stored.meta;
-        users = set.others.1.0 (λ (e : 1 ≡ 15). omega (arith, e)) ∙ was.stored.users;
-        keys = set.others.1.1.0 (λ (e : 3 ≡ 15). omega (arith, e)) ∙ was.stored.keys;
-        pending = set.others.1.1.1.0 (λ (e : 5 ≡ 15). omega (arith, e)) ∙ was.stored.pending;
-        machines = set.others.1.1.1.1.0 (λ (e : 8 ≡ 15). omega (arith, e)) ∙ was.stored.machines;
-        extras = set.others.1.1.1.1.1.0 (λ (e : 14 ≡ 15). omega (arith, e)) ∙ was.stored.extras;
+        users = moved _ _ _ (set.others.1.0 (λ (e : 1 ≡ 15). omega (arith, e))) was.stored.users;
+        keys = moved _ _ _ (set.others.1.1.0 (λ (e : 3 ≡ 15). omega (arith, e))) was.stored.keys;
+        pending = moved _ _ _ (set.others.1.1.1.0 (λ (e : 5 ≡ 15). omega (arith, e))) was.stored.pending;
+        machines = moved _ _ _ (set.others.1.1.1.1.0 (λ (e : 8 ≡ 15). omega (arith, e))) was.stored.machines;
+        extras = moved _ _ _ (set.others.1.1.1.1.1.0 (λ (e : 14 ≡ 15). omega (arith, e))) was.stored.extras;
         policy = set.rows_are ∙ alone;
       };
       ordered = record { users = was.ordered.users; keys = was.ordered.keys; pending = was.ordered.pending; machines = was.ordered.machines };
     }
 
-set_extras : (old new : Database) (rows : Rows) (xs : List DnsExtra) → Keeps old rows → SetsRows schema_1 14 (placed_rows 1 xs) old new → Keeps new (record rows { extras = xs })
-set_extras old new rows xs was set = record {
+set_extras : (old new : Database) (rows : Rows) (xs : List DnsExtra) (stood : List Row) → Keeps old rows → SetsRows schema_1 14 stood old new → IsPermutation (placed_rows 1 xs) stood
+    → Keeps new (record rows { extras = xs })
+set_extras old new rows xs stood was set order = record {
   schema = set.schema_is;
   stored = record {
     meta = set.others.0 (λ (e : 0 ≡ 14). omega (arith, e)) ∙ was.stored.meta;
-    users = set.others.1.0 (λ (e : 1 ≡ 14). omega (arith, e)) ∙ was.stored.users;
-    keys = set.others.1.1.0 (λ (e : 3 ≡ 14). omega (arith, e)) ∙ was.stored.keys;
-    pending = set.others.1.1.1.0 (λ (e : 5 ≡ 14). omega (arith, e)) ∙ was.stored.pending;
-    machines = set.others.1.1.1.1.0 (λ (e : 8 ≡ 14). omega (arith, e)) ∙ was.stored.machines;
-    extras = set.rows_are;
+    users = moved _ _ _ (set.others.1.0 (λ (e : 1 ≡ 14). omega (arith, e))) was.stored.users;
+    keys = moved _ _ _ (set.others.1.1.0 (λ (e : 3 ≡ 14). omega (arith, e))) was.stored.keys;
+    pending = moved _ _ _ (set.others.1.1.1.0 (λ (e : 5 ≡ 14). omega (arith, e))) was.stored.pending;
+    machines = moved _ _ _ (set.others.1.1.1.1.0 (λ (e : 8 ≡ 14). omega (arith, e))) was.stored.machines;
+    extras = subst (λ l. IsPermutation (placed_rows 1 xs) l) (sym set.rows_are) order;
     policy = set.others.1.1.1.1.1.1.0 (λ (e : 15 ≡ 14). omega (arith, e)) ∙ was.stored.policy;
   };
   ordered = record { users = was.ordered.users; keys = was.ordered.keys; pending = was.ordered.pending; machines = was.ordered.machines };
@@ -285,13 +297,15 @@ set_extras old new rows xs was set = record {
 -- all extra records go
 pub extras_gone : (old new : Database) (count : ℕ) → HasRun clear_extras_text [] count old new → Makes old new (λ rows. record rows { extras = [] })
 extras_gone old new count ran rows was =
-    set_extras old new rows [] was
-    (takes_all_out 5 14 (drop 1 extras_table.columns) extras_place (λ p. p.0) extra_rest (with_places 1 rows.extras) clear_extras_text count old new was.schema (was.stored.extras ∙ placed_are 1 rows.extras) [] clear_extras_means ran)
+    let key : ℕ × DnsExtra → ℕ = λ p. p.0 in
+    let stood = image_of (row_of key extra_rest) (with_places 1 rows.extras) (old.trees 14) (subst (λ l. IsPermutation l (old.trees 14)) (placed_are 1 rows.extras) was.stored.extras) in
+    set_extras old new rows [] [] was
+    (takes_all_out 5 14 (drop 1 extras_table.columns) extras_place key extra_rest stood.them clear_extras_text count old new was.schema stood.are [] clear_extras_means ran)
+    (IsPermutation-refl [])
 
 -- one more record stands behind the others
 pub extra_added : (old new : Database) (xs : List DnsExtra) (x : DnsExtra) → IsAdded (map value_of (extra_cells (1 + length xs) x)) old new
     → (rows : Rows) → Keeps old (record rows { extras = xs }) → Keeps new (record rows { extras = xs ++ x ∷ [] })
 extra_added old new xs x (count, ran) rows was =
     let set = adds_row 5 14 (drop 1 extras_table.columns) extras_place (1 + length xs) (drop 1 (map value_of (extra_cells (1 + length xs) x))) (refl, (refl, tt)) insert_extras_text _ _ count old new was.schema insert_extras_means refl ran in
-    set_extras old new (record rows { extras = xs }) (xs ++ x ∷ []) was
-    (resets _ _ _ _ old new (ap (put_tree (tree_row (extra_cells (1 + length xs) x))) was.stored.extras ∙ put_last 1 xs x) set)
+    set_extras old new (record rows { extras = xs }) (xs ++ x ∷ []) _ was set (put_last xs x (old.trees 14) was.stored.extras)

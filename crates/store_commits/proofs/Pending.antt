@@ -77,3 +77,8 @@ pub undone_err : (old last end : State) (e : Error) → (IsTrue old.is_open → 
 undone_err old last end e settled kept inside (inl fails) opened =
     let back = fails.3 in (back.undone opened).0 ∙ kept.committed (back.was_open opened) ∙ sym (settled (kept.was_open (back.was_open opened)))
 undone_err old last end e settled kept inside (inr out) opened = absurd (true≢false (sym inside ∙ out.1))
+
+-- only what was open is open where a commit failed
+pub opened_err : (last end : State) (e : Error) → IsTrue last.in_transaction → FailsToCommit last end e → IsTrue end.is_open → IsTrue last.is_open
+opened_err last end e inside (inl fails) opened = fails.3.was_open opened
+opened_err last end e inside (inr out) opened = absurd (true≢false (sym inside ∙ out.1))

@@ -1,5 +1,5 @@
 -- How the rows of the tables stand in the trees of a database, and what a change makes of them.
-use Rattle.std.specs.Prelude.{◌≡◌, ◌+◌, ℕ, List, [], ◌∷◌, map, Option, Some, None}
+use Rattle.std.specs.Prelude.{◌≡◌, ◌+◌, ℕ, List, [], ◌∷◌, map, Option, Some, None, IsPermutation}
 use Rattle.net_rows.specs.declared.rows.Rows.{Rows}
 use Rattle.net_rows.specs.Shelf.{IsAscending}
 use Rattle.sqlite.specs.Effect.{Database}
@@ -38,14 +38,18 @@ abbrev pub policy_row : Option (List ℕ) → List Row
 policy_row None = []
 policy_row (Some body) = tree_row (policy_cells body) ∷ []
 
+-- The tree holds these rows and no other ones, in some order.
+abbrev pub HoldsInTree : List Row → List Row → Type 0
+HoldsInTree tree rows = IsPermutation rows tree
+
 -- The trees of the seven tables hold these rows and no other ones.
 pub record AreStored (trees : Trees) (rows : Rows) : Type 0 where
   pub meta : trees 0 ≡ tree_row (meta_cells rows.next) ∷ []
-  pub users : trees 1 ≡ map (λ r. tree_row (user_cells r)) rows.users
-  pub keys : trees 3 ≡ map (λ r. tree_row (auth_key_cells r)) rows.keys
-  pub pending : trees 5 ≡ map (λ r. tree_row (pending_cells r)) rows.pending
-  pub machines : trees 8 ≡ map (λ r. tree_row (machine_cells r)) rows.machines
-  pub extras : trees 14 ≡ placed_rows 1 rows.extras
+  pub users : HoldsInTree (trees 1) (map (λ r. tree_row (user_cells r)) rows.users)
+  pub keys : HoldsInTree (trees 3) (map (λ r. tree_row (auth_key_cells r)) rows.keys)
+  pub pending : HoldsInTree (trees 5) (map (λ r. tree_row (pending_cells r)) rows.pending)
+  pub machines : HoldsInTree (trees 8) (map (λ r. tree_row (machine_cells r)) rows.machines)
+  pub extras : HoldsInTree (trees 14) (placed_rows 1 rows.extras)
   pub policy : trees 15 ≡ policy_row rows.policy
 
 -- The ids of each kind rise.
@@ -55,7 +59,7 @@ pub record AreById (rows : Rows) : Type 0 where
   pub pending : IsAscending (λ r. r.id) rows.pending
   pub machines : IsAscending (λ r. r.id) rows.machines
 
--- The database has the tables of schema 1, and they hold these rows, by rising ids.
+-- The database has the tables of schema 1, and they hold these rows, whose ids rise.
 pub record Keeps (db : Database) (rows : Rows) : Type 0 where
   pub schema : db.schema ≡ schema_1
   pub stored : AreStored db.trees rows

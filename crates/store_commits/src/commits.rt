@@ -1,7 +1,10 @@
 //! A change of the tables as one transaction.
-ghost use Rattle.std.specs.Prelude.{◌≡◌, ◌∷◌, [], pos, map, is_ok, OnOk, OnErr};
+ghost use Rattle.std.specs.Prelude.{◌≡◌, ◌∷◌, [], pos, true, map, is_ok, IsTrue, OnOk, OnErr};
+ghost use Rattle.std.specs.List.{AllByRecursion};
+ghost use Rattle.std.specs.Str.{is_utf8};
 ghost use Rattle.net_rows.specs.Rows.{after, put as put_of, put_all as put_all_of, take_all_out, take_out};
-ghost use Rattle.store_rows.specs.Rows.{extra_cells, meta_cells, policy_cells};
+ghost use Rattle.store_rows.specs.Readable.{IsReadableChange, IsReadableExtra, IsReadableRow};
+ghost use Rattle.store_rows.specs.Rows.{IsTypedCounters, extra_cells, meta_cells, policy_cells};
 ghost use Rattle.store_texts.specs.Texts.{insert_meta_text, insert_policy_text, update_meta_text, update_policy_text};
 ghost use Rattle.sqlite.specs.State.{HasCleanDisk, Survives};
 ghost use Rattle.sqlite.specs.Held.{state};
@@ -103,6 +106,7 @@ fn put<T: DatabaseRow, S: Alter>(
     ensures put { HasCleanDisk (state S.Store tx.new.conn.now) → OnOk result (IsPutBy
         T.update_text T.insert_text (map value_of (T.cells row.now))
         (state S.Store tx.old.conn.now).now (state S.Store tx.new.conn.now).now) }
+    ensures readable { OnOk result (T.Readable row.now) }
 {
     let cells = row.write(alloc)?;
     put_cells(tx, alloc, T::update(), T::insert(), cells.as_slice())
@@ -121,6 +125,7 @@ fn add_extra<S: Alter>(
     ensures added { HasCleanDisk (state S.Store tx.new.conn.now) → OnOk result (IsAdded
         (map value_of (extra_cells place extra.now))
         (state S.Store tx.old.conn.now).now (state S.Store tx.new.conn.now).now) }
+    ensures readable { OnOk result (IsReadableExtra extra.now) }
 {
     let cells = write_extra(alloc, place, extra)?;
     let values = values_of(alloc, cells.as_slice())?;
@@ -140,6 +145,7 @@ fn put_extras<S: Alter>(
     ensures made { HasCleanDisk (state S.Store tx.new.conn.now) → OnOk result (Makes
         (state S.Store tx.old.conn.now).now (state S.Store tx.new.conn.now).now
         (λ rows. record rows { extras = extras.now })) }
+    ensures readable { OnOk result (AllByRecursion IsReadableExtra extras.now) }
 {
     run(tx, clear_extras(), &[])?;
     let mut last = 0u32;
@@ -162,6 +168,7 @@ fn put_policy<S: Alter>(
     ensures put { HasCleanDisk (state S.Store tx.new.conn.now) → OnOk result (IsPutBy
         update_policy_text insert_policy_text (map value_of (policy_cells text.now))
         (state S.Store tx.old.conn.now).now (state S.Store tx.new.conn.now).now) }
+    ensures readable { OnOk result (is_utf8 text.now ≡ true) }
 {
     let cells = write_policy_text(alloc, text)?;
     put_cells(
@@ -180,6 +187,7 @@ fn put_row<S: Alter>(tx: &mut Transaction<'_, S>, alloc: Global, row: &Row) -> R
     ensures made { HasCleanDisk (state S.Store tx.new.conn.now) → OnOk result (Makes
         (state S.Store tx.old.conn.now).now (state S.Store tx.new.conn.now).now
         (λ rows. put_of rows row.now)) }
+    ensures readable { OnOk result (IsReadableRow row.now) }
 {
     match row {
         Row::User(user) => put(tx, alloc, user),
@@ -198,6 +206,7 @@ fn put_all<S: Alter>(tx: &mut Transaction<'_, S>, alloc: Global, puts: &[Row]) -
     ensures made { HasCleanDisk (state S.Store tx.new.conn.now) → OnOk result (Makes
         (state S.Store tx.old.conn.now).now (state S.Store tx.new.conn.now).now
         (λ rows. put_all_of rows puts.now)) }
+    ensures readable { OnOk result (AllByRecursion IsReadableRow puts.now) }
 {
     for row in puts {
         put_row(tx, alloc, row)?;
@@ -217,6 +226,7 @@ pub(crate) fn put_next<S: Alter>(
     ensures put { HasCleanDisk (state S.Store tx.new.conn.now) → OnOk result (IsPutBy
         update_meta_text insert_meta_text (map value_of (meta_cells next.now))
         (state S.Store tx.old.conn.now).now (state S.Store tx.new.conn.now).now) }
+    ensures readable { OnOk result (IsTypedCounters next.now) }
 {
     let cells = write_meta(alloc, next)?;
     put_cells(tx, alloc, update_meta(), insert_meta(), cells.as_slice())
@@ -230,6 +240,7 @@ fn write<S: Alter>(tx: &mut Transaction<'_, S>, alloc: Global, change: &Change) 
     ensures made { HasCleanDisk (state S.Store tx.new.conn.now) → OnOk result (Makes
         (state S.Store tx.old.conn.now).now (state S.Store tx.new.conn.now).now
         (λ rows. after rows change.now)) }
+    ensures readable { OnOk result (IsReadableChange change.now) }
 {
     remove_all(tx, change.gone.as_slice())?;
     put_all(tx, alloc, change.puts.as_slice())?;
@@ -249,6 +260,9 @@ pub fn commit<S: Alter>(
         (λ rows. after rows change.now)) }
     ensures err { HasCleanDisk (state S.Store conn.new)
         → OnErr result (Leaves (state S.Store conn.old) (state S.Store conn.new)) }
+    ensures opened { HasCleanDisk (state S.Store conn.new)
+        → IsTrue (state S.Store conn.new).is_open → IsTrue (state S.Store conn.old).is_open }
+    ensures readable { OnOk result (IsReadableChange change.now) }
     ensures crash { Survives (state S.Store conn.old) (state S.Store conn.new)
         (HoldsMade (state S.Store conn.old).now (λ rows. after rows change.now)) }
 {

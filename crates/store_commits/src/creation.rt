@@ -1,5 +1,5 @@
 //! The tables of a database that has none.
-ghost use Rattle.std.specs.Prelude.{◌≡◌, ◌∷◌, ℕ, List, drop, is_ok, OnErr, OnOk};
+ghost use Rattle.std.specs.Prelude.{◌≡◌, ◌∷◌, ℕ, List, drop, is_ok, IsTrue, OnErr, OnOk};
 ghost use Rattle.net_rows.specs.Rows.{empty_rows};
 ghost use Rattle.sqlite.specs.Held.{state};
 ghost use Rattle.sqlite.specs.State.{HasCleanDisk, Survives};
@@ -118,6 +118,8 @@ pub fn create<S: Alter>(conn: &mut Connection<S>, alloc: Global) -> Result<(), F
         → OnOk result (Keeps (state S.Store conn.new).now empty_rows) }
     ensures err { HasCleanDisk (state S.Store conn.new)
         → OnErr result (Leaves (state S.Store conn.old) (state S.Store conn.new)) }
+    ensures opened { HasCleanDisk (state S.Store conn.new)
+        → IsTrue (state S.Store conn.new).is_open → IsTrue (state S.Store conn.old).is_open }
     ensures crash { Survives (state S.Store conn.old) (state S.Store conn.new)
         (λ trees. (state S.Store conn.old).now.schema ≡ no_schema → AreStored trees empty_rows) }
 {

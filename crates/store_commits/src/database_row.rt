@@ -1,6 +1,7 @@
 //! Rows that are kept under an id, each kind in a table of its own.
-ghost use Rattle.std.specs.Prelude.{◌≡◌, ℕ, List, IfOk};
-ghost use Rattle.store_rows.specs.Rows.{auth_key_cells, machine_cells, pending_cells, user_cells};
+ghost use Rattle.std.specs.Prelude.{◌≡◌, ℕ, List, IfOk, OnOk};
+ghost use Rattle.store_rows.specs.Readable.{IsReadable, IsReadableMachine};
+ghost use Rattle.store_rows.specs.Rows.{IsTypedKey, IsTypedPending, IsTypedUser, auth_key_cells, machine_cells, pending_cells, user_cells};
 ghost use Rattle.store_rows.specs.declared.cell.Cell.{Cell};
 ghost use Rattle.store_texts.specs.Texts.{insert_auth_keys_text, insert_machines_text, insert_pending_text, insert_users_text, update_auth_keys_text, update_machines_text, update_pending_text, update_users_text};
 
@@ -18,6 +19,9 @@ pub trait DatabaseRow: Drop + Sized {
     /// The row as it is stored.
     ghost cells: { Self → List Cell };
 
+    /// What is read again of what is written.
+    ghost Readable: { Self → Type 0 };
+
     /// The text that replaces the row of an id.
     ghost update_text: { List ℕ };
 
@@ -34,11 +38,14 @@ pub trait DatabaseRow: Drop + Sized {
 
     /// The row as it is stored.
     fn write(&self, alloc: Global) -> Result<Items<Cell>, NoMemory>
-        ensures value { IfOk result (λ made. made ≡ cells self.now) };
+        ensures value { IfOk result (λ made. made ≡ cells self.now) }
+        ensures readable { OnOk result (Readable self.now) };
 }
 
 impl DatabaseRow for User {
     ghost cells = { user_cells };
+
+    ghost Readable = { IsReadable user_cells IsTypedUser };
 
     ghost update_text = { update_users_text };
 
@@ -60,6 +67,8 @@ impl DatabaseRow for User {
 impl DatabaseRow for AuthKey {
     ghost cells = { auth_key_cells };
 
+    ghost Readable = { IsReadable auth_key_cells IsTypedKey };
+
     ghost update_text = { update_auth_keys_text };
 
     ghost insert_text = { insert_auth_keys_text };
@@ -80,6 +89,8 @@ impl DatabaseRow for AuthKey {
 impl DatabaseRow for Pending {
     ghost cells = { pending_cells };
 
+    ghost Readable = { IsReadable pending_cells IsTypedPending };
+
     ghost update_text = { update_pending_text };
 
     ghost insert_text = { insert_pending_text };
@@ -99,6 +110,8 @@ impl DatabaseRow for Pending {
 
 impl DatabaseRow for Machine {
     ghost cells = { machine_cells };
+
+    ghost Readable = { IsReadableMachine };
 
     ghost update_text = { update_machines_text };
 

@@ -1,5 +1,5 @@
 -- Cells that a database gives back.
-use Rattle.std.proofs.Common.{◌≡◌, ℕ, List, [], ◌∷◌, map, true, false, refl, ap, ap₂, ◌∙◌}
+use Rattle.std.proofs.Common.{◌≡◌, List, [], ◌∷◌, map, refl, ap₂}
 use Rattle.std.specs.List.{AllByRecursion}
 use Rattle.store_commits.specs.Kept.{value_of}
 use Rattle.store_rows.specs.declared.cell.Cell.{Cell}

@@ -2,7 +2,6 @@
 use Rattle.std.proofs.Common.{◌≡◌, ◌+◌, ◌<◌, zero, suc, ℕ, List, [], ◌∷◌, ◌++◌, map, length, take, get_or, refl, ap, ◌∙◌, arith}
 use Rattle.std.specs.List.{AllByRecursion}
 use Rattle.std.specs.Prelude.{Contains}
-use Rattle.std.proofs.lemmas.List.{take_more}
 use Rattle.net_rows.specs.Shelf as shelf
 use Rattle.net_rows.proofs.Members.{first_member, rest_member}
 use Rattle.sqlite_trees.specs.Tree.{IsAscending}

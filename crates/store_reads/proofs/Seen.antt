@@ -1,5 +1,5 @@
 -- Readings, one behind the other.
-use Rattle.std.proofs.Common.{◌≡◌, ℕ, Bool, true, false, List, [], None, Ok, Err, Result, is_ok, IfOk, IsSome, IsTrue, inl, inr, refl, sym, ap, subst, ◌∙◌, arith}
+use Rattle.std.proofs.Common.{◌≡◌, ℕ, Bool, true, List, [], Ok, Err, Result, is_ok, IfOk, IfErr, IsTrue, inl, inr, refl, sym, ap, subst, ◌∙◌, arith}
 use Rattle.std.proofs.lemmas.Bool.{true≢false}
 use Rattle.sqlite_value.specs.Order.{Row}
 use Rattle.sqlite.specs.declared.error.Error.{Error}
@@ -7,13 +7,13 @@ use Rattle.net_rows.specs.declared.rows.Rows.{Rows}
 use Rattle.sqlite_schema.specs.declared.schema.Schema.{Schema}
 use Rattle.sqlite.specs.Effect.{Database}
 use Rattle.sqlite.specs.Listing.{understood}
-use Rattle.sqlite.specs.State.{State, HasCleanDisk, Survives, Shown, CommitsShowing}
+use Rattle.sqlite.specs.State.{State, HasCleanDisk, Survives, Shown, CommitsShowing, FailsToQuery, IsNotRun, IsRolledBack, IsUnchanged}
 use Rattle.sqlite.specs.Tree.{Trees}
 use Rattle.sqlite.proofs.Callers.{IsPlain}
 use Rattle.sqlite.proofs.StateLemmas.{survives_then}
 use Rattle.store_commits.specs.Kept.{Keeps}
 use Rattle.store_texts.specs.Schema.{schema_1}
-use Rattle.store_reads.specs.Seen.{IsSeen}
+use Rattle.store_reads.specs.Seen.{IsSeen, StaysOpen}
 
 -- a text without RETURNING that showed rows left what the database shows
 shown_same : (text : List ℕ) (old new : State) (rows : List Row) → IsPlain (understood old.now.schema text) → Shown text [] old new rows → new.now ≡ old.now
@@ -21,6 +21,29 @@ unfolding Shown
 shown_same text old new rows plain h =
     let bare = subst IsPlain h.1.is plain in
     (rw bare.0 at h.2).3.0.now_is
+
+-- and it stays as it was
+shown_unchanged : (text : List ℕ) (old new : State) (rows : List Row) → IsPlain (understood old.now.schema text) → Shown text [] old new rows → StaysOpen old new
+unfolding Shown
+shown_unchanged text old new rows plain h =
+    let bare = subst IsPlain h.1.is plain in
+    let same = (rw bare.0 at h.2).3.0 in
+    record { was_open = same.was_open; committed = same.committed_is; shows = inl same.now_is }
+
+unchanged : (old new : State) → IsUnchanged old new → StaysOpen old new
+unchanged old new same = record { was_open = same.0.was_open; committed = same.0.committed_is; shows = inl same.0.now_is }
+
+rolled_back : (old new : State) → IsRolledBack old new → IsTrue new.is_open → StaysOpen old new
+rolled_back old new back opened = record { was_open = back.was_open opened; committed = (back.undone opened).1; shows = inr (back.undone opened).0 }
+
+-- a text without RETURNING that failed left it so, or undid what was not committed
+failed_unchanged : (text : List ℕ) (old new : State) (e : Error) → IsPlain (understood old.now.schema text) → FailsToQuery text [] old new e → IsTrue new.is_open → StaysOpen old new
+unfolding FailsToQuery IsNotRun
+failed_unchanged text old new e plain (inl (inl not_run)) opened = unchanged old new not_run.1
+failed_unchanged text old new e plain (inl (inr fails)) opened = rolled_back old new fails.3 opened
+failed_unchanged text old new e plain (inr h) opened =
+    let bare = subst IsPlain h.1.is plain in
+    unchanged old new (rw bare.0 at h.2).3
 
 -- nor may it commit
 commits_nothing : (text : List ℕ) (old : State) (db : Trees) → IsPlain (understood old.now.schema text) → CommitsShowing text [] old db → ⊥
@@ -31,10 +54,12 @@ commits_nothing text old db plain h =
 
 -- what a query without RETURNING leaves
 pub seen_by : (schema : Schema) (text : List ℕ) (old new : State) (r : Result (List Row) Error) → IsPlain (understood schema text)
-    → (HasCleanDisk new → IfOk r (λ rows. Shown text [] old new rows)) → Survives old new (CommitsShowing text [] old) → IsSeen schema old new (is_ok r)
-seen_by schema text old new r plain shown survives = record {
+    → (HasCleanDisk new → IfOk r (λ rows. Shown text [] old new rows)) → (HasCleanDisk new → IfErr r (λ e. FailsToQuery text [] old new e)) → Survives old new (CommitsShowing text [] old)
+    → IsSeen schema old new (is_ok r)
+seen_by schema text old new r plain shown fails survives = record {
   clean = λ clean. omega (arith, survives.clean, clean);
   same = λ clean has done. same_if r (shown clean) (subst (λ s. IsPlain (understood s text)) (sym has) plain) done;
+  stays = λ clean has. stays_if r (shown clean) (fails clean) (subst (λ s. IsPlain (understood s text)) (sym has) plain);
   survives = λ clean has. record {
     clean = survives.clean;
     shield = survives.shield;
@@ -52,11 +77,16 @@ seen_by schema text old new r plain shown survives = record {
     same_if (Ok rows) h here done = shown_same text old new rows here h
     same_if (Err e) h here done = absurd cc
 
+    stays_if : (q : Result (List Row) Error) → IfOk q (λ rows. Shown text [] old new rows) → IfErr q (λ e. FailsToQuery text [] old new e) → IsPlain (understood old.now.schema text) → IsTrue new.is_open → StaysOpen old new
+    stays_if (Ok rows) h fails here opened = shown_unchanged text old new rows here h
+    stays_if (Err e) h fails here opened = failed_unchanged text old new e here fails opened
+
 -- before the first reading
 pub seen_none : (schema : Schema) (s : State) (done : Bool) → IsSeen schema s s done
 seen_none schema s done = record {
   clean = λ clean. clean;
   same = λ _ _ _. refl;
+  stays = λ _ _ opened. record { was_open = opened; committed = refl; shows = inl refl };
   survives = λ _ _. record { clean = omega arith; shield = λ h. h; counts = omega arith; limit = refl; closes = λ _ o. inl o; crash = λ _ db left. inl left };
 }
 
@@ -68,12 +98,20 @@ seen_then schema a b c done one two =
     record {
       clean = λ clean. one.clean (two.clean clean);
       same = λ clean has so. two.same clean (there clean has) so ∙ mid clean has;
+      stays = λ clean has opened.
+          let second = two.stays clean (there clean has) opened in
+          let first = one.stays (two.clean clean) has second.was_open in
+          record {
+            was_open = first.was_open;
+            committed = second.committed ∙ first.committed;
+            shows = elim second.shows [ inl now ↦ inl (now ∙ mid clean has) | inr back ↦ inr (back ∙ first.committed) ];
+          };
       survives = λ clean has. survives_then a b c _ _ (λ _. ⊥) (λ _ db none. none) (λ _ db none. none) (one.survives (two.clean clean) has) (two.survives clean (there clean has));
     }
 
 -- of a reading whose answer didn't serve
 pub seen_less : (schema : Schema) (a b : State) (done : Bool) → IsSeen schema a b true → IsSeen schema a b done
-seen_less schema a b done seen = record { clean = seen.clean; same = λ clean has _. seen.same clean has refl; survives = seen.survives }
+seen_less schema a b done seen = record { clean = seen.clean; same = λ clean has _. seen.same clean has refl; stays = seen.stays; survives = seen.survives }
 
 -- what a database keeps once it was read
 pub keeps_seen : (a b : State) (rows : Rows) → IsSeen schema_1 a b true → HasCleanDisk b → Keeps a.now rows → Keeps b.now rows

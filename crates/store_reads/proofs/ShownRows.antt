@@ -1,5 +1,6 @@
 -- What the SELECTs show of the rows that a database keeps.
-use Rattle.std.proofs.Common.{◌≡◌, ◌+◌, ◌<◌, ℕ, pos, List, [], ◌∷◌, map, drop, Option, Some, None, refl, sym, ap, ◌∙◌, arith}
+use Rattle.std.proofs.Common.{◌≡◌, ◌+◌, ◌<◌, ℕ, List, [], ◌∷◌, map, drop, Option, Some, None, refl, ap, subst, ◌∙◌, arith, IsPermutation}
+use Rattle.std.proofs.lemmas.List.Sorted.{IsPermutation-refl}
 use Rattle.std.specs.List.{AllByRecursion}
 use Rattle.std.specs.Option.{option_to_list}
 use Rattle.net_rows.specs.declared.rows.Rows.{Rows}
@@ -13,7 +14,7 @@ use Rattle.sqlite_trees.specs.Tree.{IsAscending}
 use Rattle.sqlite_value.specs.Order.{Row}
 use Rattle.tailcfg.specs.declared.dns.DnsExtra.{DnsExtra}
 use Rattle.store_commits.specs.Kept.{Keeps, policy_row, tree_row}
-use Rattle.store_commits.proofs.KeptLists.{with_places, extra_rest, placed_are}
+use Rattle.store_commits.proofs.KeptLists.{image_of, with_places, extra_rest, placed_are}
 use Rattle.store_rows.specs.Rows.{auth_key_cells, extra_cells, machine_cells, meta_cells, pending_cells, policy_cells, user_cells}
 use Rattle.store_texts.specs.Texts.{select_auth_keys_text, select_extras_text, select_machines_text, select_meta_text, select_pending_text, select_policy_text, select_users_text}
 use Rattle.store_texts.proofs.Lists.{row_of}
@@ -25,30 +26,38 @@ use Rattle.store_reads.proofs.Lists.{rising}
 pub shown_next : (old new : State) (all : Rows) (rows : List Row) → Keeps old.now all → Shown select_meta_text [] old new rows → rows ≡ shown_row (meta_cells all.next) ∷ []
 shown_next old new all rows keeps h =
     let key : Counters → ℕ = λ n. 1 in
-    shows_all 0 _ key (λ n. drop 1 (tree_row (meta_cells n))) (λ n. shown_row (meta_cells n)) (λ n. refl) select_meta_text _ old new (all.next ∷ []) rows select_meta_means keeps.schema keeps.stored.meta (tt, tt) h
+    shows_all 0 _ key (λ n. drop 1 (tree_row (meta_cells n))) (λ n. shown_row (meta_cells n)) (λ n. refl) select_meta_text _ old new (all.next ∷ []) (all.next ∷ []) rows select_meta_means keeps.schema keeps.stored.meta (IsPermutation-refl (all.next ∷ [])) (tt, tt) h
 
 pub shown_users : (old new : State) (all : Rows) (rows : List Row) → Keeps old.now all → Shown select_users_text [] old new rows → rows ≡ map (λ x. shown_row (user_cells x)) all.users
 shown_users old new all rows keeps h =
     let key = λ (r : User). r.id in
-    shows_all 1 _ key (λ x. drop 1 (tree_row (user_cells x))) (λ x. shown_row (user_cells x)) (λ x. refl) select_users_text _ old new all.users rows select_users_means keeps.schema keeps.stored.users
+    let rest = λ (x : User). drop 1 (tree_row (user_cells x)) in
+    let stood = image_of (row_of key rest) all.users (old.now.trees 1) keeps.stored.users in
+    shows_all 1 _ key rest (λ x. shown_row (user_cells x)) (λ x. refl) select_users_text _ old new all.users stood.them rows select_users_means keeps.schema stood.are stood.same
     (rising key all.users keeps.ordered.users) h
 
 pub shown_keys : (old new : State) (all : Rows) (rows : List Row) → Keeps old.now all → Shown select_auth_keys_text [] old new rows → rows ≡ map (λ x. shown_row (auth_key_cells x)) all.keys
 shown_keys old new all rows keeps h =
     let key = λ (r : AuthKey). r.id in
-    shows_all 3 _ key (λ x. drop 1 (tree_row (auth_key_cells x))) (λ x. shown_row (auth_key_cells x)) (λ x. refl) select_auth_keys_text _ old new all.keys rows select_auth_keys_means keeps.schema keeps.stored.keys
+    let rest = λ (x : AuthKey). drop 1 (tree_row (auth_key_cells x)) in
+    let stood = image_of (row_of key rest) all.keys (old.now.trees 3) keeps.stored.keys in
+    shows_all 3 _ key rest (λ x. shown_row (auth_key_cells x)) (λ x. refl) select_auth_keys_text _ old new all.keys stood.them rows select_auth_keys_means keeps.schema stood.are stood.same
     (rising key all.keys keeps.ordered.keys) h
 
 pub shown_pending : (old new : State) (all : Rows) (rows : List Row) → Keeps old.now all → Shown select_pending_text [] old new rows → rows ≡ map (λ x. shown_row (pending_cells x)) all.pending
 shown_pending old new all rows keeps h =
     let key = λ (r : Pending). r.id in
-    shows_all 5 _ key (λ x. drop 1 (tree_row (pending_cells x))) (λ x. shown_row (pending_cells x)) (λ x. refl) select_pending_text _ old new all.pending rows select_pending_means keeps.schema keeps.stored.pending
+    let rest = λ (x : Pending). drop 1 (tree_row (pending_cells x)) in
+    let stood = image_of (row_of key rest) all.pending (old.now.trees 5) keeps.stored.pending in
+    shows_all 5 _ key rest (λ x. shown_row (pending_cells x)) (λ x. refl) select_pending_text _ old new all.pending stood.them rows select_pending_means keeps.schema stood.are stood.same
     (rising key all.pending keeps.ordered.pending) h
 
 pub shown_machines : (old new : State) (all : Rows) (rows : List Row) → Keeps old.now all → Shown select_machines_text [] old new rows → rows ≡ map (λ x. shown_row (machine_cells x)) all.machines
 shown_machines old new all rows keeps h =
     let key = λ (r : Machine). r.id in
-    shows_all 8 _ key (λ x. drop 1 (tree_row (machine_cells x))) (λ x. shown_row (machine_cells x)) (λ x. refl) select_machines_text _ old new all.machines rows select_machines_means keeps.schema keeps.stored.machines
+    let rest = λ (x : Machine). drop 1 (tree_row (machine_cells x)) in
+    let stood = image_of (row_of key rest) all.machines (old.now.trees 8) keeps.stored.machines in
+    shows_all 8 _ key rest (λ x. shown_row (machine_cells x)) (λ x. refl) select_machines_text _ old new all.machines stood.them rows select_machines_means keeps.schema stood.are stood.same
     (rising key all.machines keeps.ordered.machines) h
 
 -- places rise
@@ -56,21 +65,22 @@ later_places : (n place : ℕ) (xs : List DnsExtra) → n < place → AllByRecur
 later_places n place [] less = tt
 later_places n place (x ∷ xs) less = (less, later_places n (place + 1) xs (omega (arith, less)))
 
-places_rise : (place : ℕ) (xs : List DnsExtra) → IsAscending (λ (a b : ℕ × DnsExtra). a.0 < b.0) (with_places place xs)
+pub places_rise : (place : ℕ) (xs : List DnsExtra) → IsAscending (λ (a b : ℕ × DnsExtra). a.0 < b.0) (with_places place xs)
 places_rise place [] = tt
 places_rise place (x ∷ xs) = (later_places place (place + 1) xs (omega arith), places_rise (place + 1) xs)
 
-abbrev shown_placed : ℕ × DnsExtra → Row
+abbrev pub shown_placed : ℕ × DnsExtra → Row
 shown_placed (place, x) = shown_row (extra_cells place x)
 
-shown_places : (place : ℕ) (xs : List DnsExtra) → map shown_placed (with_places place xs) ≡ shown_extras place xs
+pub shown_places : (place : ℕ) (xs : List DnsExtra) → map shown_placed (with_places place xs) ≡ shown_extras place xs
 shown_places place [] = refl
 shown_places place (x ∷ xs) = ap (λ l. shown_row (extra_cells place x) ∷ l) (shown_places (place + 1) xs)
 
 pub shown_records : (old new : State) (all : Rows) (rows : List Row) → Keeps old.now all → Shown select_extras_text [] old new rows → rows ≡ shown_extras 1 all.extras
 shown_records old new all rows keeps h =
-    shows_all 14 _ (λ (p : ℕ × DnsExtra). p.0) extra_rest shown_placed (λ p. refl) select_extras_text _ old new (with_places 1 all.extras) rows select_extras_means keeps.schema
-    (keeps.stored.extras ∙ placed_are 1 all.extras) (places_rise 1 all.extras) h
+    let key : ℕ × DnsExtra → ℕ = λ p. p.0 in
+    let stood = image_of (row_of key extra_rest) (with_places 1 all.extras) (old.now.trees 14) (subst (λ l. IsPermutation l (old.now.trees 14)) (placed_are 1 all.extras) keeps.stored.extras) in
+    shows_all 14 _ key extra_rest shown_placed (λ p. refl) select_extras_text _ old new (with_places 1 all.extras) stood.them rows select_extras_means keeps.schema stood.are stood.same (places_rise 1 all.extras) h
     ∙ shown_places 1 all.extras
 
 policy_list : (policy : Option (List ℕ)) → policy_row policy ≡ map (row_of (λ (b : List ℕ). 1) (λ b. drop 1 (tree_row (policy_cells b)))) (option_to_list policy)
@@ -85,5 +95,5 @@ pub shown_policy : (old new : State) (all : Rows) (rows : List Row) → Keeps ol
     → rows ≡ map (λ body. shown_row (policy_cells body)) (option_to_list all.policy)
 shown_policy old new all rows keeps h =
     let key : List ℕ → ℕ = λ b. 1 in
-    shows_all 15 _ key (λ b. drop 1 (tree_row (policy_cells b))) (λ b. shown_row (policy_cells b)) (λ b. refl) select_policy_text _ old new (option_to_list all.policy) rows select_policy_means keeps.schema
-    (keeps.stored.policy ∙ policy_list all.policy) (one_rises all.policy) h
+    shows_all 15 _ key (λ b. drop 1 (tree_row (policy_cells b))) (λ b. shown_row (policy_cells b)) (λ b. refl) select_policy_text _ old new (option_to_list all.policy) (option_to_list all.policy) rows select_policy_means keeps.schema
+    (keeps.stored.policy ∙ policy_list all.policy) (IsPermutation-refl (option_to_list all.policy)) (one_rises all.policy) h

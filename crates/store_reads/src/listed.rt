@@ -1,5 +1,5 @@
 //! The rows of a kind, read from those that its table shows.
-ghost use Rattle.std.specs.Prelude.{◌≡◌, ◌∷◌, ◌++◌, [], List, Some, map, is_ok, IfOk};
+ghost use Rattle.std.specs.Prelude.{◌≡◌, ◌∷◌, ◌++◌, [], List, Some, map, is_ok, IfOk, IfSome, OnOk};
 ghost use Rattle.std.specs.List.{AllByRecursion};
 ghost use Rattle.sqlite.specs.Given.{IsPlain};
 ghost use Rattle.sqlite.specs.Held.{state};
@@ -8,6 +8,7 @@ ghost use Rattle.sqlite.specs.State.{HasCleanDisk, Shown};
 ghost use Rattle.sqlite_value.specs.Order.{Row};
 ghost use Rattle.store_texts.specs.Schema.{schema_1};
 ghost use Rattle.store_reads.specs.Readable.{Fills, IsOutside, IsReadable, Yields, shown_row};
+ghost use Rattle.store_reads.specs.Back.{IsRowTaken};
 ghost use Rattle.store_reads.specs.Seen.{IsSeen};
 
 use crate::cells::cells_of;
@@ -42,7 +43,10 @@ fn id_of(row: &Row) -> u32 {
 fn read_row<T: Loaded>(alloc: Global, row: &Row) -> Result<Option<T>, Fault>
     ensures read { (x : T) → row.now ≡ shown_row (T.stored x) → IsReadable T.stored T.Typed x
         → IfOk result (λ found. found ≡ Some x) }
+    ensures back { IfOk result (λ found. IfSome found (λ x.
+        (row.now ≡ shown_row (T.stored x)) × IsReadable T.stored T.Typed x)) }
 {
+    T::cells_are_of_ours();
     let cells = cells_of(alloc, row)?;
     Ok(T::read(alloc, cells.as_slice())?)
 }
@@ -51,6 +55,7 @@ fn read_row<T: Loaded>(alloc: Global, row: &Row) -> Result<Option<T>, Fault>
 fn take_row<T: Loaded>(alloc: Global, row: &Row, all: &mut Items<T>) -> Result<(), LoadFault>
     ensures read { (x : T) → row.now ≡ shown_row (T.stored x) → IsReadable T.stored T.Typed x
         → Fills result (all.new ≡ all.old ++ x ∷ []) }
+    ensures back { OnOk result (IsRowTaken T.stored T.Typed row.now all.old all.new) }
 {
     match read_row(alloc, row) {
         Ok(Some(read)) => match all.push(read) {
@@ -69,6 +74,8 @@ fn take_row<T: Loaded>(alloc: Global, row: &Row, all: &mut Items<T>) -> Result<(
 fn rows_in<T: Loaded>(alloc: Global, rows: &[Row]) -> Result<Items<T>, LoadFault>
     ensures read { (xs : List T) → rows.now ≡ map (λ x. shown_row (T.stored x)) xs
         → AllByRecursion (IsReadable T.stored T.Typed) xs → Yields result xs }
+    ensures back { IfOk result (λ xs. (rows.now ≡ map (λ x. shown_row (T.stored x)) xs)
+        × AllByRecursion (IsReadable T.stored T.Typed) xs) }
 {
     let mut all = Items::new(alloc);
     for row in rows {
@@ -92,6 +99,10 @@ pub(crate) fn read_all<T: Loaded, S: Alter>(
         → Shown T.select_text [] (state S.Store conn.old) (state S.Store conn.new) rows
         → rows ≡ map (λ x. shown_row (T.stored x)) xs)
         → AllByRecursion (IsReadable T.stored T.Typed) xs → Yields result xs }
+    ensures back { HasCleanDisk (state S.Store conn.new) → IfOk result (λ xs.
+        Shown T.select_text [] (state S.Store conn.old) (state S.Store conn.new)
+        (map (λ x. shown_row (T.stored x)) xs)
+        × AllByRecursion (IsReadable T.stored T.Typed) xs) }
 {
     match rows_of(conn, T::select()) {
         Ok(rows) => rows_in(alloc, rows.as_slice()),

@@ -1,5 +1,7 @@
 //! Rows of each kind as they are read from their table.
 ghost use Rattle.std.specs.Prelude.{◌≡◌, ℕ, List, IfOk};
+ghost use Rattle.std.specs.List.{AllByRecursion};
+ghost use Rattle.store_reads.specs.Back.{IsOfOurs};
 ghost use Rattle.store_rows.specs.Reads.{IsReadBack};
 ghost use Rattle.store_rows.specs.Rows.{IsTypedKey, IsTypedMachine, IsTypedPending, IsTypedUser, auth_key_cells, machine_cells, pending_cells, user_cells};
 ghost use Rattle.store_rows.specs.declared.cell.Cell.{Cell};
@@ -32,6 +34,10 @@ pub(crate) trait Loaded: Drop + Sized {
     /// The row that is stored so, if there is one.
     fn read(alloc: Global, cells: &[Cell]) -> Result<Option<Self>, NoMemory>
         ensures exact { IfOk result (λ found. IsReadBack stored Typed cells.now found) };
+
+    /// All cells of a stored row are values of a database. It does nothing.
+    fn cells_are_of_ours()
+        ensures ours { (x : Self) → AllByRecursion IsOfOurs (stored x) };
 }
 
 impl Loaded for User {
@@ -52,6 +58,8 @@ impl Loaded for User {
     fn read(alloc: Global, cells: &[Cell]) -> Result<Option<Self>, NoMemory> {
         read_user(alloc, cells)
     }
+
+    fn cells_are_of_ours() {}
 }
 
 impl Loaded for AuthKey {
@@ -72,6 +80,8 @@ impl Loaded for AuthKey {
     fn read(alloc: Global, cells: &[Cell]) -> Result<Option<Self>, NoMemory> {
         read_auth_key(alloc, cells)
     }
+
+    fn cells_are_of_ours() {}
 }
 
 impl Loaded for Pending {
@@ -92,6 +102,8 @@ impl Loaded for Pending {
     fn read(alloc: Global, cells: &[Cell]) -> Result<Option<Self>, NoMemory> {
         read_pending(alloc, cells)
     }
+
+    fn cells_are_of_ours() {}
 }
 
 impl Loaded for Machine {
@@ -112,4 +124,6 @@ impl Loaded for Machine {
     fn read(alloc: Global, cells: &[Cell]) -> Result<Option<Self>, NoMemory> {
         read_machine(alloc, cells)
     }
+
+    fn cells_are_of_ours() {}
 }

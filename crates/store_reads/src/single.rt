@@ -1,5 +1,5 @@
 //! Counters, extra records and the policy, which have no ids.
-ghost use Rattle.std.specs.Prelude.{◌≡◌, ◌∷◌, ◌++◌, [], ℕ, true, List, Option, Some, map, is_ok, IfOk, IfSome};
+ghost use Rattle.std.specs.Prelude.{◌≡◌, ◌∷◌, ◌++◌, [], ℕ, true, List, Option, Some, map, is_ok, IfOk, IfSome, OnOk};
 ghost use Rattle.std.specs.List.{AllByRecursion};
 ghost use Rattle.std.specs.Option.{option_to_list};
 ghost use Rattle.std.specs.Str.{is_utf8};
@@ -9,6 +9,7 @@ ghost use Rattle.sqlite.specs.Held.{state};
 ghost use Rattle.sqlite.specs.State.{HasCleanDisk};
 ghost use Rattle.tailcfg.specs.declared.dns.DnsExtra.{DnsExtra};
 ghost use Rattle.store_commits.specs.Kept.{Keeps};
+ghost use Rattle.store_reads.specs.Back.{HoldsExtras, HoldsNext, HoldsPolicy, IsOurs, IsTakenExtra};
 ghost use Rattle.store_rows.specs.Rows.{IsTypedCounters, extra_cells, meta_cells, policy_cells};
 ghost use Rattle.store_texts.specs.Schema.{schema_1};
 ghost use Rattle.store_reads.specs.Readable.{AreReadable, Fills, IsReadableExtra, Yields, shown_extras, shown_row};
@@ -37,6 +38,8 @@ fn damaged(kind: Kind) -> LoadFault {
 fn next_in(alloc: Global, rows: &[Row]) -> Result<Option<Counters>, Fault>
     ensures read { (next : Counters) → rows.now ≡ shown_row (meta_cells next) ∷ []
         → IsTypedCounters next → IfOk result (λ found. found ≡ Some next) }
+    ensures back { IfOk result (λ found. IfSome found (λ next.
+        (rows.now ≡ shown_row (meta_cells next) ∷ []) × IsTypedCounters next)) }
 {
     let [row] = rows else {
         return Ok(None);
@@ -49,6 +52,8 @@ fn next_in(alloc: Global, rows: &[Row]) -> Result<Option<Counters>, Fault>
 fn next_of(alloc: Global, rows: &[Row]) -> Result<Counters, LoadFault>
     ensures read { (next : Counters) → rows.now ≡ shown_row (meta_cells next) ∷ []
         → IsTypedCounters next → Yields result next }
+    ensures back { IfOk result (λ next.
+        (rows.now ≡ shown_row (meta_cells next) ∷ []) × IsTypedCounters next) }
 {
     match next_in(alloc, rows) {
         Ok(Some(next)) => Ok(next),
@@ -66,6 +71,8 @@ pub(crate) fn read_next<S: Alter>(
         (is_ok result) }
     ensures read { HasCleanDisk (state S.Store conn.new) → (all : Rows)
         → Keeps (state S.Store conn.old).now all → AreReadable all → Yields result all.next }
+    ensures back { HasCleanDisk (state S.Store conn.new) → IsOurs (state S.Store conn.old).now
+        → IfOk result (HoldsNext ((state S.Store conn.old).now.trees 0)) }
 {
     match rows_of(conn, select_meta()) {
         Ok(rows) => next_of(alloc, rows.as_slice()),
@@ -78,6 +85,8 @@ pub(crate) fn read_next<S: Alter>(
 fn extra_in(alloc: Global, place: u32, row: &Row) -> Result<Option<DnsExtra>, Fault>
     ensures read { (x : DnsExtra) → row.now ≡ shown_row (extra_cells place x)
         → IsReadableExtra x → IfOk result (λ found. found ≡ Some x) }
+    ensures back { IfOk result (λ found. IfSome found (λ x.
+        (row.now ≡ shown_row (extra_cells place x)) × IsReadableExtra x)) }
 {
     let cells = cells_of(alloc, row)?;
     Ok(read_extra(alloc, place, cells.as_slice())?)
@@ -92,6 +101,7 @@ fn take_extra(
 ) -> Result<(), LoadFault>
     ensures read { (x : DnsExtra) → row.now ≡ shown_row (extra_cells place x)
         → IsReadableExtra x → Fills result (extras.new ≡ extras.old ++ x ∷ []) }
+    ensures back { OnOk result (IsTakenExtra place row.now extras.old extras.new) }
 {
     match extra_in(alloc, place, row) {
         Ok(Some(extra)) => match extras.push(extra) {
@@ -107,6 +117,8 @@ fn take_extra(
 fn extras_in(alloc: Global, rows: &[Row]) -> Result<Items<DnsExtra>, LoadFault>
     ensures read { (xs : List DnsExtra) → rows.now ≡ shown_extras 1 xs
         → AllByRecursion IsReadableExtra xs → Yields result xs }
+    ensures back { IfOk result (λ xs.
+        (rows.now ≡ shown_extras 1 xs) × AllByRecursion IsReadableExtra xs) }
 {
     let mut extras = Items::new(alloc);
     let mut last = 0u32;
@@ -132,6 +144,8 @@ pub(crate) fn read_extras<S: Alter>(
         (is_ok result) }
     ensures read { HasCleanDisk (state S.Store conn.new) → (all : Rows)
         → Keeps (state S.Store conn.old).now all → AreReadable all → Yields result all.extras }
+    ensures back { HasCleanDisk (state S.Store conn.new) → IsOurs (state S.Store conn.old).now
+        → IfOk result (HoldsExtras ((state S.Store conn.old).now.trees 14)) }
 {
     match rows_of(conn, select_extras()) {
         Ok(rows) => extras_in(alloc, rows.as_slice()),
@@ -144,6 +158,8 @@ pub(crate) fn read_extras<S: Alter>(
 fn policy_in(alloc: Global, row: &Row) -> Result<Option<Text>, Fault>
     ensures read { (body : List ℕ) → row.now ≡ shown_row (policy_cells body)
         → is_utf8 body ≡ true → IfOk result (λ found. found ≡ Some body) }
+    ensures back { IfOk result (λ found. IfSome found (λ body.
+        (row.now ≡ shown_row (policy_cells body)) × (is_utf8 body ≡ true))) }
 {
     let cells = cells_of(alloc, row)?;
     Ok(read_policy_text(alloc, cells.as_slice())?)
@@ -154,6 +170,9 @@ fn policy_of(alloc: Global, rows: &[Row]) -> Result<Option<Text>, LoadFault>
     ensures read { (policy : Option (List ℕ))
         → rows.now ≡ map (λ body. shown_row (policy_cells body)) (option_to_list policy)
         → IfSome policy (λ body. is_utf8 body ≡ true) → Yields result policy }
+    ensures back { IfOk result (λ policy.
+        (rows.now ≡ map (λ body. shown_row (policy_cells body)) (option_to_list policy))
+        × IfSome policy (λ body. is_utf8 body ≡ true)) }
 {
     match rows {
         [] => Ok(None),
@@ -175,6 +194,8 @@ pub(crate) fn read_policy<S: Alter>(
         (is_ok result) }
     ensures read { HasCleanDisk (state S.Store conn.new) → (all : Rows)
         → Keeps (state S.Store conn.old).now all → AreReadable all → Yields result all.policy }
+    ensures back { HasCleanDisk (state S.Store conn.new) → IsOurs (state S.Store conn.old).now
+        → IfOk result (HoldsPolicy ((state S.Store conn.old).now.trees 15)) }
 {
     match rows_of(conn, select_policy()) {
         Ok(rows) => policy_of(alloc, rows.as_slice()),

@@ -1,11 +1,13 @@
 //! All rows that a database keeps.
-ghost use Rattle.std.specs.Prelude.{◌≡◌, is_ok};
+ghost use Rattle.std.specs.Prelude.{◌≡◌, is_ok, IfOk, OnOk};
+ghost use Rattle.store_rows.specs.Rows.{IsTypedKey, IsTypedMachine, IsTypedPending, IsTypedUser, auth_key_cells, machine_cells, pending_cells, user_cells};
 ghost use Rattle.net_rows.specs.declared.rows.Rows.{Rows};
 ghost use Rattle.sqlite.specs.Held.{state};
 ghost use Rattle.sqlite.specs.State.{HasCleanDisk};
-ghost use Rattle.store_commits.specs.Kept.{Keeps};
+ghost use Rattle.store_commits.specs.Kept.{AreStored, Keeps};
 ghost use Rattle.store_texts.specs.Schema.{schema_1};
 ghost use Rattle.store_reads.specs.Readable.{AreReadable, Fills, Yields};
+ghost use Rattle.store_reads.specs.Back.{ExtrasStand, HoldsReadable, IsOurs, KeysStand, MachinesStand, NextStands, PendingStands, PolicyStands, UsersStand};
 ghost use Rattle.store_reads.specs.Seen.{IsSeen};
 
 use crate::listed::read_all;
@@ -23,6 +25,9 @@ fn read_users<S: Alter>(conn: &mut Connection<S>, alloc: Global) -> Result<Items
         (is_ok result) }
     ensures read { HasCleanDisk (state S.Store conn.new) → (all : Rows)
         → Keeps (state S.Store conn.old).now all → AreReadable all → Yields result all.users }
+    ensures back { HasCleanDisk (state S.Store conn.new) → IsOurs (state S.Store conn.old).now
+        → IfOk result (HoldsReadable user_cells IsTypedUser
+        ((state S.Store conn.old).now.trees 1)) }
 {
     read_all(conn, alloc)
 }
@@ -33,6 +38,9 @@ fn read_keys<S: Alter>(conn: &mut Connection<S>, alloc: Global) -> Result<Items<
         (is_ok result) }
     ensures read { HasCleanDisk (state S.Store conn.new) → (all : Rows)
         → Keeps (state S.Store conn.old).now all → AreReadable all → Yields result all.keys }
+    ensures back { HasCleanDisk (state S.Store conn.new) → IsOurs (state S.Store conn.old).now
+        → IfOk result (HoldsReadable auth_key_cells IsTypedKey
+        ((state S.Store conn.old).now.trees 3)) }
 {
     read_all(conn, alloc)
 }
@@ -46,6 +54,9 @@ fn read_pending_entries<S: Alter>(
         (is_ok result) }
     ensures read { HasCleanDisk (state S.Store conn.new) → (all : Rows)
         → Keeps (state S.Store conn.old).now all → AreReadable all → Yields result all.pending }
+    ensures back { HasCleanDisk (state S.Store conn.new) → IsOurs (state S.Store conn.old).now
+        → IfOk result (HoldsReadable pending_cells IsTypedPending
+        ((state S.Store conn.old).now.trees 5)) }
 {
     read_all(conn, alloc)
 }
@@ -59,6 +70,9 @@ fn read_machines<S: Alter>(
         (is_ok result) }
     ensures read { HasCleanDisk (state S.Store conn.new) → (all : Rows)
         → Keeps (state S.Store conn.old).now all → AreReadable all → Yields result all.machines }
+    ensures back { HasCleanDisk (state S.Store conn.new) → IsOurs (state S.Store conn.old).now
+        → IfOk result (HoldsReadable machine_cells IsTypedMachine
+        ((state S.Store conn.old).now.trees 8)) }
 {
     read_all(conn, alloc)
 }
@@ -76,6 +90,10 @@ fn fill_policy<S: Alter>(
         → Fills result (rows.new ≡ record rows.old {
           policy = all.policy;
         }) }
+    ensures back { HasCleanDisk (state S.Store conn.new) → IsOurs (state S.Store conn.old).now
+        → OnOk result ((rows.new ≡ record rows.old {
+          policy = rows.new.policy;
+        }) × PolicyStands (state S.Store conn.old).now.trees rows.new) }
 {
     rows.policy = read_policy(conn, alloc)?;
     Ok(())
@@ -95,6 +113,11 @@ fn fill_extras<S: Alter>(
           extras = all.extras;
           policy = all.policy;
         }) }
+    ensures back { HasCleanDisk (state S.Store conn.new) → IsOurs (state S.Store conn.old).now
+        → OnOk result ((rows.new ≡ record rows.old {
+          extras = rows.new.extras;
+          policy = rows.new.policy;
+        }) × ExtrasStand (state S.Store conn.old).now.trees rows.new) }
 {
     rows.extras = read_extras(conn, alloc)?;
     fill_policy(conn, alloc, rows)
@@ -115,6 +138,12 @@ fn fill_machines<S: Alter>(
           extras = all.extras;
           policy = all.policy;
         }) }
+    ensures back { HasCleanDisk (state S.Store conn.new) → IsOurs (state S.Store conn.old).now
+        → OnOk result ((rows.new ≡ record rows.old {
+          machines = rows.new.machines;
+          extras = rows.new.extras;
+          policy = rows.new.policy;
+        }) × MachinesStand (state S.Store conn.old).now.trees rows.new) }
 {
     rows.machines = read_machines(conn, alloc)?;
     fill_extras(conn, alloc, rows)
@@ -136,6 +165,13 @@ fn fill_pending<S: Alter>(
           extras = all.extras;
           policy = all.policy;
         }) }
+    ensures back { HasCleanDisk (state S.Store conn.new) → IsOurs (state S.Store conn.old).now
+        → OnOk result ((rows.new ≡ record rows.old {
+          pending = rows.new.pending;
+          machines = rows.new.machines;
+          extras = rows.new.extras;
+          policy = rows.new.policy;
+        }) × PendingStands (state S.Store conn.old).now.trees rows.new) }
 {
     rows.pending = read_pending_entries(conn, alloc)?;
     fill_machines(conn, alloc, rows)
@@ -158,6 +194,14 @@ fn fill_keys<S: Alter>(
           extras = all.extras;
           policy = all.policy;
         }) }
+    ensures back { HasCleanDisk (state S.Store conn.new) → IsOurs (state S.Store conn.old).now
+        → OnOk result ((rows.new ≡ record rows.old {
+          keys = rows.new.keys;
+          pending = rows.new.pending;
+          machines = rows.new.machines;
+          extras = rows.new.extras;
+          policy = rows.new.policy;
+        }) × KeysStand (state S.Store conn.old).now.trees rows.new) }
 {
     rows.keys = read_keys(conn, alloc)?;
     fill_pending(conn, alloc, rows)
@@ -181,6 +225,15 @@ fn fill_users<S: Alter>(
           extras = all.extras;
           policy = all.policy;
         }) }
+    ensures back { HasCleanDisk (state S.Store conn.new) → IsOurs (state S.Store conn.old).now
+        → OnOk result ((rows.new ≡ record rows.old {
+          users = rows.new.users;
+          keys = rows.new.keys;
+          pending = rows.new.pending;
+          machines = rows.new.machines;
+          extras = rows.new.extras;
+          policy = rows.new.policy;
+        }) × UsersStand (state S.Store conn.old).now.trees rows.new) }
 {
     rows.users = read_users(conn, alloc)?;
     fill_keys(conn, alloc, rows)
@@ -205,6 +258,16 @@ fn fill_next<S: Alter>(
           extras = all.extras;
           policy = all.policy;
         }) }
+    ensures back { HasCleanDisk (state S.Store conn.new) → IsOurs (state S.Store conn.old).now
+        → OnOk result ((rows.new ≡ record rows.old {
+          next = rows.new.next;
+          users = rows.new.users;
+          keys = rows.new.keys;
+          pending = rows.new.pending;
+          machines = rows.new.machines;
+          extras = rows.new.extras;
+          policy = rows.new.policy;
+        }) × NextStands (state S.Store conn.old).now.trees rows.new) }
 {
     rows.next = read_next(conn, alloc)?;
     fill_users(conn, alloc, rows)
@@ -230,6 +293,9 @@ pub fn read_rows<S: Alter>(conn: &mut Connection<S>, alloc: Global) -> Result<Ro
         (is_ok result) }
     ensures read { HasCleanDisk (state S.Store conn.new) → (all : Rows)
         → Keeps (state S.Store conn.old).now all → AreReadable all → Yields result all }
+    ensures back { HasCleanDisk (state S.Store conn.new) → IsOurs (state S.Store conn.old).now
+        → IfOk result (λ all.
+        AreStored (state S.Store conn.old).now.trees all × AreReadable all) }
 {
     let mut rows = no_rows(alloc);
     match fill_next(conn, alloc, &mut rows) {

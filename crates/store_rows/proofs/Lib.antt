@@ -5,3 +5,5 @@ pub mod ReadLemmas
 pub mod RouteTexts
 pub mod RowLemmas
 pub mod TagTexts
+pub mod ReadingLemmas
+pub mod TableReads

@@ -1,10 +1,11 @@
 -- Lists are read again from their texts.
-use Rattle.std.proofs.Common.{◌≡◌, ◌+◌, ℕ, List, [], ◌∷◌, ◌++◌, take, drop, Option, Some, None, refl, sym, ap, ◌∙◌, append_assoc}
+use Rattle.std.proofs.Common.{◌≡◌, ◌<◌, ◌+◌, ◌-◌, ℕ, List, [], ◌∷◌, ◌++◌, length, get_or, take, drop, Option, Some, None, arith, refl, sym, ap, subst, ◌∙◌, append_assoc}
+use Rattle.std.proofs.Math.Seq.{take-length}
 use Rattle.std.specs.Prelude.{map, ◌≢◌}
 use Rattle.std.specs.List.{All, join_with_byte, position, slice_split}
 use Rattle.std.specs.Option.{option_and_then, option_map}
 use Rattle.std.proofs.lemmas.List.{append-nil}
-use Rattle.std.proofs.lemmas.List.Elements.{All-head, All-tail}
+use Rattle.std.proofs.lemmas.List.Elements.{All-cons, All-head, All-tail}
 use Rattle.net_addr.proofs.PartLemmas.{split_here, split_whole}
 use Rattle.net_addr.proofs.SplitLemmas.{AllFree, split_joined}
 use Rattle.store_rows.specs.Lists.{IsListedText, elements_from, is_separator, list_text, spelled_list}
@@ -96,3 +97,17 @@ leads_end of_text xs rest whole h leads =
 
 pub leads_first : {T : Type 0} (of_text : List ℕ → Option T) (whole : List ℕ) → whole ≢ [] → Leads of_text [] whole whole
 leads_first of_text whole some = sym (spelled_some of_text whole some)
+
+-- what holds of the first element and of those behind it holds of all
+pub all_behind_first : {T : Type 0} (P : T → Type 0) (xs : List T) (x : T) → 0 < length xs → x ≡ get_or xs 0 x → P x → All P (take (length xs - 1) (drop 1 xs)) → All P xs
+all_behind_first P [] x some is one more = absurd (omega (arith, some))
+all_behind_first P (y ∷ ys) x some is one more =
+    let count : length (y ∷ ys) - 1 ≡ length ys = omega arith in
+    All-cons P y ys (subst P is one) (subst (All P) (ap (λ n. take n ys) count ∙ take-length ys) more)
+
+-- the first element and those behind it are the list
+pub first_and_more : {T : Type 0} (xs : List T) (x : T) → 0 < length xs → x ≡ get_or xs 0 x → x ∷ take (length xs - 1) (drop 1 xs) ≡ xs
+first_and_more [] x some is = absurd (omega (arith, some))
+first_and_more (y ∷ ys) x some is =
+    let count : length (y ∷ ys) - 1 ≡ length ys = omega arith in
+    ap (λ l. x ∷ l) (ap (λ n. take n ys) count ∙ take-length ys) ∙ ap (λ z. z ∷ ys) is

@@ -4,3 +4,5 @@ pub mod Lists
 pub mod Addresses
 pub mod Endpoints
 pub mod Rows
+pub mod Readable
+pub mod Reading

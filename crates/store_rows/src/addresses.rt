@@ -1,5 +1,6 @@
 //! Addresses in a column.
-ghost use Rattle.std.specs.Prelude.{◌≡◌, ◌<◌, ◌^◌, length, IfOk, IfSome};
+ghost use Rattle.std.specs.Prelude.{◌≡◌, ◌<◌, ◌^◌, length, true, IfOk, IfSome, OnOk};
+ghost use Rattle.std.specs.Str.{is_utf8};
 ghost use Rattle.std.specs.Int.{from_be_bytes, w64};
 ghost use Rattle.net_addr.specs.AddrTexts.{addr_text};
 ghost use Rattle.store_rows.specs.Addresses.{IsAddress, IsV4, IsV6, address_cell, address_text_cell, v6_bytes, v6_in};
@@ -10,6 +11,7 @@ use crate::cell::Cell;
 use crate::column::Column;
 use crate::same::is_same;
 use crate::scalars::number_in;
+use crate::utf8::text_is_utf8;
 use net_addr::Addr;
 use std::alloc::Global;
 use tail_base::{Bytes, NoMemory};
@@ -95,6 +97,7 @@ fn read_number(n: i64) -> Option<Addr>
 /// The cell of an address.
 fn address_cell(alloc: Global, addr: &Addr) -> Result<Cell, NoMemory>
     ensures value { IfOk result (λ made. made ≡ address_cell addr.now) }
+    ensures writable { OnOk result (IsAddress addr.now) }
 {
     let bits = addr.bits();
     if addr.is_v6() {
@@ -113,11 +116,13 @@ pub(crate) struct V4(pub Addr);
 pub(crate) struct V6(pub Addr);
 
 impl Column for V4 {
-    ghost use Rattle.store_rows.specs.Addresses.{IsV4, address_cell};
+    ghost use Rattle.store_rows.specs.Addresses.{IsAddress, IsV4, address_cell};
 
     ghost stored = { λ a. address_cell a.0 };
 
     ghost Fits = { λ a. IsV4 a.0 };
+
+    ghost Has = { λ a. IsAddress a.0 };
 
     fn write(&self, alloc: Global) -> Result<Cell, NoMemory> {
         address_cell(alloc, &self.0)
@@ -136,11 +141,13 @@ impl Column for V4 {
 }
 
 impl Column for V6 {
-    ghost use Rattle.store_rows.specs.Addresses.{IsV6, address_cell};
+    ghost use Rattle.store_rows.specs.Addresses.{IsAddress, IsV6, address_cell};
 
     ghost stored = { λ a. address_cell a.0 };
 
     ghost Fits = { λ a. IsV6 a.0 };
+
+    ghost Has = { λ a. IsAddress a.0 };
 
     fn write(&self, alloc: Global) -> Result<Cell, NoMemory> {
         address_cell(alloc, &self.0)
@@ -177,8 +184,11 @@ fn read_text(alloc: Global, text: &[u8]) -> Result<Option<Addr>, NoMemory>
 /// The address as its text.
 pub(crate) fn address_text_cell(alloc: Global, addr: &Addr) -> Result<Cell, NoMemory>
     ensures value { IfOk result (λ made. made ≡ address_text_cell addr.now) }
+    ensures writable { OnOk result (IsAddress addr.now × (is_utf8 (addr_text addr.now) ≡ true)) }
 {
+    let _in_family = addr.bits();
     let text = addr.write(alloc)?;
+    text_is_utf8(text.as_str());
     Ok(Cell::Text(text))
 }
 

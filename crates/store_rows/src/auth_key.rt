@@ -1,5 +1,6 @@
 //! Rows of `auth_keys`.
-ghost use Rattle.std.specs.Prelude.{◌≡◌, IfOk};
+ghost use Rattle.std.specs.Prelude.{◌≡◌, IfOk, OnOk};
+ghost use Rattle.store_rows.specs.Readable.{IsReadable};
 ghost use Rattle.store_rows.specs.Reads.{IsReadBack};
 ghost use Rattle.store_rows.specs.Rows.{IsTypedKey, auth_key_cells};
 
@@ -14,6 +15,7 @@ use tail_base::{Items, NoMemory, Tag, Text};
 /// The row of a pre-auth key: its id, text and user, its flags, its expiry and its tags.
 pub fn write_auth_key(alloc: Global, key: &AuthKey) -> Result<Items<Cell>, NoMemory>
     ensures value { IfOk result (λ made. made ≡ auth_key_cells key.now) }
+    ensures readable { OnOk result (IsReadable auth_key_cells IsTypedKey key.now) }
 {
     let mut row = Items::new(alloc);
     add_three(alloc, &mut row, &key.id, &key.text, &key.user)?;

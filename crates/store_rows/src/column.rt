@@ -1,5 +1,6 @@
 //! Values that stand in one column.
-ghost use Rattle.std.specs.Prelude.{◌≡◌, IfOk};
+ghost use Rattle.std.specs.Prelude.{◌≡◌, IfOk, OnOk};
+ghost use Rattle.store_rows.specs.Readable.{IsWritable};
 ghost use Rattle.store_rows.specs.Reads.{IsReadBack};
 ghost use Rattle.store_rows.specs.declared.cell.Cell.{Cell};
 
@@ -12,12 +13,16 @@ pub trait Column: Drop + Sized {
     /// How the value is stored.
     ghost stored: { Self → Cell };
 
-    /// The values that the type has.
+    /// The values that a column may hold.
     ghost Fits: { Self → Type 0 };
+
+    /// What each value of the type has.
+    ghost Has: { Self → Type 0 };
 
     /// The value as it is stored.
     fn write(&self, alloc: Global) -> Result<Cell, NoMemory>
-        ensures value { IfOk result (λ made. made ≡ stored self.now) };
+        ensures value { IfOk result (λ made. made ≡ stored self.now) }
+        ensures writable { OnOk result (IsWritable stored Has self.now) };
 
     /// The value that is stored so, if there is one.
     fn read(alloc: Global, given: &Cell) -> Result<Option<Self>, NoMemory>

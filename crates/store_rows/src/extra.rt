@@ -1,5 +1,6 @@
 //! Rows of `extras`.
-ghost use Rattle.std.specs.Prelude.{◌≡◌, IfOk};
+ghost use Rattle.std.specs.Prelude.{◌≡◌, IfOk, OnOk};
+ghost use Rattle.store_rows.specs.Readable.{IsReadableExtra};
 ghost use Rattle.store_rows.specs.Reads.{IsReadBack};
 ghost use Rattle.store_rows.specs.Rows.{IsTypedExtra, extra_cells};
 
@@ -16,6 +17,7 @@ use tailcfg::DnsExtra;
 /// a text.
 pub fn write_extra(alloc: Global, place: u32, extra: &DnsExtra) -> Result<Items<Cell>, NoMemory>
     ensures value { IfOk result (λ made. made ≡ extra_cells place extra.now) }
+    ensures readable { OnOk result (IsReadableExtra extra.now) }
 {
     let mut row = Items::new(alloc);
     add(alloc, &mut row, &place)?;

@@ -17,6 +17,8 @@ impl Column for Fixed {
 
     ghost Fits = { λ _. ⊤ };
 
+    ghost Has = { λ _. ⊤ };
+
     fn write(&self, _: Global) -> Result<Cell, NoMemory> {
         Ok(Cell::Number(1))
     }

@@ -25,6 +25,8 @@ impl Column for MachineKey {
 
     ghost Fits = { λ key. length key.0 ≡ 32 };
 
+    ghost Has = { λ key. length key.0 ≡ 32 };
+
     fn write(&self, alloc: Global) -> Result<Cell, NoMemory> {
         Ok(Cell::Blob(Bytes::from_slice(alloc, &self.0)?))
     }
@@ -48,6 +50,8 @@ impl Column for NodeKey {
 
     ghost Fits = { λ key. length key.0 ≡ 32 };
 
+    ghost Has = { λ key. length key.0 ≡ 32 };
+
     fn write(&self, alloc: Global) -> Result<Cell, NoMemory> {
         Ok(Cell::Blob(Bytes::from_slice(alloc, &self.0)?))
     }
@@ -70,6 +74,8 @@ impl Column for DiscoKey {
     ghost stored = { λ key. Blob key.0 };
 
     ghost Fits = { λ key. length key.0 ≡ 32 };
+
+    ghost Has = { λ key. length key.0 ≡ 32 };
 
     fn write(&self, alloc: Global) -> Result<Cell, NoMemory> {
         Ok(Cell::Blob(Bytes::from_slice(alloc, &self.0)?))

@@ -7,6 +7,8 @@ ghost use Rattle.net_rows.specs.declared.pending.Pending.{Pending};
 ghost use Rattle.net_rows.specs.declared.user.User.{User};
 ghost use Rattle.tailcfg.specs.declared.dns.DnsExtra.{DnsExtra};
 ghost use Rattle.store_rows.specs.Reads.{IsReadBack};
+ghost use Rattle.store_rows.specs.Reading.{auth_key_of, extra_of, machine_in_cells, meta_of, pending_in_cells, policy_in_cells, user_in_cells};
+ghost use Rattle.store_rows.specs.declared.cell.Cell.{Cell};
 ghost use Rattle.store_rows.specs.Rows.{IsTypedCounters, IsTypedExtra, IsTypedKey, IsTypedMachine, IsTypedPending, IsTypedUser};
 ghost use Rattle.store_rows.specs.Rows.{auth_key_cells, extra_cells, machine_cells, meta_cells, pending_cells, policy_cells, user_cells};
 
@@ -43,4 +45,20 @@ pub fn stored_rows_are_read_again()
         → IsReadBack (extra_cells place) IsTypedExtra (extra_cells place x) found → found ≡ Some x }
     ensures policy { (x : List ℕ) (found : Option (List ℕ))
         → IsReadBack policy_cells (λ _. ⊤) (policy_cells x) found → found ≡ Some x }
+{}
+
+/// Column by column, each row is read as the value whose row it is, if there is one.
+pub fn rows_are_read_by_columns()
+    ensures meta { (row : List Cell) → IsReadBack meta_cells IsTypedCounters row (meta_of row) }
+    ensures users { (row : List Cell) → IsReadBack user_cells IsTypedUser row (user_in_cells row) }
+    ensures auth_keys { (row : List Cell)
+        → IsReadBack auth_key_cells IsTypedKey row (auth_key_of row) }
+    ensures pending { (row : List Cell)
+        → IsReadBack pending_cells IsTypedPending row (pending_in_cells row) }
+    ensures machines { (row : List Cell)
+        → IsReadBack machine_cells IsTypedMachine row (machine_in_cells row) }
+    ensures extras { (place : ℕ) (row : List Cell)
+        → IsReadBack (extra_cells place) IsTypedExtra row (extra_of place row) }
+    ensures policy { (row : List Cell)
+        → IsReadBack policy_cells (λ _. ⊤) row (policy_in_cells row) }
 {}

@@ -24,12 +24,13 @@ mod same;
 mod scalars;
 mod tags;
 mod user;
+mod utf8;
 
 pub use auth_key::{read_auth_key, write_auth_key};
 pub use cell::Cell;
 pub use column::Column;
 pub use extra::{read_extra, write_extra};
-pub use laws::{stored_rows_are_read_again, stored_rows_differ};
+pub use laws::{rows_are_read_by_columns, stored_rows_are_read_again, stored_rows_differ};
 pub use listed::Listed;
 pub use machine::{read_machine, write_machine};
 pub use meta::{read_meta, write_meta};

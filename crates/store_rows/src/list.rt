@@ -1,5 +1,5 @@
 //! Lists in a column: the texts of their elements, joined by commas.
-ghost use Rattle.std.specs.Prelude.{◌≡◌, ◌<◌, ◌+◌, ◌++◌, ◌∷◌, [], IfOk, IfSome, drop, length, position};
+ghost use Rattle.std.specs.Prelude.{◌≡◌, ◌<◌, ◌+◌, ◌++◌, ◌∷◌, [], IfOk, IfSome, OnOk, drop, length, position};
 ghost use Rattle.std.specs.List.{All};
 ghost use Rattle.std.specs.Option.{option_map};
 ghost use Rattle.store_rows.specs.Lists.{is_separator, list_text, spelled_list};
@@ -9,21 +9,38 @@ use crate::cell::Cell;
 use crate::column::Column;
 use crate::listed::Listed;
 use crate::same::is_same;
+use crate::utf8::text_is_utf8;
 use std::alloc::Global;
 use tail_base::{Items, NoMemory, Text};
+
+/// Adds the text of an element, and a comma where there are more.
+fn push_element<T: Listed>(
+    alloc: Global,
+    text: &mut Text,
+    item: &T,
+    more: &[T],
+) -> Result<(), NoMemory>
+    ensures ok { OnOk result (text.new ++ list_text T.text more.now
+        ≡ text.old ++ list_text T.text (item.now ∷ more.now)) }
+    ensures fit { OnOk result (T.Fits item.now) }
+{
+    let piece = item.listed_text(alloc)?;
+    text.push(piece.as_str())?;
+    match more {
+        [] => Ok(()),
+        [..] => text.push(","),
+    }
+}
 
 /// The texts of the elements, joined by commas.
 fn text_of_list<T: Listed>(alloc: Global, items: &[T]) -> Result<Text, NoMemory>
     ensures value { IfOk result (λ made. made ≡ list_text T.text items.now) }
+    ensures fit { OnOk result (All T.Fits items.now) }
 {
     let mut text = Text::new(alloc);
     let mut rest = items;
     while let [item, more @ ..] = rest {
-        let piece = item.listed_text(alloc)?;
-        text.push(piece.as_str())?;
-        if !more.is_empty() {
-            text.push(",")?;
-        }
+        push_element(alloc, &mut text, item, more)?;
         rest = more;
     }
     Ok(text)
@@ -110,8 +127,11 @@ impl<T: Listed> Column for Items<T> {
 
     ghost Fits = { All T.Fits };
 
+    ghost Has = { All T.Fits };
+
     fn write(&self, alloc: Global) -> Result<Cell, NoMemory> {
         let text = text_of_list(alloc, self.as_slice())?;
+        text_is_utf8(text.as_str());
         Ok(Cell::Text(text))
     }
 

@@ -1,5 +1,6 @@
 //! Values that stand in a list.
-ghost use Rattle.std.specs.Prelude.{◌≡◌, ℕ, List, Option, IfOk, IfSome};
+ghost use Rattle.std.specs.Prelude.{◌≡◌, ℕ, List, Option, true, IfOk, IfSome, OnOk};
+ghost use Rattle.std.specs.Str.{is_utf8};
 ghost use Rattle.store_rows.specs.Lists.{IsListedText};
 
 use std::alloc::Global;
@@ -18,7 +19,8 @@ pub trait Listed: Drop + Sized {
 
     /// The text of the value.
     fn listed_text(&self, alloc: Global) -> Result<Text, NoMemory>
-        ensures value { IfOk result (λ made. made ≡ text self.now) };
+        ensures value { IfOk result (λ made. made ≡ text self.now) }
+        ensures fit { OnOk result (Fits self.now) };
 
     /// The value that a text spells.
     fn spelled(alloc: Global, given: &[u8]) -> Result<Option<Self>, NoMemory>

@@ -1,5 +1,6 @@
 //! Rows of `machines`.
 ghost use Rattle.std.specs.Prelude.{◌≡◌, ◌++◌, IfOk, OnOk};
+ghost use Rattle.store_rows.specs.Readable.{AreNamesReadable, AreWaysReadable, IsReadableMachine};
 ghost use Rattle.store_rows.specs.Reads.{IsReadBack};
 ghost use Rattle.store_rows.specs.Rows.{IsTypedMachine, machine_cells, name_cells, way_cells};
 
@@ -16,6 +17,7 @@ use tail_base::{DiscoKey, Items, Label, MachineKey, NoMemory, NodeKey, Tag, Text
 /// Adds the columns up to the addresses.
 fn add_names(alloc: Global, row: &mut Items<Cell>, m: &Machine) -> Result<(), NoMemory>
     ensures ok { OnOk result (row.new ≡ row.old ++ name_cells m.now) }
+    ensures readable { OnOk result (AreNamesReadable m.now) }
 {
     add_three(alloc, row, &m.id, &m.user, &m.machine)?;
     add_three(alloc, row, &m.node, &m.disco, &m.host)?;
@@ -25,6 +27,7 @@ fn add_names(alloc: Global, row: &mut Items<Cell>, m: &Machine) -> Result<(), No
 /// Adds the columns from the endpoints on.
 fn add_ways(alloc: Global, row: &mut Items<Cell>, m: &Machine) -> Result<(), NoMemory>
     ensures ok { OnOk result (row.new ≡ row.old ++ way_cells m.now) }
+    ensures readable { OnOk result (AreWaysReadable m.now) }
 {
     add_three(alloc, row, &m.endpoints, &m.derp, &m.routes)?;
     add_three(alloc, row, &m.approved, &m.tags, &m.ephemeral)?;
@@ -36,6 +39,7 @@ fn add_ways(alloc: Global, row: &mut Items<Cell>, m: &Machine) -> Result<(), NoM
 /// times.
 pub fn write_machine(alloc: Global, machine: &Machine) -> Result<Items<Cell>, NoMemory>
     ensures value { IfOk result (λ made. made ≡ machine_cells machine.now) }
+    ensures readable { OnOk result (IsReadableMachine machine.now) }
 {
     let mut row = Items::new(alloc);
     add_names(alloc, &mut row, machine)?;

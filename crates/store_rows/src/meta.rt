@@ -1,5 +1,5 @@
 //! The row of `meta`.
-ghost use Rattle.std.specs.Prelude.{◌≡◌, IfOk};
+ghost use Rattle.std.specs.Prelude.{◌≡◌, IfOk, OnOk};
 ghost use Rattle.store_rows.specs.Reads.{IsReadBack};
 ghost use Rattle.store_rows.specs.Rows.{IsTypedCounters, meta_cells};
 
@@ -14,6 +14,7 @@ use tail_base::{Items, NoMemory};
 /// The row of the counters: 1, the version, which is 1, and the next id of each kind.
 pub fn write_meta(alloc: Global, next: &Counters) -> Result<Items<Cell>, NoMemory>
     ensures value { IfOk result (λ made. made ≡ meta_cells next.now) }
+    ensures readable { OnOk result (IsTypedCounters next.now) }
 {
     let mut row = Items::new(alloc);
     add_three(alloc, &mut row, &1u32, &1u32, &next.user)?;

@@ -7,6 +7,7 @@ ghost use Rattle.store_rows.specs.Reads.{IsReadBack};
 use crate::cell::Cell;
 use crate::column::Column;
 use crate::same::is_same;
+use crate::utf8::text_is_utf8;
 use std::alloc::Global;
 use tail_base::{Duplicate, Label, Login, NoMemory, Text};
 
@@ -18,7 +19,10 @@ impl Column for Text {
 
     ghost Fits = { λ _. ⊤ };
 
+    ghost Has = { λ _. ⊤ };
+
     fn write(&self, alloc: Global) -> Result<Cell, NoMemory> {
+        text_is_utf8(self.as_str());
         Ok(Cell::Text(self.copy(alloc)?))
     }
 
@@ -54,7 +58,10 @@ impl Column for Login {
 
     ghost Fits = { λ login. is_login login ≡ true };
 
+    ghost Has = { λ login. is_login login ≡ true };
+
     fn write(&self, alloc: Global) -> Result<Cell, NoMemory> {
+        text_is_utf8(self.as_str());
         Ok(Cell::Text(Text::from_str(alloc, self.as_str())?))
     }
 
@@ -90,7 +97,10 @@ impl Column for Label {
 
     ghost Fits = { λ label. is_label label ≡ true };
 
+    ghost Has = { λ label. is_label label ≡ true };
+
     fn write(&self, alloc: Global) -> Result<Cell, NoMemory> {
+        text_is_utf8(self.as_str());
         Ok(Cell::Text(Text::from_str(alloc, self.as_str())?))
     }
 

@@ -1,5 +1,6 @@
 //! Rows of `pending`.
-ghost use Rattle.std.specs.Prelude.{◌≡◌, IfOk};
+ghost use Rattle.std.specs.Prelude.{◌≡◌, IfOk, OnOk};
+ghost use Rattle.store_rows.specs.Readable.{IsReadable};
 ghost use Rattle.store_rows.specs.Reads.{IsReadBack};
 ghost use Rattle.store_rows.specs.Rows.{IsTypedPending, pending_cells};
 
@@ -15,6 +16,7 @@ use tail_base::{Items, MachineKey, NoMemory, NodeKey, Tag, Text};
 /// The row of a pending entry: its id, text and keys, what it asked for, and when it was made.
 pub fn write_pending(alloc: Global, entry: &Pending) -> Result<Items<Cell>, NoMemory>
     ensures value { IfOk result (λ made. made ≡ pending_cells entry.now) }
+    ensures readable { OnOk result (IsReadable pending_cells IsTypedPending entry.now) }
 {
     let mut row = Items::new(alloc);
     add_three(alloc, &mut row, &entry.id, &entry.text, &entry.machine)?;

@@ -1,5 +1,6 @@
 //! The row of `policy`.
-ghost use Rattle.std.specs.Prelude.{◌≡◌, ⊤, IfOk};
+ghost use Rattle.std.specs.Prelude.{◌≡◌, ⊤, true, IfOk, OnOk};
+ghost use Rattle.std.specs.Str.{is_utf8};
 ghost use Rattle.store_rows.specs.Reads.{IsReadBack};
 ghost use Rattle.store_rows.specs.Rows.{policy_cells};
 
@@ -13,6 +14,7 @@ use tail_base::{Items, NoMemory, Text};
 /// The row of a policy: 1, and its text.
 pub fn write_policy_text(alloc: Global, body: &Text) -> Result<Items<Cell>, NoMemory>
     ensures value { IfOk result (λ made. made ≡ policy_cells body.now) }
+    ensures readable { OnOk result (is_utf8 body.now ≡ true) }
 {
     let mut row = Items::new(alloc);
     add(alloc, &mut row, &1u32)?;

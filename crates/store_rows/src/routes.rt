@@ -16,6 +16,7 @@ impl Listed for Prefix {
     ghost Fits = { λ p. IsBlock p };
 
     fn listed_text(&self, alloc: Global) -> Result<Text, NoMemory> {
+        let _block = self.base();
         self.write(alloc)
     }
 
@@ -43,6 +44,8 @@ impl Listed for Endpoint {
     ghost Fits = { λ e. IsEndpoint e };
 
     fn listed_text(&self, alloc: Global) -> Result<Text, NoMemory> {
+        let _family = self.addr.bits();
+        let _port = self.port;
         self.write(alloc)
     }
 

@@ -19,6 +19,8 @@ impl Column for u32 {
 
     ghost Fits = { λ n. n < 2 ^ 32 };
 
+    ghost Has = { λ n. n < 2 ^ 32 };
+
     fn write(&self, _: Global) -> Result<Cell, NoMemory> {
         Ok(Cell::Number(i64::from(*self)))
     }
@@ -49,6 +51,8 @@ impl Column for bool {
     ghost stored = { truth_cell };
 
     ghost Fits = { λ _. ⊤ };
+
+    ghost Has = { λ _. ⊤ };
 
     fn write(&self, _: Global) -> Result<Cell, NoMemory> {
         Ok(Cell::Number(i64::from(*self)))
@@ -83,6 +87,8 @@ impl Column for Moment {
 
     ghost Fits = { IsMoment };
 
+    ghost Has = { IsMoment };
+
     fn write(&self, _: Global) -> Result<Cell, NoMemory> {
         Ok(Cell::Number(self.seconds()))
     }
@@ -112,6 +118,8 @@ impl Column for Option<Moment> {
     ghost stored = { expiry_cell };
 
     ghost Fits = { IsExpiry };
+
+    ghost Has = { IsExpiry };
 
     fn write(&self, _: Global) -> Result<Cell, NoMemory> {
         match self {

@@ -1,5 +1,6 @@
 //! Rows of `users`.
-ghost use Rattle.std.specs.Prelude.{◌≡◌, IfOk};
+ghost use Rattle.std.specs.Prelude.{◌≡◌, IfOk, OnOk};
+ghost use Rattle.store_rows.specs.Readable.{IsReadable};
 ghost use Rattle.store_rows.specs.Reads.{IsReadBack};
 ghost use Rattle.store_rows.specs.Rows.{IsTypedUser, user_cells};
 
@@ -13,6 +14,7 @@ use tail_base::{Items, Login, NoMemory};
 /// The row of a user: its id and its login.
 pub fn write_user(alloc: Global, user: &User) -> Result<Items<Cell>, NoMemory>
     ensures value { IfOk result (λ made. made ≡ user_cells user.now) }
+    ensures readable { OnOk result (IsReadable user_cells IsTypedUser user.now) }
 {
     let mut row = Items::new(alloc);
     add(alloc, &mut row, &user.id)?;

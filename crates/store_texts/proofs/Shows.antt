@@ -1,7 +1,8 @@
--- What a SELECT of all rows shows of a table, in the order of their ids.
-use Rattle.std.proofs.Common.{◌≡◌, ◌<◌, ℕ, pos, List, [], ◌∷◌, map, flat_map, Less, refl, ap, ap₂, subst, ◌∙◌, arith, IsPermutation}
+-- What a SELECT of all rows shows of a table: in the order of their ids, whatever the order in which they stand.
+use Rattle.std.proofs.Common.{◌≡◌, ◌<◌, ℕ, pos, List, [], ◌∷◌, map, flat_map, Less, refl, sym, ap, ap₂, subst, subst₂, ◌∙◌, arith, IsPermutation}
 use Rattle.std.proofs.lemmas.Int.{ints}
 use Rattle.std.proofs.lemmas.Bool.Decides.{nat_tests}
+use Rattle.std.proofs.lemmas.List.Sorted.{IsPermutation-map, IsPermutation-trans}
 use Rattle.std.specs.List.{AllByRecursion}
 use Rattle.sqlite_value.specs.declared.value.Value.TheVariants.{Null, Int}
 use Rattle.sqlite_value.specs.Order.{Row, value_cmp}
@@ -19,6 +20,27 @@ use Rattle.store_texts.specs.Commands.{all_by_id}
 use Rattle.store_texts.specs.Means.{Means}
 use Rattle.store_texts.specs.Schema.{schema_1}
 use Rattle.store_texts.proofs.Lists.{row_of}
+
+-- what such a query answers
+answers : (tree : ℕ) (columns : List Term) (text : List ℕ) (names : List (List ℕ)) (old new : State) (rows : List Row) → Means text (Select (record { lets = []; body = all_by_id tree columns }) names)
+    → old.now.schema ≡ schema_1 → Shown text [] old new rows → IsAnswer (all_by_id tree columns) old.now.trees [] rows
+answers tree columns text names old new rows means has h =
+    let got = reads_as text [] old new schema_1 has _ means.command_is means.plain means.no_listing rows h in
+    subst (λ trees. IsAnswer (all_by_id tree columns) trees [] rows) (none_given old.now.trees) (got.answer Null)
+
+seconds : (tree : ℕ) (columns : List Term) (rows : List Row)
+    → map (λ (p : Output). p.1) (map (output (all_by_id tree columns)) (flat_map (λ r. ([] ∷ r ∷ []) ∷ []) rows)) ≡ map (λ r. eval_all columns ([] ∷ r ∷ [])) rows
+seconds tree columns [] = refl
+seconds tree columns (r ∷ rs) = ap (λ l. eval_all columns ([] ∷ r ∷ []) ∷ l) (seconds tree columns rs)
+
+-- whatever rows stand there, all are shown, in some order
+pub shows_each : (tree : ℕ) (columns : List Term) (text : List ℕ) (names : List (List ℕ)) (old new : State) (rows : List Row) → Means text (Select (record { lets = []; body = all_by_id tree columns }) names)
+    → old.now.schema ≡ schema_1 → Shown text [] old new rows → IsPermutation (map (λ r. eval_all columns ([] ∷ r ∷ [])) (old.now.trees tree)) rows
+shows_each tree columns text names old new rows means has h =
+    let a = answers tree columns text names old new rows means has h in
+    let kept : a.kept ≡ map (output (all_by_id tree columns)) (flat_map (λ r. ([] ∷ r ∷ []) ∷ []) (old.now.trees tree)) = a.distinct ∙ ap (map (output (all_by_id tree columns))) a.grouped in
+    let first = ap (map (λ (p : Output). p.1)) kept ∙ seconds tree columns (old.now.trees tree) in
+    subst₂ IsPermutation first (sym a.shown) (IsPermutation-map (λ (p : Output). p.1) a.kept a.ordered a.same)
 
 module _ (tree : ℕ) (columns : List Term) {A : Type 0} (key : A → ℕ) (rest shown : A → Row)
     (shows : (x : A) → eval_all columns ([] ∷ row_of key rest x ∷ []) ≡ shown x) where
@@ -48,13 +70,13 @@ module _ (tree : ℕ) (columns : List Term) {A : Type 0} (key : A → ℕ) (rest
   rises [] h = tt
   rises (x ∷ xs) h = (all_after x xs h.0, rises xs h.1)
 
-  -- where the ids rise, all rows are shown in that order
-  pub shows_all : (text : List ℕ) (names : List (List ℕ)) (old new : State) (all : List A) (rows : List Row) → Means text (Select (record { lets = []; body = all_by_id tree columns }) names)
-      → old.now.schema ≡ schema_1 → old.now.trees tree ≡ map (row_of key rest) all → IsAscending (λ a b. key a < key b) all → Shown text [] old new rows → rows ≡ map shown all
-  shows_all text names old new all rows means has held up h =
-      let got = reads_as text [] old new schema_1 has _ means.command_is means.plain means.no_listing rows h in
-      let a : IsAnswer query old.now.trees [] rows = subst (λ trees. IsAnswer query trees [] rows) (none_given old.now.trees) (got.answer Null) in
-      let staged : a.staged ≡ flat_map (λ r. ([] ∷ r ∷ []) ∷ []) (map (row_of key rest) all) = a.grouped ∙ ap (flat_map (λ r. ([] ∷ r ∷ []) ∷ [])) held in
-      let kept : a.kept ≡ map out all = a.distinct ∙ ap (map (output query)) staged ∙ outs all in
-      let ordered : a.ordered ≡ map out all = sorted_unique (output_cmp query) (output_cmp_total query) _ _ (rises all up) (subst (λ k. IsPermutation k a.ordered) kept a.same) a.sorted in
+  -- where the ids rise, rows that stand in some order are shown in that one
+  pub shows_all : (text : List ℕ) (names : List (List ℕ)) (old new : State) (all us : List A) (rows : List Row) → Means text (Select (record { lets = []; body = all_by_id tree columns }) names)
+      → old.now.schema ≡ schema_1 → old.now.trees tree ≡ map (row_of key rest) us → IsPermutation all us → IsAscending (λ a b. key a < key b) all → Shown text [] old new rows → rows ≡ map shown all
+  shows_all text names old new all us rows means has held same up h =
+      let a = answers tree columns text names old new rows means has h in
+      let staged : a.staged ≡ flat_map (λ r. ([] ∷ r ∷ []) ∷ []) (map (row_of key rest) us) = a.grouped ∙ ap (flat_map (λ r. ([] ∷ r ∷ []) ∷ [])) held in
+      let kept : a.kept ≡ map out us = a.distinct ∙ ap (map (output query)) staged ∙ outs us in
+      let moved = IsPermutation-trans _ _ _ (IsPermutation-map out all us same) (subst (λ k. IsPermutation k a.ordered) kept a.same) in
+      let ordered : a.ordered ≡ map out all = sorted_unique (output_cmp query) (output_cmp_total query) _ _ (rises all up) moved a.sorted in
       a.shown ∙ ap (λ xs. page query [] (map (λ (p : Output). p.1) xs)) ordered ∙ shown_all all

@@ -1,4 +1,4 @@
-use Rattle.std.proofs.Common.{◌≡◌, sym, subst, rules, arith}
+use Rattle.std.proofs.Common.{◌≡◌, refl, sym, subst, rules, arith, IsTrue}
 use Rattle.net_rows.specs.Rows.{after}
 use Rattle.net_rows.specs.declared.rows.Rows.{Rows}
 use Rattle.sqlite.specs.Effect.{Database}
@@ -7,6 +7,7 @@ use Rattle.sqlite.specs.State.{HasCleanDisk, Survives}
 use Rattle.sqlite.specs.Tree.{Trees}
 use Rattle.sqlite.proofs.Callers.{survives_begin}
 use Rattle.sqlite.proofs.StateLemmas.{survives_then}
+use Rattle.store_commits.proofs.Pending.{opened_err}
 use Rattle.store_commits.specs.Kept.{AreStored, HoldsMade, Keeps}
 use Rattle.store_commits.proofs.commits.commit.Goals as goal
 
@@ -48,3 +49,25 @@ returns-in_err-commit-clause-crash g c =
     (survives_begin g.S.Store old (state g.S.Store last) _ (rw c.transaction-tx.ensures.begun at inside)) c.commit.ensures.survives in
     let same : end ≡ c.conn-2-1.given.0 = search rules in
     subst (λ h. Survives (state g.S.Store old) (state g.S.Store h) P) same whole
+
+pub returns-clause-opened : goal.returns-clause-opened
+returns-clause-opened g c clean opened =
+    let last = state g.S.Store c.write.new.tx.conn.now in
+    let end = c.commit.new.self.0 in
+    let same : end ≡ c.conn-2-1.given.0 = search rules in
+    let late : HasCleanDisk (state g.S.Store end) = search rules in
+    let early : HasCleanDisk last = omega (arith, c.commit.ensures.survives.clean) in
+    let was = rw c.transaction-tx.ensures.begun at (c.in_ok-write.ensures.pending.kept early) in
+    was.was_open (c.in_ok-commit.ensures.ok late).1.was_open
+
+pub returns-in_err-commit-clause-opened : goal.returns-in_err-commit-clause-opened
+returns-in_err-commit-clause-opened g c clean opened =
+    let last = state g.S.Store c.write.new.tx.conn.now in
+    let end = c.commit.new.self.0 in
+    let same : c.conn-2-1.given.0 ≡ end = search rules in
+    let late : HasCleanDisk (state g.S.Store end) = search rules in
+    let early : HasCleanDisk last = omega (arith, c.commit.ensures.survives.clean) in
+    let inside : IsTrue c.transaction-tx.result.conn.now.in_transaction = rw c.transaction-tx.ensures.begun in
+    let was = rw c.transaction-tx.ensures.begun at (c.in_ok-write.ensures.pending.kept early) in
+    let here = subst (λ h. IsTrue (state g.S.Store h).is_open) same opened in
+    was.was_open (opened_err last (state g.S.Store end) c.in_err-commit.field-0.0 (c.in_ok-write.ensures.pending.inside early refl inside) (c.in_err-commit.ensures.err late) here)

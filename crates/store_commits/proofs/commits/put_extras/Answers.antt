@@ -2,7 +2,8 @@ use Rattle.std.proofs.Common.{◌≡◌, ◌+◌, [], refl, true, subst, rules, 
 use Rattle.sqlite.specs.Held.{state}
 use Rattle.sqlite.specs.State.{HasCleanDisk}
 use Rattle.store_texts.specs.Ran.{HasRun}
-use Rattle.store_commits.proofs.KeptChange.{one_more_extra}
+use Rattle.store_rows.specs.Readable.{IsReadableExtra}
+use Rattle.store_commits.proofs.KeptChange.{one_more_extra, one_more_readable}
 use Rattle.store_commits.proofs.KeptSteps.{extras_gone}
 use Rattle.store_commits.proofs.Pending.{then}
 use Rattle.store_commits.proofs.commits.put_extras.Goals as goal
@@ -16,6 +17,7 @@ loop-extra-init g c =
       same = search rules;
       pending = c.in_ok-run.ensures.pending;
       made = λ clean. extras_gone old new c.in_ok-run.field-0 (subst (λ text. HasRun text [] c.in_ok-run.field-0 old new) c.clear_extras.ensures.value (c.in_ok-run.ensures.ran clean));
+      readable = tt;
     }
 
 pub loop-extra-preserved : goal.loop-extra-preserved
@@ -32,4 +34,5 @@ loop-extra-preserved g c =
           let early : HasCleanDisk (state g.S.Store mid) = omega (arith, c.in_ok-add_extra.ensures.pending.survives.clean, clean) in
           one_more_extra (state g.S.Store old).now (state g.S.Store mid).now (state g.S.Store new).now c.args.extras.now c.loop-extra.extra-index c.in_ok-place.place c.extra-item.result
           c.loop-extra-test.true c.extra-item.is next (c.loop-extra.invariant.made early) (c.in_ok-add_extra.ensures.added clean);
+      readable = one_more_readable IsReadableExtra c.args.extras.now c.loop-extra.extra-index c.extra-item.result c.loop-extra-test.true c.extra-item.is c.loop-extra.invariant.readable c.in_ok-add_extra.ensures.readable;
     }

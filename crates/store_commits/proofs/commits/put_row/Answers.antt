@@ -1,9 +1,10 @@
-use Rattle.std.proofs.Common.{◌≡◌, map, sym, subst}
+use Rattle.std.proofs.Common.{List, map, sym, subst}
 use Rattle.net_rows.specs.Rows.{put as put_of}
 use Rattle.net_rows.specs.declared.change.Row.{Row}
 use Rattle.net_rows.specs.declared.rows.Rows.{Rows}
 use Rattle.sqlite.specs.Held.{state}
 use Rattle.store_rows.specs.Rows.{auth_key_cells, machine_cells, pending_cells, policy_cells, user_cells}
+use Rattle.tailcfg.specs.declared.dns.DnsExtra.{DnsExtra}
 use Rattle.store_texts.specs.Ran.{IsPutBy}
 use Rattle.store_texts.specs.Texts.{insert_auth_keys_text, insert_machines_text, insert_pending_text, insert_policy_text, insert_users_text, update_auth_keys_text, update_machines_text, update_pending_text, update_policy_text, update_users_text}
 use Rattle.store_commits.specs.Kept.{Makes, value_of}
@@ -50,3 +51,12 @@ returns-in-Policy-clause-made g c clean =
     let x = c.in-Policy.text in
     where_ok c.put_policy.result (IsPutBy update_policy_text insert_policy_text (map value_of (policy_cells x)) old new) (Makes old new (λ (rows : Rows). put_of rows c.args.row.now))
     (λ put. subst (λ (row : Row). Makes old new (λ (rows : Rows). put_of rows row)) (sym c.in-Policy.is) (policy_put old new x put)) (c.put_policy.ensures.put clean)
+
+pub returns-in-Extras-clause-made : goal.returns-in-Extras-clause-made
+returns-in-Extras-clause-made g c clean =
+    let old = (state g.S.Store c.args.tx.now.conn.now).now in
+    let new = (state g.S.Store c.put_extras.new.tx.conn.now).now in
+    where_ok c.put_extras.result (Makes old new (λ (rows : Rows). record rows { extras = c.as_slice.result.now })) (Makes old new (λ (rows : Rows). put_of rows c.args.row.now))
+    (λ made. subst (λ (row : Row). Makes old new (λ (rows : Rows). put_of rows row)) (sym c.in-Extras.is)
+    (subst (λ (xs : List DnsExtra). Makes old new (λ (rows : Rows). record rows { extras = xs })) c.as_slice.ensures.value made))
+    (c.put_extras.ensures.made clean)

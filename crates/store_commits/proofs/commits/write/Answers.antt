@@ -1,4 +1,4 @@
-use Rattle.std.proofs.Common.{◌≡◌, List, map, subst, arith}
+use Rattle.std.proofs.Common.{List, map, subst, arith}
 use Rattle.net_rows.specs.Rows.{after, put_all, take_all_out}
 use Rattle.net_rows.specs.declared.change.Row.{Row}
 use Rattle.net_rows.specs.declared.change.RowKey.{RowKey}

@@ -1,4 +1,4 @@
-use Rattle.std.proofs.Common.{◌≡◌, List, [], sym, subst, is_ok, ◌∙◌}
+use Rattle.std.proofs.Common.{List, [], sym, subst, is_ok, ◌∙◌}
 use Rattle.sqlite_value.specs.Order.{Row}
 use Rattle.sqlite.specs.Given.{IsPlain}
 use Rattle.sqlite.specs.Held.{state}
@@ -6,6 +6,9 @@ use Rattle.sqlite.specs.Listing.{understood}
 use Rattle.sqlite.specs.State.{Shown}
 use Rattle.store_texts.specs.Schema.{schema_1}
 use Rattle.store_texts.proofs.Selects.{select_meta_means}
+use Rattle.std.proofs.lemmas.Result.{IfOk-weaker}
+use Rattle.store_texts.specs.Texts.{select_meta_text}
+use Rattle.store_reads.proofs.BackLemmas.{next_stands}
 use Rattle.store_reads.proofs.Seen.{seen_less}
 use Rattle.store_reads.proofs.ShownRows.{shown_next}
 use Rattle.store_reads.proofs.single.read_next.Goals as goal
@@ -26,3 +29,11 @@ returns-in-Ok-clause-read g c clean all keeps good =
     let rows : List Row = c.in-Ok.rows.items in
     let shown = subst (λ text. Shown text [] old new rows) c.select_meta.ensures.value (c.in-Ok.ensures.shown clean) in
     c.next_of.ensures.read all.next (c.as_slice.ensures.value ∙ shown_next old new all rows keeps shown) good.next
+
+pub returns-in-Ok-clause-back : goal.returns-in-Ok-clause-back
+returns-in-Ok-clause-back g c clean ours =
+    let old = state g.S.Store c.args.conn.now in
+    let new = state g.S.Store c.rows_of.new.conn in
+    let rows : List Row = c.in-Ok.rows.items in
+    let shown = subst (λ text. Shown text [] old new rows) c.select_meta.ensures.value (c.in-Ok.ensures.shown clean) in
+    IfOk-weaker c.next_of.result _ _ (λ x h. (next_stands old new x ours (subst (λ (rs : List Row). Shown select_meta_text [] old new rs) (sym c.as_slice.ensures.value ∙ h.0) shown), h.1)) c.next_of.ensures.back

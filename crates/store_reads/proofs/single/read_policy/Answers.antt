@@ -1,4 +1,4 @@
-use Rattle.std.proofs.Common.{◌≡◌, List, [], sym, subst, is_ok, ◌∙◌}
+use Rattle.std.proofs.Common.{List, [], sym, subst, is_ok, ◌∙◌}
 use Rattle.sqlite_value.specs.Order.{Row}
 use Rattle.sqlite.specs.Given.{IsPlain}
 use Rattle.sqlite.specs.Held.{state}
@@ -6,6 +6,9 @@ use Rattle.sqlite.specs.Listing.{understood}
 use Rattle.sqlite.specs.State.{Shown}
 use Rattle.store_texts.specs.Schema.{schema_1}
 use Rattle.store_texts.proofs.Selects.{select_policy_means}
+use Rattle.std.proofs.lemmas.Result.{IfOk-weaker}
+use Rattle.store_texts.specs.Texts.{select_policy_text}
+use Rattle.store_reads.proofs.BackLemmas.{policy_stands}
 use Rattle.store_reads.proofs.Seen.{seen_less}
 use Rattle.store_reads.proofs.ShownRows.{shown_policy}
 use Rattle.store_reads.proofs.single.read_policy.Goals as goal
@@ -26,3 +29,11 @@ returns-in-Ok-clause-read g c clean all keeps good =
     let rows : List Row = c.in-Ok.rows.items in
     let shown = subst (λ text. Shown text [] old new rows) c.select_policy.ensures.value (c.in-Ok.ensures.shown clean) in
     c.policy_of.ensures.read all.policy (c.as_slice.ensures.value ∙ shown_policy old new all rows keeps shown) good.policy
+
+pub returns-in-Ok-clause-back : goal.returns-in-Ok-clause-back
+returns-in-Ok-clause-back g c clean ours =
+    let old = state g.S.Store c.args.conn.now in
+    let new = state g.S.Store c.rows_of.new.conn in
+    let rows : List Row = c.in-Ok.rows.items in
+    let shown = subst (λ text. Shown text [] old new rows) c.select_policy.ensures.value (c.in-Ok.ensures.shown clean) in
+    IfOk-weaker c.policy_of.result _ _ (λ x h. (policy_stands old new x ours (subst (λ (rs : List Row). Shown select_policy_text [] old new rs) (sym c.as_slice.ensures.value ∙ h.0) shown), h.1)) c.policy_of.ensures.back

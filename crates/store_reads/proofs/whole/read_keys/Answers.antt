@@ -1,5 +1,7 @@
+use Rattle.std.proofs.lemmas.Result.{IfOk-weaker}
 use Rattle.sqlite.specs.Held.{state}
 use Rattle.store_texts.proofs.Selects.{select_auth_keys_means}
+use Rattle.store_reads.proofs.BackLemmas.{keys_stand}
 use Rattle.store_reads.proofs.ShownRows.{shown_keys}
 use Rattle.store_reads.proofs.whole.read_keys.Goals as goal
 
@@ -9,3 +11,7 @@ returns-clause-seen g c = c.read_all.ensures.seen select_auth_keys_means.plain
 pub returns-clause-read : goal.returns-clause-read
 returns-clause-read g c clean all keeps good =
     c.read_all.ensures.read clean all.keys (λ rows shown. shown_keys (state g.S.Store c.args.conn.now) (state g.S.Store c.read_all.new.conn) all rows keeps shown) good.keys
+
+pub returns-clause-back : goal.returns-clause-back
+returns-clause-back g c clean ours =
+    IfOk-weaker c.read_all.result _ _ (λ xs h. (keys_stand (state g.S.Store c.args.conn.now) (state g.S.Store c.read_all.new.conn) xs ours h.0, h.1)) (c.read_all.ensures.back clean)

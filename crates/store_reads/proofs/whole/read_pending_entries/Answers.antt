@@ -1,5 +1,7 @@
+use Rattle.std.proofs.lemmas.Result.{IfOk-weaker}
 use Rattle.sqlite.specs.Held.{state}
 use Rattle.store_texts.proofs.Selects.{select_pending_means}
+use Rattle.store_reads.proofs.BackLemmas.{pending_stand}
 use Rattle.store_reads.proofs.ShownRows.{shown_pending}
 use Rattle.store_reads.proofs.whole.read_pending_entries.Goals as goal
 
@@ -9,3 +11,7 @@ returns-clause-seen g c = c.read_all.ensures.seen select_pending_means.plain
 pub returns-clause-read : goal.returns-clause-read
 returns-clause-read g c clean all keeps good =
     c.read_all.ensures.read clean all.pending (λ rows shown. shown_pending (state g.S.Store c.args.conn.now) (state g.S.Store c.read_all.new.conn) all rows keeps shown) good.pending
+
+pub returns-clause-back : goal.returns-clause-back
+returns-clause-back g c clean ours =
+    IfOk-weaker c.read_all.result _ _ (λ xs h. (pending_stand (state g.S.Store c.args.conn.now) (state g.S.Store c.read_all.new.conn) xs ours h.0, h.1)) (c.read_all.ensures.back clean)

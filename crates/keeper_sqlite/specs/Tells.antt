@@ -1,0 +1,29 @@
+-- What it is that a database keeps tables which can be loaded.
+use Rattle.std.specs.Prelude.{◌≡◌, ◌⊎◌, IsTrue, None}
+use Rattle.net_rows.specs.Damage.{damage}
+use Rattle.net_rows.specs.Rows.{empty_rows}
+use Rattle.net_rows.specs.declared.rows.Rows.{Rows}
+use Rattle.sqlite.specs.Effect.{Database}
+use Rattle.sqlite.specs.State.{HasCleanDisk, State}
+use Rattle.store_commits.specs.Kept.{Keeps}
+use Rattle.store_reads.specs.Readable.{AreReadable}
+use Rattle.store_texts.specs.Schema.{no_schema}
+
+-- The database keeps these rows, which are read again and break no rule.
+pub record Holds (db : Database) (rows : Rows) : Type 0 where
+  pub keeps : Keeps db rows
+  pub readable : AreReadable rows
+  pub sound : damage rows ≡ None
+
+-- As long as it is clean and open, the store keeps such rows.
+abbrev pub IsKnown : State → Type 0
+IsKnown s = HasCleanDisk s → IsTrue s.is_open → (rows : Rows) × Holds s.now rows
+
+-- Outside a transaction what is shown is what was committed.
+abbrev pub IsAtRest : State → Type 0
+IsAtRest s = IsTrue s.is_open → s.now ≡ s.committed
+
+-- What was empty is empty still, or has our tables with the first counters; and only what was open is open.
+pub record IsFirst (old new : State) : Type 0 where
+  pub was_open : IsTrue old.is_open
+  pub shows : (new.now.schema ≡ no_schema) ⊎ Keeps new.now empty_rows

@@ -1,0 +1,21 @@
+use Rattle.std.proofs.Common.{◌≡◌, ◌∙◌, ap, refl, subst, sym}
+use Rattle.net_rows.specs.declared.rows.Rows.{Rows}
+use Rattle.sqlite.specs.Held.{state}
+use Rattle.store_commits.proofs.KeptChange.{where_ok}
+use Rattle.store_reads.specs.Back.{HoldsExtras, IsOurs, PolicyStands}
+use Rattle.store_reads.proofs.BackLemmas.{stands_then}
+use Rattle.store_reads.proofs.whole.fill_extras.Goals as goal
+
+pub returns-clause-back : goal.returns-clause-back
+returns-clause-back g c clean ours =
+    let old = state g.S.Store c.args.conn.now in
+    let mid = state g.S.Store c.read_extras.new.conn in
+    let new : Rows = c.fill_policy.new.rows in
+    let early = c.fill_policy.ensures.seen.clean clean in
+    let same : mid.now ≡ old.now = c.in_ok-rows.ensures.seen.same early ours.schema refl in
+    let there = c.in_ok-rows.ensures.back early ours in
+    where_ok c.fill_policy.result _ _ (λ h. (
+      h.0 ∙ ap (λ e. record c.args.rows.now { extras = e; policy = new.policy }) (sym (ap (λ (r : Rows). r.extras) h.0)),
+      stands_then (HoldsExtras (old.now.trees 14)) PolicyStands (λ (r : Rows). r.extras) new _ old.now mid.now same h.0 there h.1,
+    ))
+    (c.fill_policy.ensures.back clean (subst IsOurs (sym same) ours))

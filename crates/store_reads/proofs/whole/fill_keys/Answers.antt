@@ -1,0 +1,22 @@
+use Rattle.std.proofs.Common.{◌≡◌, ◌∙◌, ap, refl, subst, sym}
+use Rattle.net_rows.specs.declared.rows.Rows.{Rows}
+use Rattle.sqlite.specs.Held.{state}
+use Rattle.store_commits.proofs.KeptChange.{where_ok}
+use Rattle.store_rows.specs.Rows.{IsTypedKey, auth_key_cells}
+use Rattle.store_reads.specs.Back.{HoldsReadable, IsOurs, PendingStands}
+use Rattle.store_reads.proofs.BackLemmas.{stands_then}
+use Rattle.store_reads.proofs.whole.fill_keys.Goals as goal
+
+pub returns-clause-back : goal.returns-clause-back
+returns-clause-back g c clean ours =
+    let old = state g.S.Store c.args.conn.now in
+    let mid = state g.S.Store c.read_keys.new.conn in
+    let new : Rows = c.fill_pending.new.rows in
+    let early = c.fill_pending.ensures.seen.clean clean in
+    let same : mid.now ≡ old.now = c.in_ok-rows.ensures.seen.same early ours.schema refl in
+    let there = c.in_ok-rows.ensures.back early ours in
+    where_ok c.fill_pending.result _ _ (λ h. (
+      h.0 ∙ ap (λ e. record c.args.rows.now { keys = e; pending = new.pending; machines = new.machines; extras = new.extras; policy = new.policy }) (sym (ap (λ (r : Rows). r.keys) h.0)),
+      stands_then (HoldsReadable auth_key_cells IsTypedKey (old.now.trees 3)) PendingStands (λ (r : Rows). r.keys) new _ old.now mid.now same h.0 there h.1,
+    ))
+    (c.fill_pending.ensures.back clean (subst IsOurs (sym same) ours))
