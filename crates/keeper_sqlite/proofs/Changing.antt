@@ -1,5 +1,5 @@
 -- Readable rows stay readable where a readable change leaves sound ones.
-use Rattle.std.proofs.Common.{◌≡◌, Bool, true, false, cond, not, List, [], ◌∷◌, ℕ, nat_eq, nat_lt, None, IfSome, IsTrue, filter, refl, sym, ap, subst, ◌∙◌}
+use Rattle.std.proofs.Common.{◌≡◌, Bool, true, false, cond, not, List, [], ◌∷◌, ℕ, nat_eq, nat_lt, None, IfSome, IsTrue, filter, refl, sym, ap, subst, ◌∙◌, Result, Ok, Err, OnOk, OnErr}
 use Rattle.std.specs.Prelude.{Contains}
 use Rattle.std.specs.List.{AllByRecursion}
 use Rattle.std.specs.Option.{option_map}
@@ -163,3 +163,9 @@ pub known_err : (old new : State) → (HasCleanDisk new → HasCleanDisk old) �
 known_err old new clean opened leaves known now open_now =
     let it = known (clean now) (opened now open_now) in
     (it.0, subst (λ (d : Database). Holds d it.0) (sym (leaves now open_now)) it.1)
+
+-- whatever the answer
+pub known_after : {X E : Type 0} (old new : State) (change : Change) (r : Result X E) → (HasCleanDisk new → HasCleanDisk old) → (HasCleanDisk new → IsTrue new.is_open → IsTrue old.is_open) → IfSome (store_tells old) (λ rows. damage (after rows change) ≡ None)
+    → (HasCleanDisk new → OnOk r (Makes old.now new.now (λ rows. after rows change))) → (HasCleanDisk new → OnErr r (Leaves old new)) → OnOk r (IsReadableChange change) → IsKnown old → IsKnown new
+known_after old new change (Ok x) clean opened sound makes leaves good known = known_ok old new change clean opened known sound makes good
+known_after old new change (Err e) clean opened sound makes leaves good known = known_err old new clean opened leaves known

@@ -1,5 +1,5 @@
 -- What a load leaves told.
-use Rattle.std.proofs.Common.{◌≡◌, ◌⊎◌, inl, inr, Bool, true, false, Option, Some, None, Ok, Err, Result, IfOk, IfErr, IsTrue, OnErr, OnOk, ℕ, refl, sym, ap, subst, ◌∙◌}
+use Rattle.std.proofs.Common.{◌≡◌, ◌⊎◌, ◌&&◌, ◌||◌, not, is_some, inl, inr, Bool, true, false, Option, Some, None, Ok, Err, Result, IfOk, IfErr, IsTrue, OnErr, OnOk, ℕ, refl, sym, ap, subst, ◌∙◌}
 use Rattle.io_edge.specs.Edge.{StillTells, IsWhereTold}
 use Rattle.net_rows.specs.Damage.{damage}
 use Rattle.net_rows.specs.Rows.{empty_rows}
@@ -18,10 +18,13 @@ use Rattle.store_reads.specs.Readable.{AreReadable, IsOutside}
 use Rattle.store_reads.specs.Seen.{IsSeen}
 use Rattle.store_texts.specs.Schema.{no_schema, schema_1}
 use Rattle.keeper_sqlite.specs.Tells.{Holds, IsAtRest, IsFirst, IsKnown}
-use Rattle.keeper_sqlite.specs.Told.{is_schema, store_tells}
+use Rattle.keeper_sqlite.specs.Told.{knows_if_loaded, is_known, is_schema, rows_of, store_tells}
 use Rattle.keeper_sqlite.proofs.Firsts.{empty_readable}
 use Rattle.keeper_sqlite.proofs.TellTrees.{is_itself, schema_is, some_is}
-use Rattle.keeper_sqlite.proofs.Telling.{by_id_of, holds_told, none_told, same_told, told_is}
+use Rattle.keeper_sqlite.proofs.Telling.{by_id_of, holds_told, none_told, rows_again, rows_are, same_told, told_is}
+use Rattle.keeper_sqlite.proofs.Schemas.{none_is_not_ours}
+use Rattle.std.proofs.lemmas.Bool.{and_parts, true≢false}
+use Rattle.sqlite_trees.proofs.Doubt.{clean_of, no_doubt}
 
 pub still : {A : Type 0} (a b : Option A) → ((x : A) → b ≡ Some x → a ≡ Some x) → StillTells a b
 still a None f = tt
@@ -135,3 +138,65 @@ pub read_damaged : (old new : State) (r : Result Held LoadFault) → StillTells 
     → IfErr r (λ e. (kind : Kind) (id : ℕ) → e ≡ Damaged kind id → store_tells new ≡ None)
 read_damaged old new (Ok t) still whole first = tt
 read_damaged old new (Err e) still whole first = none_damaged old new e still whole first
+
+-- ---- what is known
+
+known_rows : (s : State) (o : Option Rows) → HasCleanDisk s → IsTrue s.is_open → rows_of s.now ≡ o → is_schema s.now.schema schema_1 && is_some o ≡ true → (rows : Rows) × Holds s.now rows
+known_rows s None clean opened is h = absurd (true≢false (sym (and_parts _ _ h).1))
+known_rows s (Some rows) clean opened is h =
+    let ours = schema_is s.now.schema schema_1 (and_parts (is_schema s.now.schema schema_1) true h).0 in
+    elim (rows_are s.now rows is) [ inl holds ↦ (rows, holds) | inr none ↦ absurd (none_is_not_ours s.now.schema ours none.0) ]
+
+-- the test is passed exactly where it is known
+pub known_by : (s : State) → is_known s ≡ true → IsKnown s
+unfolding is_known
+known_by s h clean opened = known_rows s (rows_of s.now) clean opened refl (rw (clean_of s.is_clean clean, opened) at h)
+
+pub by_known : (s : State) → IsKnown s → is_known s ≡ true
+unfolding is_known
+by_known s known = go s.is_clean s.is_open refl refl
+  where
+    go : (a b : Bool) → s.is_clean ≡ a → s.is_open ≡ b → not (a && b) || (is_schema s.now.schema schema_1 && is_some (rows_of s.now)) ≡ true
+    go true true clean opened =
+        let it = known (no_doubt s.is_clean clean) opened in
+        rw (is_itself s.now.schema schema_1 it.1.keeps.schema, rows_again s.now it.0 it.1) refl
+    go true false clean opened = refl
+    go false b clean opened = refl
+
+pub kept_known : (is_loaded : Bool) (s : State) → is_loaded ≡ true → knows_if_loaded is_loaded s ≡ true → IsKnown s
+unfolding knows_if_loaded
+kept_known true s loaded h = known_by s h
+kept_known false s loaded h = absurd (true≢false (sym loaded))
+
+pub known_kept : (is_loaded : Bool) (s : State) → (is_loaded ≡ true → IsKnown s) → knows_if_loaded is_loaded s ≡ true
+unfolding knows_if_loaded
+known_kept true s known = by_known s (known refl)
+known_kept false s known = refl
+
+-- a reading leaves it known
+pub known_seen : (mid new : State) (done : Bool) → IsSeen schema_1 mid new done → mid.now.schema ≡ schema_1 → (HasCleanDisk mid → IsAtRest mid) → IsKnown mid → IsKnown new
+known_seen mid new done seen has rest known clean opened =
+    let stays = seen.stays clean has opened in
+    let early = seen.clean clean in
+    let same : new.now ≡ mid.now = elim stays.shows [ inl now ↦ now | inr back ↦ back ∙ sym (rest early stays.was_open) ] in
+    let it = known early stays.was_open in
+    (it.0, subst (λ (d : Database). Holds d it.0) (sym same) it.1)
+
+-- and so does what comes before it
+pub known_first : (old new : State) → (HasCleanDisk new → old.now.schema ≡ no_schema → HasCleanDisk old) → (old.now.schema ≡ no_schema → HasCleanDisk new → IsTrue new.is_open → IsFirst old new)
+    → ((old.now.schema ≡ no_schema → ⊥) → IsKnown new) → IsKnown old → IsKnown new
+known_first old new clean first other known = go (is_schema old.now.schema no_schema) refl
+  where
+    go : (b : Bool) → is_schema old.now.schema no_schema ≡ b → IsKnown new
+    go true is = λ now opened.
+        let none = schema_is old.now.schema no_schema is in
+        let it = known (clean now none) (first none now opened).was_open in
+        absurd (none_is_not_ours old.now.schema it.1.keeps.schema none)
+    go false is = other (λ none. let yes = is_itself old.now.schema no_schema none in absurd (let e = sym yes ∙ is in cc))
+
+pub kept_on : (is_loaded : Bool) (old new : State) → knows_if_loaded is_loaded old ≡ true → (IsKnown old → IsKnown new) → knows_if_loaded is_loaded new ≡ true
+kept_on is_loaded old new kept on = known_kept is_loaded new (λ loaded. on (kept_known is_loaded old loaded kept))
+
+pub kept_new : (s : State) → knows_if_loaded false s ≡ true
+unfolding knows_if_loaded
+kept_new s = refl

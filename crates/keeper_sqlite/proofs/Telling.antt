@@ -163,7 +163,7 @@ sound_is None rows other is h = (is, some_is h)
 sound_is (Some d) rows other is h = absurd (cc (h))
 
 -- what a database tells, it holds, or it has nothing
-rows_are : (db : Database) (rows : Rows) → rows_of db ≡ Some rows → Holds db rows ⊎ ((db.schema ≡ no_schema) × (rows ≡ empty_rows))
+pub rows_are : (db : Database) (rows : Rows) → rows_of db ≡ Some rows → Holds db rows ⊎ ((db.schema ≡ no_schema) × (rows ≡ empty_rows))
 unfolding rows_of
 rows_are db rows h = go (is_schema db.schema schema_1) (is_schema db.schema no_schema) refl refl h
   where
@@ -178,7 +178,7 @@ rows_are db rows h = go (is_schema db.schema schema_1) (is_schema db.schema no_s
     go false true ours none e = inr (schema_is db.schema no_schema none, sym (some_is e))
     go false false ours none e = absurd (cc (e))
 
-rows_again : (db : Database) (rows : Rows) → Holds db rows → rows_of db ≡ Some rows
+pub rows_again : (db : Database) (rows : Rows) → Holds db rows → rows_of db ≡ Some rows
 unfolding rows_of
 rows_again db rows holds =
     rw (is_itself db.schema schema_1 holds.keeps.schema, tables_again db.trees rows holds.keeps.stored holds.keeps.ordered holds.readable, holds.sound) refl

@@ -1,5 +1,10 @@
 -- What is counted of the host's keeper.
-use Rattle.std.specs.Prelude.{ℕ}
+use Rattle.std.specs.Prelude.{ℕ, Option}
+use Rattle.net_rows.specs.declared.rows.Rows.{Rows}
+use Rattle.sqlite.specs.Files.{file_state}
+use Rattle.sqlite.specs.Held.{state}
+use Rattle.sqlite.specs.Steps.{over_memory}
+use Rattle.keeper_sqlite.specs.Told.{store_tells}
 use Rattle.keeper_sqlite.specs.declared.host_keeper.HostKeeper.{HostKeeper}
 use Rattle.keeper_sqlite.specs.declared.host_keeper.HostKeeper.TheVariants.{Memory, File}
 
@@ -12,3 +17,8 @@ faults_of (File k) = k.faults
 abbrev pub calls_of : HostKeeper → ℕ
 calls_of (Memory k) = k.calls
 calls_of (File k) = k.calls
+
+-- what it tells
+abbrev pub told_of : HostKeeper → Option Rows
+told_of (Memory k) = store_tells (state over_memory k.conn)
+told_of (File k) = store_tells (file_state k.conn)

@@ -1,6 +1,6 @@
 -- What a database tells of the tables: the rows that stand in it.
 use base.Stored.{Gv, gnil, gnum, gcons}
-use Rattle.std.specs.Prelude.{ℕ, Bool, true, false, List, [], ◌∷◌, ◌+◌, ◌==◌, ◌&&◌, map, Option, Some, None, is_none, if◌then◌else◌}
+use Rattle.std.specs.Prelude.{ℕ, Bool, true, false, List, [], ◌∷◌, ◌+◌, ◌==◌, ◌&&◌, map, Option, Some, None, is_none, is_some, not, ◌||◌, if◌then◌else◌}
 use Rattle.std.specs.Option.{option_and_then, option_map}
 use Rattle.net_rows.specs.Damage.{damage}
 use Rattle.net_rows.specs.Rows.{empty_rows}
@@ -103,3 +103,11 @@ rows_of db =
 -- A store that is clean and open tells the rows of what it shows.
 unfoldable pub store_tells : State → Option Rows
 store_tells s = if s.is_clean && s.is_open then rows_of s.now else None
+
+-- A store that is clean and open has our tables, and tells rows.
+unfoldable pub is_known : State → Bool
+is_known s = not (s.is_clean && s.is_open) || (is_schema s.now.schema schema_1 && is_some (rows_of s.now))
+
+-- what has loaded knows its store
+unfoldable pub knows_if_loaded : Bool → State → Bool
+knows_if_loaded is_loaded s = not is_loaded || is_known s

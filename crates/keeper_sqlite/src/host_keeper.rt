@@ -1,6 +1,6 @@
 //! The keeper of the shipped program.
-ghost use Rattle.std.specs.Prelude.{◌≡◌, None};
-ghost use Rattle.keeper_sqlite.specs.Host.{calls_of, faults_of};
+ghost use Rattle.std.specs.Prelude.{◌≡◌};
+ghost use Rattle.keeper_sqlite.specs.Host.{calls_of, faults_of, told_of};
 
 use crate::keeper::SqliteKeeper;
 use io_edge::EdgeFault;
@@ -43,7 +43,7 @@ impl HostKeeper {
 }
 
 impl Keeper for HostKeeper {
-    ghost told = { λ _. None };
+    ghost told = { told_of };
 
     ghost faults = { faults_of };
 

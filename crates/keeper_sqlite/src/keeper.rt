@@ -1,9 +1,9 @@
 //! A keeper over a connection to a database.
-ghost use Rattle.std.specs.Prelude.{◌≡◌, ◌≤◌, ℕ, None, Err, false, is_ok, IsTrue, IfOk, IfErr, IfSome, OnOk, OnErr, IsErrOf};
+ghost use Rattle.std.specs.Prelude.{◌≡◌, ◌≤◌, ℕ, true, None, Err, false, is_ok, IsTrue, IfOk, IfErr, IfSome, OnOk, OnErr, IsErrOf};
 ghost use Rattle.std.specs.Option.{option_map};
 ghost use Rattle.io_edge.specs.Edge.{IsWhereTold, Rose, StillTells};
 ghost use Rattle.keeper_sqlite.specs.Tells.{IsKnown};
-ghost use Rattle.keeper_sqlite.specs.Told.{store_tells};
+ghost use Rattle.keeper_sqlite.specs.Told.{knows_if_loaded, store_tells};
 ghost use Rattle.net_rows.specs.declared.change.Kind.{Kind};
 ghost use Rattle.net_rows.specs.Damage.{damage};
 ghost use Rattle.net_rows.specs.Rows.{after, empty_rows};
@@ -24,13 +24,15 @@ use sqlite::{Alter, Connection};
 use std::alloc::Global;
 use store_commits::{Fault, commit};
 
-/// Keeps the tables in the database of a connection. Before it has loaded them it takes no change.
+/// Keeps the tables in the database of a connection, and tells what its store tells. Before it has
+/// loaded them it takes no change; from then on the store, as long as it is clean and open, tells.
 #[derive(Drop)]
 pub struct SqliteKeeper<S: Alter> {
     pub(crate) conn: Connection<S>,
     pub(crate) is_loaded: bool,
     pub(crate) faults: u64,
     pub(crate) calls: u64,
+    ghost is_known_once_loaded: { knows_if_loaded is_loaded (state S.Store conn) ≡ true },
 }
 
 impl<S: Alter> SqliteKeeper<S> {
@@ -68,7 +70,9 @@ impl<S: Alter> SqliteKeeper<S> {
     fn raise(&mut self)
         ensures rose { Rose self.old.faults self.new.faults }
         ensures later { self.old.faults ≤ self.new.faults }
-        ensures same { self.new ≡ record self.old { faults = self.new.faults } }
+        ensures conn { self.new.conn ≡ self.old.conn }
+        ensures is_loaded { self.new.is_loaded ≡ self.old.is_loaded }
+        ensures calls { self.new.calls ≡ self.old.calls }
     {
         self.faults = self.faults.saturating_add(1);
     }
@@ -116,6 +120,8 @@ impl<S: Alter> SqliteKeeper<S> {
 
     /// Keeps the change. Before the tables were loaded it fails, and nothing is asked of the store.
     fn keep(&mut self, alloc: Global, change: &Change) -> Result<(), EdgeFault>
+        requires sound { IfSome (store_tells (state S.Store self.old.conn))
+            (λ rows. damage (after rows change.now) ≡ None) }
         ensures waits { self.old.is_loaded ≡ false
             → (result ≡ Err EdgeFault.Failed) × (self.new.conn ≡ self.old.conn) }
         ensures ok { HasCleanDisk (state S.Store self.new.conn)
@@ -127,18 +133,11 @@ impl<S: Alter> SqliteKeeper<S> {
             → OnErr result (Leaves (state S.Store self.old.conn) (state S.Store self.new.conn)) }
         ensures crash { Survives (state S.Store self.old.conn) (state S.Store self.new.conn)
             (HoldsMade (state S.Store self.old.conn).now (λ rows. after rows change.now)) }
-        ensures still_ok { IsKnown (state S.Store self.old.conn)
-            → IfSome (store_tells (state S.Store self.old.conn))
-            (λ rows. damage (after rows change.now) ≡ None)
-            → OnOk result (StillTells (option_map (λ rows. after rows change.now)
+        ensures still_ok { OnOk result (StillTells (option_map (λ rows. after rows change.now)
             (store_tells (state S.Store self.old.conn)))
             (store_tells (state S.Store self.new.conn))) }
         ensures still_err { OnErr result (StillTells (store_tells (state S.Store self.old.conn))
             (store_tells (state S.Store self.new.conn))) }
-        ensures known { IsKnown (state S.Store self.old.conn)
-            → IfSome (store_tells (state S.Store self.old.conn))
-            (λ rows. damage (after rows change.now) ≡ None)
-            → IsKnown (state S.Store self.new.conn) }
         ensures calls { self.new.calls ≡ self.old.calls }
         ensures later { self.old.faults ≤ self.new.faults }
         ensures cause { IsErrOf result EdgeFault.Failed → Rose self.old.faults self.new.faults }
@@ -159,7 +158,7 @@ impl<S: Alter> SqliteKeeper<S> {
 }
 
 impl<S: Alter + Drop> Keeper for SqliteKeeper<S> {
-    ghost told = { λ _. None };
+    ghost told = { λ k. store_tells (state S.Store k.conn) };
 
     ghost faults = { λ k. k.faults };
 

@@ -182,6 +182,8 @@ fn load_tables<S: Alter>(conn: &mut Connection<S>, alloc: Global) -> Result<Tabl
     ensures known { HasCleanDisk (state S.Store conn.new) → IfOk result (λ tables.
         IsTrue (state S.Store conn.new).is_open
         → Holds (state S.Store conn.new).now tables.rows) }
+    ensures keeps { IsAtRest (state S.Store conn.old) → IsKnown (state S.Store conn.old)
+        → IsKnown (state S.Store conn.new) }
 {
     match prepare(conn, alloc) {
         Ok(()) => read_tables(conn, alloc),
@@ -219,6 +221,7 @@ pub(crate) fn load<S: Alter>(conn: &mut Connection<S>, alloc: Global) -> Result<
     ensures damaged { IfErr result (λ e. (kind : RowKind) (id : ℕ)
         → e ≡ LoadFault.Damaged kind id → store_tells (state S.Store conn.new) ≡ None) }
     ensures knows { OnOk result (IsKnown (state S.Store conn.new)) }
+    ensures keeps { IsKnown (state S.Store conn.old) → IsKnown (state S.Store conn.new) }
 {
     if !conn.is_autocommit() {
         return Err(LoadFault::Failed);

@@ -1,5 +1,8 @@
 //! An opener over one connection.
 ghost use Rattle.std.specs.Prelude.{◌≡◌, None, Some, Err, false, IfOk, OnErr};
+ghost use Rattle.std.specs.Option.{option_and_then};
+ghost use Rattle.sqlite.specs.Held.{state};
+ghost use Rattle.keeper_sqlite.specs.Told.{store_tells};
 
 use crate::keeper::SqliteKeeper;
 use io_edge::EdgeFault;
@@ -7,7 +10,8 @@ use row_keeper::Opener;
 use sqlite::{Alter, Connection};
 use std::alloc::Global;
 
-/// Hands one connection out as a keeper, whatever the name, and takes it back.
+/// Hands one connection out as a keeper, whatever the name, and takes it back. It tells what the
+/// connection's store tells, while it has it.
 #[derive(Drop)]
 pub struct SqliteOpener<S: Alter> {
     conn: Option<Connection<S>>,
@@ -17,6 +21,7 @@ pub struct SqliteOpener<S: Alter> {
 impl<S: Alter> SqliteOpener<S> {
     /// An opener that holds this connection.
     pub fn new(conn: Connection<S>) -> SqliteOpener<S>
+        ensures conn { result.conn ≡ Some conn }
         ensures faults { result.faults ≡ 0 }
     {
         SqliteOpener {
@@ -32,6 +37,7 @@ impl<S: Alter> SqliteOpener<S> {
         ensures waits { IfOk result (λ keeper. keeper.is_loaded ≡ false) }
         ensures out { self.old.conn ≡ None → result ≡ Err EdgeFault.Failed }
         ensures err { OnErr result (result ≡ Err EdgeFault.Failed) }
+        ensures left { OnErr result (self.new.conn ≡ self.old.conn) }
         ensures faults { self.new.faults ≡ self.old.faults }
     {
         match self.conn.take() {
@@ -44,7 +50,7 @@ impl<S: Alter> SqliteOpener<S> {
 impl<S: Alter + Drop + Send> Opener for SqliteOpener<S> {
     type Keeper = SqliteKeeper<S>;
 
-    ghost told = { λ _. None };
+    ghost told = { λ o. option_and_then (λ c. store_tells (state S.Store c)) o.conn };
 
     ghost asked = { λ _. None };
 

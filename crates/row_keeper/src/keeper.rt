@@ -26,7 +26,8 @@ pub enum LoadFault {
 
 /// Where tables are kept.
 pub trait Keeper: Drop {
-    /// The rows that it keeps, if they are visible to the specification: a real store shows nothing.
+    /// The rows that it keeps, if they are visible to the specification. One over a database may stop
+    /// showing them, as where a disk lied.
     ghost told: { Self → Option Rows };
 
     /// How often a call has failed.
@@ -35,10 +36,11 @@ pub trait Keeper: Drop {
     /// How often it was called, by either call and whatever the answer.
     ghost calls: { Self → ℕ };
 
-    /// The tables that it keeps, which are sound if they are visible.
+    /// The tables that it keeps, which are sound if they are visible after it. It may stop telling within
+    /// the call, as a store does whose disk lies: then nothing is said of them.
     fn load(&mut self, alloc: Global) -> Result<Tables, LoadFault>
-        ensures loaded { IfOk result (λ tables. IsWhereTold tables.rows (told self.old)) }
-        ensures whole { IfErr result (λ e. (kind : Kind) (id : ℕ) → e ≡ LoadFault.Damaged kind id → told self.old ≡ None) }
+        ensures loaded { IfOk result (λ tables. IsWhereTold tables.rows (told self.new)) }
+        ensures whole { IfErr result (λ e. (kind : Kind) (id : ℕ) → e ≡ LoadFault.Damaged kind id → told self.new ≡ None) }
         ensures same { StillTells (told self.old) (told self.new) }
         ensures later { faults self.old ≤ faults self.new }
         ensures called { calls self.new ≡ one_more (calls self.old) }

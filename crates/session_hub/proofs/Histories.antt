@@ -5,6 +5,7 @@ use Rattle.std.proofs.lemmas.List.{append-nil, append_cancel_left}
 use Rattle.std.proofs.lemmas.Bool.Decides.{nat_tests}
 use Rattle.tailnet_desk.specs.History.{IsCall, IsReply, Legal, count_at_end, replay, state_after}
 use Rattle.tailnet_desk.specs.Seated.{Point}
+use Rattle.tailnet_desk.specs.Turns.{IsTurn}
 use Rattle.tailnet_desk.specs.declared.entry.Entry.{Entry}
 use Rattle.session_hub.specs.declared.known.Line.{Line}
 use Rattle.session_hub.specs.Lines.{IsReplayOf, entries_of, lines_by}
@@ -33,13 +34,15 @@ called t m now after e state_is count_is before ends call =
 
 -- A desk that stands at the end of a history makes a call: the line of it joins the history.
 pub replay_more : (start now after : Point) (ls : List Line) (l : Line) → l.entry.before ≡ now.keeping.faults → l.entry.after ≡ after.keeping.faults
-    → IsCall now.state now.keeping.faults l.entry.event l.entry.reply after.state after.keeping.faults → IsReplayOf start ls now → IsReplayOf start (ls ++ l ∷ []) after
-replay_more start now after ls l before ends call r =
+    → IsTurn now l.entry.event l.entry.reply after → IsReplayOf start ls now → IsReplayOf start (ls ++ l ∷ []) after
+replay_more start now after ls l before ends turn r =
+    let call = turn.call in
     let one = called (replay start.state (entries_of ls)) (count_at_end start.keeping.faults (entries_of ls)) now after l.entry r.state r.count before ends call in
     record {
       legal = legal_then start.state start.keeping.faults ls l r.legal one;
       state = call.state ∙ ap (λ s. state_after s l.entry.event l.entry.reply) r.state ∙ sym (replay_then start.state ls l);
       count = sym ends ∙ sym (count_then start.keeping.faults ls l);
+      before = λ tells. r.before (turn.before tells);
     }
 
 pub lines_by_snoc : (n : ℕ) (ls : List Line) (l : Line) → l.by ≢ n → lines_by n (ls ++ l ∷ []) ≡ lines_by n ls

@@ -1,6 +1,7 @@
 -- Histories whose entries stand under names, and where they lead.
 use Rattle.std.specs.Prelude.{◌≡◌, ◌+◌, ◌==◌, ℕ, Option, Some, None, List, [], ◌∷◌, ◌++◌, length, map, nat_lt, if◌then◌else◌}
 use Rattle.std.specs.List.{filter}
+use Rattle.row_keeper.specs.Before.{ToldBefore}
 use Rattle.tailnet_desk.specs.History.{Legal, replay, count_at_end}
 use Rattle.tailnet_desk.specs.Seated.{Point}
 use Rattle.tailnet_desk.specs.declared.entry.Entry.{Entry}
@@ -38,11 +39,13 @@ abbrev pub AreLegal : Option Point → List Line → Type 0
 AreLegal None lines = Unit {0}
 AreLegal (Some p) lines = LegalFrom p lines
 
--- The history is legal from where a desk stood, and the desk now stands at its end.
+-- The history is legal from where a desk stood, and the desk now stands at its end. Where its keeper tells rows now, it
+-- told rows then.
 pub record IsReplayOf (start : Point) (lines : List Line) (now : Point) : Type 0 where
   pub legal : LegalFrom start lines
   pub state : now.state ≡ replay start.state (entries_of lines)
   pub count : now.keeping.faults ≡ count_at_end start.keeping.faults (entries_of lines)
+  pub before : ToldBefore start.keeping.told now.keeping.told
 
 -- the same of a desk that is seen at points
 abbrev pub Replays : {D : Type 0} → (D → Point) → D → List Line → D → Type 0

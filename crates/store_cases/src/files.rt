@@ -1,6 +1,5 @@
 //! Databases in files, opened as the program opens them.
-ghost use Rattle.std.specs.Prelude.{◌≡◌, None};
-
+use crate::sound::{commit, load};
 use keeper_sqlite::HostOpener;
 use net_rows::{Change, Row, Tables};
 use row_keeper::{Keeper, Opener};
@@ -35,22 +34,11 @@ fn opened<O: Opener>(alloc: Global, opener: &mut O) -> Result<O::Keeper, Fail> {
     }
 }
 
-fn load<K: Keeper>(alloc: Global, keeper: &mut K) -> Result<Tables, Fail> {
-    match keeper.load(alloc) {
-        Ok(tables) => Ok(tables),
-        Err(_) => Err(Fail::from("the file isn't loaded")),
-    }
-}
-
-/// Loads the tables, and keeps this policy. A keeper that tells what it keeps would want sound tables.
-fn keep<K: Keeper>(alloc: Global, keeper: &mut K, text: &str) -> Result<(), Fail>
-    requires untold { (it : K) → K.told it ≡ None }
-{
-    load(alloc, keeper)?;
-    match keeper.commit(alloc, &policy(alloc, text)?) {
-        Ok(()) => Ok(()),
-        Err(_) => Err(Fail::from("the policy isn't kept")),
-    }
+/// Loads the tables, and keeps this policy.
+fn keep<K: Keeper>(alloc: Global, keeper: &mut K, text: &str) -> Result<(), Fail> {
+    let tables = load(alloc, keeper)?;
+    let _left = commit(alloc, keeper, &tables, &policy(alloc, text)?)?;
+    Ok(())
 }
 
 fn has_policy(tables: &Tables, text: &str) -> bool {
@@ -61,17 +49,13 @@ fn has_policy(tables: &Tables, text: &str) -> bool {
 }
 
 /// Keeps this policy, and lets the keeper go without a close: the log alone holds the change then.
-fn keep_and_drop<O: Opener>(alloc: Global, opener: &mut O, text: &str) -> Result<(), Fail>
-    requires untold { (it : O.Keeper) → O.Keeper.told it ≡ None }
-{
+fn keep_and_drop<O: Opener>(alloc: Global, opener: &mut O, text: &str) -> Result<(), Fail> {
     let mut keeper = opened(alloc, opener)?;
     keep(alloc, &mut keeper, text)
 }
 
 /// Keeps this policy, and closes: the file holds the change then.
-fn keep_and_close<O: Opener>(alloc: Global, opener: &mut O, text: &str) -> Result<(), Fail>
-    requires untold { (it : O.Keeper) → O.Keeper.told it ≡ None }
-{
+fn keep_and_close<O: Opener>(alloc: Global, opener: &mut O, text: &str) -> Result<(), Fail> {
     let mut keeper = opened(alloc, opener)?;
     let kept = keep(alloc, &mut keeper, text);
     opener.close(keeper);

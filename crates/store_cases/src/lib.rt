@@ -13,3 +13,5 @@ mod made;
 mod others;
 #[cfg(test)]
 mod rows;
+#[cfg(test)]
+mod sound;

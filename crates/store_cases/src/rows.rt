@@ -1,12 +1,11 @@
 //! Rows of every kind, written and read again.
-ghost use Rattle.std.specs.Prelude.{◌≡◌, None};
-
 use crate::made::{made, run};
+use crate::sound::{commit, load, try_commit};
 use io_edge::EdgeFault;
 use keeper_sqlite::SqliteKeeper;
 use net_rows::{Change, Counters, Row, RowKey, Tables};
 use row_keeper::Keeper;
-use sqlite::{Connection, MemStore};
+use sqlite::{Alter, Connection, MemStore};
 use std::alloc::Global;
 use std::test::Fail;
 use tail_base::{Duplicate, Items, NoMemory};
@@ -104,23 +103,6 @@ fn shown(alloc: Global, conn: &mut Connection<MemStore>, text: &str) -> Result<S
     }
 }
 
-fn load<K: Keeper>(alloc: Global, keeper: &mut K) -> Result<Tables, Fail> {
-    match keeper.load(alloc) {
-        Ok(tables) => Ok(tables),
-        Err(_) => Err(Fail::from("the rows aren't loaded")),
-    }
-}
-
-/// Commits the change. A keeper that tells what it keeps would want sound tables.
-fn commit<K: Keeper>(alloc: Global, keeper: &mut K, change: &Change) -> Result<(), Fail>
-    requires untold { (it : K) → K.told it ≡ None }
-{
-    match keeper.commit(alloc, change) {
-        Ok(()) => Ok(()),
-        Err(_) => Err(Fail::from("the change isn't kept")),
-    }
-}
-
 /// A database with these rows.
 fn with_rows(alloc: Global) -> Result<Connection<MemStore>, Fail> {
     let mut conn = made(alloc)?;
@@ -162,12 +144,11 @@ fn whole_change(alloc: Global) -> Result<Change, Fail> {
 }
 
 /// Commits the change twice, so that each row is added and then replaced.
-fn commit_twice<K: Keeper>(alloc: Global, keeper: &mut K, change: &Change) -> Result<(), Fail>
-    requires untold { (it : K) → K.told it ≡ None }
-{
-    load(alloc, keeper)?;
-    commit(alloc, keeper, change)?;
-    commit(alloc, keeper, change)
+fn commit_twice<K: Keeper>(alloc: Global, keeper: &mut K, change: &Change) -> Result<(), Fail> {
+    let tables = load(alloc, keeper)?;
+    let added = commit(alloc, keeper, &tables, change)?;
+    let _replaced = commit(alloc, keeper, &added, change)?;
+    Ok(())
 }
 
 /// A database to which the change was committed twice.
@@ -218,19 +199,15 @@ fn counted<K: Keeper>(alloc: Global, keeper: &mut K) -> Result<[usize; 4], Fail>
 }
 
 /// Loads, and removes the rows. It counts those before.
-fn remove<K: Keeper>(alloc: Global, keeper: &mut K) -> Result<[usize; 4], Fail>
-    requires untold { (it : K) → K.told it ≡ None }
-{
+fn remove<K: Keeper>(alloc: Global, keeper: &mut K) -> Result<[usize; 4], Fail> {
     let tables = load(alloc, keeper)?;
     let change = removal(alloc, tables.next())?;
-    commit(alloc, keeper, &change)?;
+    let _left = commit(alloc, keeper, &tables, &change)?;
     Ok(counts(&tables))
 }
 
 /// The counts before and after the removal.
-fn counts_by<K: Keeper>(alloc: Global, keeper: &mut K) -> Result<([usize; 4], [usize; 4]), Fail>
-    requires untold { (it : K) → K.told it ≡ None }
-{
+fn counts_by<K: Keeper>(alloc: Global, keeper: &mut K) -> Result<([usize; 4], [usize; 4]), Fail> {
     let before = remove(alloc, keeper)?;
     let after = counted(alloc, keeper)?;
     Ok((before, after))
@@ -248,11 +225,23 @@ fn gone_rows_go(rt: HostRuntime) -> Result<(), Fail> {
     Ok(())
 }
 
-/// What a change before any load comes to.
+/// What the removal comes to before any load by its keeper. Another has loaded the tables.
+fn remove_early<S: Alter + Drop>(
+    alloc: Global,
+    conn: Connection<S>,
+) -> Result<Result<(), EdgeFault>, Fail> {
+    let mut first = SqliteKeeper::adopt(conn);
+    let tables = load(alloc, &mut first)?;
+    let change = removal(alloc, tables.next())?;
+    let mut keeper = SqliteKeeper::adopt(first.give_back());
+    match try_commit(alloc, &mut keeper, &tables, &change)? {
+        Ok(_) => Ok(Ok(())),
+        Err(fault) => Ok(Err(fault)),
+    }
+}
+
 fn early_commit(alloc: Global) -> Result<Result<(), EdgeFault>, Fail> {
-    let mut keeper = SqliteKeeper::adopt(with_rows(alloc)?);
-    let change = removal(alloc, Tables::empty(alloc).next())?;
-    Ok(keeper.commit(alloc, &change))
+    remove_early(alloc, with_rows(alloc)?)
 }
 
 #[test]

@@ -1,11 +1,14 @@
 -- A run in whose way nothing stands ends well.
 use Rattle.std.proofs.Common.{◌≡◌, ◌∙◌, ◌⊎◌, ◌||◌, ◌==◌, ◌-◌, ℕ, Bool, Option, None, Some, List, [], ◌∷◌, ◌++◌, inl, inr, refl, ap, sym, subst, arith, true, false, Ok}
+use Rattle.std.specs.Prelude.{IfSome, IsSome}
 use Rattle.std.specs.List.{AllByRecursion}
 use Rattle.std.specs.Option.{option_or}
 use Rattle.std.proofs.lemmas.Bool.Decides.{nat_tests}
 use Rattle.std.proofs.lemmas.List.{append-nil}
 use Rattle.std.proofs.lemmas.Bool.{cases_Bool}
-use Rattle.io_edge.specs.Edge.{and_then_left}
+use Rattle.io_edge.specs.Edge.{IsWhereTold, and_then_left}
+use Rattle.net_rows.specs.declared.change.Kind.{Kind}
+use Rattle.net_rows.specs.declared.rows.Rows.{Rows}
 use Rattle.http_front.specs.Requests.{Leads, Splits, at_end, cut, bad}
 use Rattle.http_front.specs.declared.request.Request.{Request}
 use Rattle.http_front.proofs.Streams.{Leads-append, Leads_first, Splits_unique}
@@ -15,12 +18,15 @@ use Rattle.settings.specs.declared.fields.SettingsFields.{SettingsFields}
 use Rattle.tail_words.specs.SettingsText.{settings_of}
 use Rattle.desk_front.specs.declared.want.Wanted.{Wanted}
 use Rattle.desk_front.specs.declared.want.Wanted.TheVariants as wants
+use Rattle.tailnet_desk.specs.Opening.{unread_policy}
 use Rattle.tailnet_desk.specs.declared.entry.Event.{Event}
 use Rattle.tailnet_desk.specs.declared.reply.Reply.{Reply}
 use Rattle.desk_front.specs.declared.front_settings.FrontSettings.{FrontSettings}
 use Rattle.tailnet_commands.specs.Complete.{IsAccepted, IsClear, IsComplete}
 use Rattle.connections.specs.Exchanges.{Exchange, IsExchange, AreExchanges, IsAnswered, requests_of, end_of, ended_by}
 use Rattle.tailnet_commands.specs.Pipe.{Piped}
+use Rattle.tailnet_commands.specs.ToldRows.{RefusesToldRows, ServesToldRows}
+use Rattle.tailnet_commands.specs.Run.{IsUnopened}
 use Rattle.run_ends.specs.Statuses.{status_of}
 use Rattle.tailnet_commands.specs.Outside.{Outside}
 use Rattle.connections.specs.Connection.{IsConnection, Told, IsEarly}
@@ -89,6 +95,12 @@ never_early turn site further limit old new s t input requests whole ok is serve
       | inr h ↦ tail_never serves.rest r.0 first.0 serves.extra new.left r.1 first.2 h.1
     ]
 
+-- rows that are told at the end are those that were told before, and so is their damage
+pub before_unopened : (kind : Kind) (id : ℕ) (before now : Option Rows) → IfSome before (λ r. IsWhereTold r now) → IsSome now → IsUnopened kind id now → IsUnopened kind id before
+before_unopened kind id None now kept told damaged = tt
+before_unopened kind id (Some x) None kept told damaged = absurd (cc)
+before_unopened kind id (Some x) (Some y) kept told damaged = subst (λ r. unread_policy r ≡ Some (record { kind = kind; id = id })) (sym kept) damaged
+
 -- the same by how the run ended
 pub complete_of : (e : Ended) (name : List ℕ) (seed : Option (List ℕ)) (old new : Outside) → Piped e name seed old new → IsClear name old new → (status_of e ≡ status.Ok) ⊎ (status_of e ≡ status.NoMemory)
 complete_of (ended.Closed closed.End) name seed old new p c = inl refl
@@ -105,9 +117,15 @@ complete_of (ended.Settings rule key) name seed old new p c = absurd (let broken
 complete_of ended.TooLarge name seed old new p c = absurd (let large = rw c.file_is at p.1 in omega (arith, large, c.small))
 complete_of ended.FileFault name seed old new p c = absurd (c.no_file_fault p.1)
 complete_of ended.KeeperFault name seed old new p c = absurd (c.no_keeper_fault p.2)
-complete_of (ended.Damaged kind id) name seed old new p c = absurd (let damaged = rw c.rows_are at p.2 in let sound = c.opened in cc)
+complete_of (ended.Damaged kind id) name seed old new p c = absurd (let damaged = rw c.rows_are at (before_unopened kind id old.rows new.rows p.0.rows c.rows_stay p.2) in let sound = c.opened in cc)
 complete_of ended.NoMemory name seed old new p c = inr refl
 
 pub complete : IsComplete
 complete s name seed old new o c =
     subst (λ (x : Status). (x ≡ status.Ok) ⊎ (x ≡ status.NoMemory)) (sym o.status_is) (complete_of o.ended name seed old new o.piped c)
+
+pub serves_told : ServesToldRows
+serves_told closing name seed old new told p = p.talk.rows_told told
+
+pub refuses_told : RefusesToldRows
+refuses_told kind id name seed old new told p = before_unopened kind id old.rows new.rows p.0.rows told p.2

@@ -12,7 +12,7 @@ use Rattle.run_ends.specs.declared.ended.Ended.TheVariants as ended
 
 -- a desk that didn't open
 pub unopened : (f : OpenFault) (e : Ended) (settings : SettingsFields) (old new : OpenerTold) → IsFaultOf f e → KeepsRows old new → IsAskedOnce settings old new → (f ≡ fault.KeeperFault → Rose old.faults new.faults)
-    → ((kind : _) (id : ℕ) → f ≡ fault.Damaged kind id → IsUnopened kind id old.rows) → IsDeskFault e settings old new
+    → ((kind : _) (id : ℕ) → f ≡ fault.Damaged kind id → IsUnopened kind id new.rows) → IsDeskFault e settings old new
 unopened fault.KeeperFault e settings old new is kept asked rose damaged = rw is (kept, asked, rose refl)
 unopened (fault.Damaged kind id) e settings old new is kept asked rose damaged = rw is (kept, asked, damaged kind id refl)
 unopened fault.NoMemory e settings old new is kept asked rose damaged = rw is (kept, inr asked)

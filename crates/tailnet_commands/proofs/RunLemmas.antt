@@ -1,6 +1,6 @@
 -- A run over settings.
 use Rattle.std.proofs.Common.{◌≡◌, ◌+◌, ◌-◌, ℕ, ℤ, Option, None, Some, List, [], ◌++◌, length, ap, sym, ◌∙◌, arith, subst}
-use Rattle.std.specs.Prelude.{IfSome}
+use Rattle.std.specs.Prelude.{IfSome, IsSome}
 use Rattle.std.specs.Option.{option_map}
 use Rattle.moments.specs.Moments.{clamped}
 use Rattle.io_edge.specs.Edge.{RoseBy, IsWhereTold, StillTells}
@@ -14,7 +14,8 @@ use Rattle.tailnet_desk.specs.Opening.{opening}
 use Rattle.tailnet_desk.specs.Seated.{Keeping, Point}
 use Rattle.tailnet_desk.specs.Turns.{IsTurn}
 use Rattle.desk_state.specs.State.{State}
-use Rattle.tailnet_desk.proofs.Histories.{Chain-append, history_of}
+use Rattle.row_keeper.specs.Before.{ToldBefore}
+use Rattle.tailnet_desk.proofs.Histories.{Chain-append, history_of, told_before_turns}
 use Rattle.tailnet_desk.proofs.SoundHistories.{legal_sound}
 use Rattle.tailnet_laws.proofs.Following.{opening_followed}
 use Rattle.desk_front.specs.Wanted.{front_settings}
@@ -40,20 +41,22 @@ kept_still None b h = tt
 kept_still (Some x) None h = tt
 kept_still (Some x) (Some y) h = let e : Some x ≡ Some y = h in let same : x ≡ y = cc in same
 
--- what the keeper tells is what the opener told
-pub where_given : {A : Type 0} (x : A) (a k : Option A) → IfSome a (λ rows. k ≡ Some rows) → IsWhereTold x k → IsWhereTold x a
-where_given x None k h w = tt
-where_given {A} x (Some rows) k h w = let v : IsWhereTold x (Some rows) = subst (λ (o : Option A). IsWhereTold x o) h w in v
+-- what the keeper tells after the load, if it still tells, is what the opener told
+pub where_loaded : {A : Type 0} (x : A) (a k l : Option A) → IfSome a (λ rows. k ≡ Some rows) → StillTells k l → IsWhereTold x l → IsSome l → IsWhereTold x a
+where_loaded x None k l h s w tells = tt
+where_loaded x (Some rows) k None h s w tells = absurd (cc)
+where_loaded {A} x (Some rows) k (Some y) h s w tells = let e : Some rows ≡ Some y = sym h ∙ s in let same : rows ≡ y = cc in w ∙ sym same
 
 pub kept_given : {A : Type 0} (a k b : Option A) → IfSome a (λ rows. k ≡ Some rows) → StillTells k b → IfSome a (λ x. IsWhereTold x b)
 kept_given None k b h s = tt
 kept_given (Some x) k None h s = tt
 kept_given (Some x) k (Some y) h s = let e : Some x ≡ Some y = sym h ∙ s in let same : x ≡ y = cc in same
 
--- what is said of all rows that the keeper tells is said of those that the opener told
-pub given_some : {A : Type 0} (P : A → Type 0) (a k : Option A) → IfSome a (λ rows. k ≡ Some rows) → IfSome k P → IfSome a P
-given_some P None k h p = tt
-given_some {A} P (Some x) k h p = let q : IfSome (Some x) P = subst (λ (o : Option A). IfSome o P) h p in q
+-- what is said of the rows that the keeper tells is said of those that the opener tells after it
+pub still_some : {A : Type 0} (P : A → Type 0) (k b : Option A) → StillTells k b → IfSome k P → IfSome b P
+still_some P k None s p = tt
+still_some P None (Some y) s p = absurd (let bad : None ≡ Some y = s in cc)
+still_some {A} P (Some x) (Some y) s p = let e : Some x ≡ Some y = s in let same : x ≡ y = cc in subst P same p
 
 pub still_still : {A : Type 0} (a b c : Option A) → StillTells a b → StillTells b c → StillTells a c
 still_still a b None h k = tt
@@ -68,11 +71,11 @@ sound_at_end p turns q hold sound h = subst (λ (s : State). AreSound s.rows) (s
 pub conversed : (closed : Closed) (settings : SettingsFields) (seed : Option (List ℕ)) (moment : ℤ) (old new : Outside) (f g : ℕ → Option ℤ) (d : State) (keeping : Keeping) (middle final : Point)
     → AreSettings settings → damage d.rows ≡ None
     → IsWhereTold moment (option_map clamped (old.told.giving.answers 0)) → ((k : ℕ) → f k ≡ old.told.giving.answers (k + 1))
-    → d ≡ opening settings d.rows moment → IsWhereTold d.rows old.rows
+    → d ≡ opening settings d.rows moment → (IsSome keeping.told → IsWhereTold d.rows old.rows)
     → IsSeeded seed f g (record { state = d; keeping = keeping }) middle
     → IsConnection IsTurn (front_settings settings) 0 closed settings.requests [] (with_answers old.told g) new.told middle final
-    → IsWhereTold final.state.rows new.rows → RoseBy final.keeping.faults old.keeper_faults new.keeper_faults → IsAskedFor settings old new → Conversation closed settings seed old new
-conversed closed settings seed moment old new f g d keeping middle final hold whole at shifted is rows_told seeded serves last rose asked =
+    → IsWhereTold final.state.rows new.rows → ToldBefore final.keeping.told new.rows → RoseBy final.keeping.faults old.keeper_faults new.keeper_faults → IsAskedFor settings old new → Conversation closed settings seed old new
+conversed closed settings seed moment old new f g d keeping middle final hold whole at shifted is rows_told seeded serves last before rose asked =
     let n = length seeded.seeding in
     let turns = seeded.seeding ++ turns_of serves.exchanges in
     let served = serves_from IsTurn (front_settings settings) 0 closed settings.requests [] (with_answers old.told g) new.told middle final (from_number (1 + n) old.told.giving.answers)
@@ -87,7 +90,7 @@ conversed closed settings seed moment old new f g d keeping middle final hold wh
       rows = d.rows;
       sound = sound;
       asked = asked;
-      rows_told = rows_told;
+      rows_told = λ tells. rows_told (told_before_turns start turns final chain (before tells));
       moment = moment;
       moment_told = at;
       keeping = keeping;

@@ -1,5 +1,5 @@
 -- When a run of `pipe` can't but end well.
-use Rattle.std.specs.Prelude.{◌≡◌, ◌≢◌, ◌≤◌, ◌⊎◌, ℕ, Option, None, Some, List, [], length, Ok}
+use Rattle.std.specs.Prelude.{◌≡◌, ◌≢◌, ◌≤◌, ◌⊎◌, ℕ, Option, None, Some, List, [], length, Ok, IsSome}
 use Rattle.std.specs.List.{AllByRecursion}
 use Rattle.io_edge.specs.Edge.{Rose}
 use Rattle.http_front.specs.Requests.{Leads}
@@ -24,8 +24,8 @@ IsAccepted (wants.Answer status body) = Unit {0}
 IsAccepted (wants.Ask ask) = Unit {0}
 IsAccepted (wants.Poll p) = Unit {0}
 
--- Nothing stands in the way of a run: the settings file is there and keeps its rules, the tables are opened, the
--- input is whole requests that are accepted, and no count of faults rises.
+-- Nothing stands in the way of a run: the settings file is there and keeps its rules, the tables are opened, and the
+-- opener tells rows at the end too; the input is whole requests that are accepted, and no count of faults rises.
 pub record IsClear (name : List ℕ) (old new : Outside) : Type 0 where
   pub text : List ℕ
   pub file_is : old.files name ≡ Some (Some text)
@@ -34,6 +34,7 @@ pub record IsClear (name : List ℕ) (old new : Outside) : Type 0 where
   pub settings_are : settings_of text ≡ Ok settings
   pub rows : Rows
   pub rows_are : old.rows ≡ Some rows
+  pub rows_stay : IsSome new.rows
   pub opened : unread_policy rows ≡ None
   pub input : List ℕ
   pub input_is : old.told.left ≡ Some input

@@ -5,3 +5,4 @@ pub mod Opened
 pub mod Pipe
 pub mod Check
 pub mod Complete
+pub mod ToldRows

@@ -1,5 +1,5 @@
 -- A desk that was opened over what an opener keeps, or that wasn't.
-use Rattle.std.specs.Prelude.{◌≡◌, ◌≤◌, ◌+◌, ◌⊎◌, ℕ, ℤ, Option, None, List, IfSome}
+use Rattle.std.specs.Prelude.{◌≡◌, ◌≤◌, ◌+◌, ◌⊎◌, ℕ, ℤ, Option, None, List, IfSome, IsSome}
 use Rattle.std.specs.Option.{option_map}
 use Rattle.moments.specs.Moments.{clamped}
 use Rattle.io_edge.specs.Asked.{and_asked}
@@ -31,7 +31,8 @@ IsAskedOnce settings old new = new.asked ≡ and_asked old.asked settings.databa
 abbrev pub KeepsRows : OpenerTold → OpenerTold → Type 0
 KeepsRows old new = IfSome old.rows (λ rows. IsWhereTold rows new.rows)
 
--- A desk stands in the opening state of the rows that the opener told and of the clock's first answer.
+-- A desk stands in the opening state of the rows that the opener told, where its keeper still tells, and of the clock's
+-- first answer.
 pub record IsDeskOpened (settings : SettingsFields) (old new : OpenerTold) (answers after : ℕ → Option ℤ) (p : Point) : Type 0 where
   pub rules : AreSettings settings
   pub moment : ℤ
@@ -39,7 +40,7 @@ pub record IsDeskOpened (settings : SettingsFields) (old new : OpenerTold) (answ
   pub rest : (k : ℕ) → after k ≡ answers (k + 1)
   pub state : p.state ≡ opening settings p.state.rows moment
   pub whole : damage p.state.rows ≡ None
-  pub rows_told : IsWhereTold p.state.rows old.rows
+  pub rows_told : IsSome p.keeping.told → IsWhereTold p.state.rows old.rows
   pub kept : IfSome old.rows (λ rows. IsWhereTold rows p.keeping.told)
   pub asked : IsAskedOnce settings old new
   pub later : old.faults ≤ new.faults
@@ -47,7 +48,7 @@ pub record IsDeskOpened (settings : SettingsFields) (old new : OpenerTold) (answ
 -- Why none was opened.
 abbrev pub IsDeskFault : Ended → SettingsFields → OpenerTold → OpenerTold → Type 0
 IsDeskFault ended.KeeperFault settings old new = KeepsRows old new × IsAskedOnce settings old new × Rose old.faults new.faults
-IsDeskFault (ended.Damaged kind id) settings old new = KeepsRows old new × IsAskedOnce settings old new × IsUnopened kind id old.rows
+IsDeskFault (ended.Damaged kind id) settings old new = KeepsRows old new × IsAskedOnce settings old new × IsUnopened kind id new.rows
 IsDeskFault ended.NoMemory settings old new = KeepsRows old new × ((new.asked ≡ old.asked) ⊎ IsAskedOnce settings old new)
 IsDeskFault (ended.Closed closing) settings old new = ⊥
 IsDeskFault (ended.Settings rule key) settings old new = ⊥

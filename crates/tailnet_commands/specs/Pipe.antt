@@ -61,7 +61,7 @@ Piped ended.FileFault name seed old new = IsUnbegun old new × Rose old.file_fau
 Piped ended.KeeperFault name seed old new =
     Untouched old new × IsUnder (old.files name) (λ settings. IsAskedFor settings old new) × Rose old.keeper_faults new.keeper_faults
 Piped (ended.Damaged kind id) name seed old new =
-    Untouched old new × IsUnder (old.files name) (λ settings. IsAskedFor settings old new) × IsUnopened kind id old.rows
+    Untouched old new × IsUnder (old.files name) (λ settings. IsAskedFor settings old new) × IsUnopened kind id new.rows
 Piped ended.NoMemory name seed old new =
     Untouched old new × (IsUnasked old new ⊎ IsUnder (old.files name) (λ settings. IsAskedFor settings old new))
 

@@ -1,5 +1,5 @@
 -- A run of `pipe`.
-use Rattle.std.specs.Prelude.{◌≡◌, ◌+◌, ◌⊎◌, ℕ, ℤ, Option, None, Some, List, [], ◌++◌, length, IfSome}
+use Rattle.std.specs.Prelude.{◌≡◌, ◌+◌, ◌⊎◌, ℕ, ℤ, Option, None, Some, List, [], ◌++◌, length, IfSome, IsSome}
 use Rattle.std.specs.Option.{option_map}
 use Rattle.moments.specs.Moments.{clamped}
 use Rattle.io_edge.specs.Asked.{and_asked}
@@ -60,7 +60,8 @@ pub record Conversation (closed : Closed) (settings : SettingsFields) (seed : Op
   pub rows : Rows
   pub sound : AreSound rows
   pub asked : IsAskedFor settings old new
-  pub rows_told : IsWhereTold rows old.rows
+  -- a store whose disk lied tells no rows at the end, and what it loaded is no promise of the rows before
+  pub rows_told : IsSome new.rows → IsWhereTold rows old.rows
   pub moment : ℤ
   pub moment_told : IsWhereTold moment (option_map clamped (old.told.giving.answers 0))
   -- what is told of the keeper after the load, and the state and the keeper at the end
@@ -90,7 +91,7 @@ Ran ended.TooLarge settings seed old new = ⊥
 Ran ended.FileFault settings seed old new = ⊥
 Ran ended.KeeperFault settings seed old new = Untouched old new × IsAskedFor settings old new × Rose old.keeper_faults new.keeper_faults
 Ran (ended.Damaged kind id) settings seed old new =
-    Untouched old new × IsAskedFor settings old new × IsUnopened kind id old.rows
+    Untouched old new × IsAskedFor settings old new × IsUnopened kind id new.rows
 Ran ended.NoMemory settings seed old new = Untouched old new × (IsUnasked old new ⊎ IsAskedFor settings old new)
 
 -- how a run ends whose desk didn't open

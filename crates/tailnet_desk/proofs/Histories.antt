@@ -1,6 +1,7 @@
 -- Chains of turns, and the legal histories that they are.
-use Rattle.std.proofs.Common.{List, [], ◌∷◌, ◌++◌, refl, ap, sym, ◌∙◌, subst}
+use Rattle.std.proofs.Common.{List, [], ◌∷◌, ◌++◌, IsSome, refl, ap, sym, ◌∙◌, subst}
 use Rattle.desk_state.specs.State.{State}
+use Rattle.row_keeper.specs.Before.{ToldBefore}
 use Rattle.tailnet_desk.specs.History.{Legal, replay}
 use Rattle.tailnet_desk.specs.Chains.{Turned, Chain, IsHistory}
 use Rattle.tailnet_desk.specs.Seated.{Point}
@@ -41,3 +42,8 @@ history_of p (x ∷ xs) q c =
       state = rest.state ∙ ap (λ s. replay s rest.entries) call.state;
       count = rest.count;
     }
+
+-- where rows are told after the last turn, they were told before the first
+pub told_before_turns : (p : Point) (xs : List Turned) (q : Point) → Chain IsTurn p xs q → ToldBefore p.keeping.told q.keeping.told
+told_before_turns p [] q c tells = subst (λ (r : Point). IsSome r.keeping.told) (sym c) tells
+told_before_turns p (x ∷ xs) q c tells = c.1.before (told_before_turns c.0 xs q c.2 tells)

@@ -11,6 +11,7 @@ use Rattle.map_asks.specs.declared.draining.DrainDecision.{DrainDecision}
 use Rattle.tailnet_desk.specs.Seated.{Keeping, Point, Seated, keeping_of, point_of}
 use Rattle.tailnet_desk.specs.Step.{drain_turn, step}
 use Rattle.tailnet_desk.specs.Turns.{IsTurn}
+use Rattle.tailnet_desk.proofs.TurnLemmas.{before_same}
 use Rattle.tailnet_desk.specs.declared.entry.Event.TheVariants as event
 use Rattle.tailnet_desk.specs.declared.reply.Reply.{Reply}
 use Rattle.tailnet_desk.specs.declared.reply.Reply.TheVariants.{Frames, Ended}
@@ -31,6 +32,7 @@ drained_turn p q mk handle m None is state same kept =
     record {
       call = record { short = tt; reply_is = sym reply_is; state = state ∙ sym state_is; later = omega (arith, ap (λ (k : Keeping). k.faults) same) };
       kept = kept;
+      before = before_same p.keeping q.keeping same;
       calls = ap (λ (k : Keeping). k.calls) same;
       idle = λ unchanged. same;
     }
@@ -41,6 +43,7 @@ drained_turn p q mk handle m (Some d) is state same kept =
     record {
       call = record { short = tt; reply_is = sym reply_is; state = state ∙ sym state_is; later = omega (arith, ap (λ (k : Keeping). k.faults) same) };
       kept = kept;
+      before = before_same p.keeping q.keeping same;
       calls = ap (λ (k : Keeping). k.calls) same;
       idle = λ unchanged. same;
     }

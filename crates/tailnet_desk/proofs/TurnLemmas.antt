@@ -1,6 +1,6 @@
 -- What is carried out, refused or lost is one turn.
 use Rattle.std.proofs.Common.{◌≡◌, ◌≢◌, ◌≤◌, ◌⊎◌, ◌∙◌, ℕ, ℤ, List, Option, Some, None, Result, Ok, Err, inl, refl, sym, ap, subst, arith}
-use Rattle.std.specs.Prelude.{IfSome}
+use Rattle.std.specs.Prelude.{IfSome, IsSome}
 use Rattle.io_edge.specs.Edge.{IsWhereTold, Rose}
 use Rattle.moments.specs.Moments.{later_of}
 use Rattle.net_rows.specs.Damage.{damage}
@@ -8,6 +8,7 @@ use Rattle.net_rows.specs.Rows.{after}
 use Rattle.net_rows.specs.declared.change.Change.{Change}
 use Rattle.net_rows.specs.declared.rows.Rows.{Rows}
 use Rattle.policy_rows.specs.declared.policy.Policy.{Policy}
+use Rattle.row_keeper.specs.Before.{ToldBefore}
 use Rattle.row_keeper.specs.Calls.{one_more}
 use Rattle.settings.specs.declared.fields.SettingsFields.{SettingsFields}
 use Rattle.desk_state.specs.Decisions.{IsSound, IsSoundChange, rows_after}
@@ -28,6 +29,10 @@ use Rattle.tailnet_desk.specs.declared.reply.Answer.{Answer}
 use Rattle.tailnet_desk.specs.declared.reply.Loss.TheVariants.{NoMemory, KeeperFault}
 use Rattle.tailnet_desk.specs.declared.reply.Reply.{Reply}
 use Rattle.tailnet_desk.specs.declared.reply.Reply.TheVariants.{Done, Attached, Frames, Ended, Detached, Refused, Lost}
+
+-- a keeper that stays as it was tells what it told
+pub before_same : (k l : Keeping) → l ≡ k → ToldBefore k.told l.told
+before_same k l same = subst (λ (m : Keeping). IsSome m.told) same
 
 -- each change that is decided is a sound one
 abbrev pub EachSound : Rows → Option Change → Type 0
@@ -73,8 +78,8 @@ at_later f t policy p x a k was now m s later same = ap (λ n. state_with f t po
 pub carried_turn : (p q : Point) (x : Ask) (m : ℤ) (words : Option (List ℕ)) (d : Decision Answer) (reply : Reply)
     → IsShort x → decision (at_moment p.state m) x words ≡ Ok d → EachSound p.state.rows d.change
     → Carried (at_moment p.state m) d reply q.state p.keeping q.keeping → p.keeping.faults ≤ q.keeping.faults
-    → IsWhereTold q.state.rows q.keeping.told → IsTurn p (event.Ask x m words) reply q
-carried_turn p q x m words d (Done a) short is sound c later kept =
+    → IsWhereTold q.state.rows q.keeping.told → ToldBefore p.keeping.told q.keeping.told → IsTurn p (event.Ask x m words) reply q
+carried_turn p q x m words d (Done a) short is sound c later kept before =
     let state_is : (step p.state (event.Ask x m words)).state ≡ settled (at_moment p.state m) d.change d.policy d.ended d.offline =
     ap (λ r. (outcome (at_moment p.state m) r).state) is in
     let reply_is : (step p.state (event.Ask x m words)).reply ≡ Done d.answer = ap (λ r. (outcome (at_moment p.state m) r).reply) is in
@@ -82,25 +87,27 @@ carried_turn p q x m words d (Done a) short is sound c later kept =
     record {
       call = record { short = short; reply_is = ap (λ y. Done y) c.0 ∙ sym reply_is; state = c.1 ∙ sym state_is; later = later };
       kept = kept;
+      before = before;
       calls = λ changes. committed_calls d.change p.state.rows p.keeping q.keeping c.2 (λ same. changes (rows_are ∙ same));
       idle = λ same. committed_idle d.change p.state.rows p.keeping q.keeping sound c.2 (sym rows_are ∙ same);
     }
-carried_turn p q x m words d (Attached handle seq resumed may_wait) short is sound c later kept = absurd c
-carried_turn p q x m words d (Frames responses) short is sound c later kept = absurd c
-carried_turn p q x m words d Ended short is sound c later kept = absurd c
-carried_turn p q x m words d Detached short is sound c later kept = absurd c
-carried_turn p q x m words d (Refused r) short is sound c later kept = absurd c
-carried_turn p q x m words d (Lost NoMemory) short is sound c later kept =
+carried_turn p q x m words d (Attached handle seq resumed may_wait) short is sound c later kept before = absurd c
+carried_turn p q x m words d (Frames responses) short is sound c later kept before = absurd c
+carried_turn p q x m words d Ended short is sound c later kept before = absurd c
+carried_turn p q x m words d Detached short is sound c later kept before = absurd c
+carried_turn p q x m words d (Refused r) short is sound c later kept before = absurd c
+carried_turn p q x m words d (Lost NoMemory) short is sound c later kept before =
     let state_is : (step p.state (event.Ask x m words)).state ≡ settled (at_moment p.state m) d.change d.policy d.ended d.offline =
     ap (λ r. (outcome (at_moment p.state m) r).state) is in
     let rows_are : (step p.state (event.Ask x m words)).state.rows ≡ rows_after p.state.rows d.change = ap (λ (t : State). t.rows) state_is in
     record {
       call = record { short = short; reply_is = tt; state = c.0; later = later };
       kept = kept;
+      before = before;
       calls = perhaps_calls d.change p.keeping q.keeping c.1;
       idle = λ same. perhaps_idle d.change p.state.rows p.keeping q.keeping sound c.1 (sym rows_are ∙ same);
     }
-carried_turn p q x m words d (Lost KeeperFault) short is sound c later kept =
+carried_turn p q x m words d (Lost KeeperFault) short is sound c later kept before =
     let state_is : (step p.state (event.Ask x m words)).state ≡ settled (at_moment p.state m) d.change d.policy d.ended d.offline =
     ap (λ r. (outcome (at_moment p.state m) r).state) is in
     let rows_are : (step p.state (event.Ask x m words)).state.rows ≡ rows_after p.state.rows d.change = ap (λ (t : State). t.rows) state_is in
@@ -108,6 +115,7 @@ carried_turn p q x m words d (Lost KeeperFault) short is sound c later kept =
     record {
       call = record { short = short; reply_is = (λ same. failed.0 (sym rows_are ∙ same), failed.2); state = c.0; later = later };
       kept = kept;
+      before = before;
       calls = failed.1;
       idle = λ same. absurd (failed.0 (sym rows_are ∙ same));
     }
@@ -123,6 +131,7 @@ refused_turn p q x m words r short is state same kept = record {
     later = omega (arith, ap (λ (k : Keeping). k.faults) same);
   };
   kept = kept;
+  before = before_same p.keeping q.keeping same;
   calls = ap (λ (k : Keeping). k.calls) same;
   idle = λ unchanged. same;
 }
@@ -133,6 +142,7 @@ pub lost_turn : (p q : Point) (x : Ask) (m : ℤ) (words : Option (List ℕ))
 lost_turn p q x m words short state same kept = record {
   call = record { short = short; reply_is = tt; state = state; later = omega (arith, ap (λ (k : Keeping). k.faults) same) };
   kept = kept;
+  before = before_same p.keeping q.keeping same;
   calls = inl (ap (λ (k : Keeping). k.calls) same);
   idle = λ unchanged. same;
 }
@@ -142,13 +152,14 @@ pub carried_at : {K : Type 0} (told : K → Option Rows) (faults calls : K → �
     (x : Ask) (m : ℤ) (words : Option (List ℕ)) (d : Decision Answer) (reply : Reply)
     → mid ≡ at_moment was.state m → keeper ≡ was.keeper → IsShort x → decision mid x words ≡ Ok d → IsSound mid.rows (decision mid x words)
     → Carried mid d reply q.state (keeping_of told faults calls keeper) (keeping_of told faults calls q.keeper)
-    → faults keeper ≤ faults q.keeper → IsWhereTold q.state.rows (told q.keeper)
+    → faults keeper ≤ faults q.keeper → IsWhereTold q.state.rows (told q.keeper) → ToldBefore (told keeper) (told q.keeper)
     → IsTurn (point_of told faults calls was) (event.Ask x m words) reply (point_of told faults calls q)
-carried_at {K} told faults calls was q mid keeper x m words d reply mid_is keeper_is short is sound c later kept =
+carried_at {K} told faults calls was q mid keeper x m words d reply mid_is keeper_is short is sound c later kept before =
     let is' : decision (at_moment was.state m) x words ≡ Ok d = subst (λ s. decision s x words ≡ Ok d) mid_is is in
     let sound' : IsSound was.state.rows (decision (at_moment was.state m) x words) = subst (λ (s : State). IsSound s.rows (decision s x words)) mid_is sound in
     let c' = subst (λ s. Carried s d reply q.state (keeping_of told faults calls was.keeper) (keeping_of told faults calls q.keeper)) mid_is
     (subst (λ k. Carried mid d reply q.state (keeping_of told faults calls k) (keeping_of told faults calls q.keeper)) keeper_is c) in
     let later' : faults was.keeper ≤ faults q.keeper = subst (λ k. faults k ≤ faults q.keeper) keeper_is later in
+    let before' : ToldBefore (told was.keeper) (told q.keeper) = subst (λ k. ToldBefore (told k) (told q.keeper)) keeper_is before in
     carried_turn (point_of told faults calls was) (point_of told faults calls q) x m words d reply short is'
-    (each_of was.state.rows (decision (at_moment was.state m) x words) d is' sound') c' later' kept
+    (each_of was.state.rows (decision (at_moment was.state m) x words) d is' sound') c' later' kept before'

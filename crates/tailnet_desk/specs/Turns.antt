@@ -1,6 +1,7 @@
 -- One turn at a desk: a call, and what its keeper did.
 use Rattle.std.specs.Prelude.{◌≡◌, ◌⊎◌, ℕ}
 use Rattle.io_edge.specs.Edge.{IsWhereTold}
+use Rattle.row_keeper.specs.Before.{ToldBefore}
 use Rattle.row_keeper.specs.Calls.{one_more}
 use Rattle.desk_state.specs.State.{State}
 use Rattle.tailnet_desk.specs.History.{ChangesRows, IsCall}
@@ -22,11 +23,12 @@ AreCalls s e (Refused refusal) before after = after ≡ before
 AreCalls s e (Lost NoMemory) before after = (after ≡ before) ⊎ (after ≡ one_more before)
 AreCalls s e (Lost KeeperFault) before after = after ≡ one_more before
 
--- The call is one of the Tailnet machine, and the keeper has the state's rows where it tells them. Where no row
--- changes it stays as it was.
+-- The call is one of the Tailnet machine, and the keeper has the state's rows where it tells them; where it tells any
+-- it told rows before. Where no row changes it stays as it was.
 pub record IsTurn (p : Point) (e : Event) (reply : Reply) (q : Point) : Type 0 where
   pub call : IsCall p.state p.keeping.faults e reply q.state q.keeping.faults
   pub kept : IsWhereTold q.state.rows q.keeping.told
+  pub before : ToldBefore p.keeping.told q.keeping.told
   pub calls : AreCalls p.state e reply p.keeping.calls q.keeping.calls
   pub idle : (step p.state e).state.rows ≡ p.state.rows → q.keeping ≡ p.keeping
 

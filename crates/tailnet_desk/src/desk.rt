@@ -4,6 +4,7 @@ ghost use Rattle.io_edge.specs.Edge.{IsWhereTold, Rose, StillTells};
 ghost use Rattle.net_rows.specs.Damage.{damage};
 ghost use Rattle.net_rows.specs.Held.{Suffices};
 ghost use Rattle.net_rows.specs.Rows.{after};
+ghost use Rattle.row_keeper.specs.Before.{ToldBefore};
 ghost use Rattle.std.specs.Option.{option_or};
 ghost use Rattle.desk_state.specs.Decisions.{rows_after};
 ghost use Rattle.tailnet_desk.specs.Asks.{IsShort};
@@ -140,7 +141,7 @@ impl<K: Keeper> Desk<K> {
         moment: Moment,
     ) -> Result<Desk<K>, (OpenFault, K)>
         ensures state { IfOk result (λ d. d.state ≡ opening settings d.state.rows moment) }
-        ensures rows { IfOk result (λ d. IsWhereTold d.state.rows (K.told keeper)) }
+        ensures rows { IfOk result (λ d. IsWhereTold d.state.rows (K.told d.keeper)) }
         ensures read { IfOk result (λ d. unread_policy d.state.rows ≡ None) }
         ensures still { IfOk result (λ d. StillTells (K.told keeper) (K.told d.keeper)) }
         ensures later { IfOk result (λ d. K.faults keeper ≤ K.faults d.keeper) }
@@ -149,7 +150,7 @@ impl<K: Keeper> Desk<K> {
         ensures fault { IfErr result (λ e. e.0 ≡ OpenFault.KeeperFault
             → Rose (K.faults keeper) (K.faults e.1)) }
         ensures damaged { IfErr result (λ e. (kind : _) (id : ℕ) → e.0 ≡ OpenFault.Damaged kind id
-            → IfSome (K.told keeper)
+            → IfSome (K.told e.1)
             (λ rows. unread_policy rows ≡ Some (record { kind = kind; id = id }))) }
     {
         match load_beginning(alloc, &mut keeper, moment) {
@@ -183,6 +184,7 @@ impl<K: Keeper> Desk<K> {
             (keeping_of K.told K.faults K.calls self.new.keeper) }
         ensures later { K.faults self.old.keeper ≤ K.faults self.new.keeper }
         ensures told { IsWhereTold self.new.state.rows (K.told self.new.keeper) }
+        ensures before { ToldBefore (K.told self.old.keeper) (K.told self.new.keeper) }
     {
         let room = make_room(
             &mut self.tables,
@@ -232,6 +234,7 @@ impl<K: Keeper> Desk<K> {
             (keeping_of K.told K.faults K.calls self.new.keeper) }
         ensures later { K.faults self.old.keeper ≤ K.faults self.new.keeper }
         ensures told { IsWhereTold self.new.state.rows (K.told self.new.keeper) }
+        ensures before { ToldBefore (K.told self.old.keeper) (K.told self.new.keeper) }
     {
         let Decision {
             change,

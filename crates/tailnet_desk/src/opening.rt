@@ -89,13 +89,13 @@ pub(crate) fn beginning_of(
 
 /// The tables that the keeper has.
 fn load_tables<K: Keeper>(alloc: Global, keeper: &mut K) -> Result<Tables, OpenFault>
-    ensures rows { IfOk result (λ tables. IsWhereTold tables.rows (K.told keeper.old)) }
+    ensures rows { IfOk result (λ tables. IsWhereTold tables.rows (K.told keeper.new)) }
     ensures still { StillTells (K.told keeper.old) (K.told keeper.new) }
     ensures later { K.faults keeper.old ≤ K.faults keeper.new }
     ensures fault { IfErr result (λ e. e ≡ OpenFault.KeeperFault
         → Rose (K.faults keeper.old) (K.faults keeper.new)) }
     ensures damaged { IfErr result (λ e. (kind : _) (id : ℕ) → e ≡ OpenFault.Damaged kind id
-        → K.told keeper.old ≡ None) }
+        → K.told keeper.new ≡ None) }
 {
     match keeper.load(alloc) {
         Ok(tables) => Ok(tables),
@@ -114,14 +114,14 @@ pub(crate) fn load_beginning<K: Keeper>(
     ensures policy { IfOk result (λ made. made.1.policy ≡ policy_in made.0.rows) }
     ensures presence { IfOk result (λ made. made.1.presence.0
         ≡ map (λ m. offline_at now m.id) made.0.rows.machines) }
-    ensures rows { IfOk result (λ made. IsWhereTold made.0.rows (K.told keeper.old)) }
+    ensures rows { IfOk result (λ made. IsWhereTold made.0.rows (K.told keeper.new)) }
     ensures read { IfOk result (λ made. unread_policy made.0.rows ≡ None) }
     ensures still { StillTells (K.told keeper.old) (K.told keeper.new) }
     ensures later { K.faults keeper.old ≤ K.faults keeper.new }
     ensures fault { IfErr result (λ e. e ≡ OpenFault.KeeperFault
         → Rose (K.faults keeper.old) (K.faults keeper.new)) }
     ensures damaged { IfErr result (λ e. (kind : _) (id : ℕ) → e ≡ OpenFault.Damaged kind id
-        → IfSome (K.told keeper.old)
+        → IfSome (K.told keeper.new)
         (λ rows. unread_policy rows ≡ Some (record { kind = kind; id = id }))) }
 {
     let tables = load_tables(alloc, keeper)?;

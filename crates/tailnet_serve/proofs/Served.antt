@@ -6,6 +6,7 @@ use Rattle.io_edge.specs.Edge.{IsWhereTold, Rose, StillTells}
 use Rattle.io_edge.specs.declared.faults.EdgeFault.{EdgeFault}
 use Rattle.io_edge.specs.declared.faults.EdgeFault.TheVariants.{Failed, NoMemory}
 use Rattle.net_rows.proofs.Sounds.{sound_of}
+use Rattle.row_keeper.proofs.Told.{told_before}
 use Rattle.settings.specs.declared.fields.SettingsFields.{SettingsFields}
 use Rattle.tailnet_desk.specs.Opening.{opening}
 use Rattle.tailnet_desk.specs.Seated.{Point}
@@ -73,7 +74,7 @@ module _ (settings : SettingsFields) (old new : Outside) (mid : OpenerTold) (aft
         rows = p.state.rows;
         sound = sound;
         asked = s.asked ∙ opened.asked;
-        rows_told = opened.rows_told;
+        rows_told = λ tells. opened.rows_told (stands.before (told_before s.final.keeping.told new.rows s.told tells));
         moment = opened.moment;
         moment_told = opened.moment_told;
         keeping = p.keeping;

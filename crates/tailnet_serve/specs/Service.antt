@@ -1,5 +1,5 @@
 -- What a hub's workers did: one legal history, for every schedule of their threads.
-use Rattle.std.specs.Prelude.{◌≡◌, ◌≤◌, ◌<◌, ◌+◌, ◌⊎◌, ◌||◌, ℕ, ℤ, Bool, true, false, Option, None, Some, List, [], ◌∷◌, length, map, IfSome}
+use Rattle.std.specs.Prelude.{◌≡◌, ◌≤◌, ◌<◌, ◌+◌, ◌⊎◌, ◌||◌, ℕ, ℤ, Bool, true, false, Option, None, Some, List, [], ◌∷◌, length, map, IfSome, IsSome}
 use Rattle.std.specs.Option.{option_map}
 use Rattle.moments.specs.Moments.{clamped}
 use Rattle.io_edge.specs.Asked.{and_asked}
@@ -126,7 +126,7 @@ pub record Service (failed starved : Bool) (settings : SettingsFields) (old new 
   pub rows : Rows
   pub sound : AreSound rows
   pub asked : IsAskedFor settings old new
-  pub rows_told : IsWhereTold rows old.rows
+  pub rows_told : IsSome new.rows → IsWhereTold rows old.rows
   pub moment : ℤ
   pub moment_told : IsWhereTold moment (option_map clamped (old.told.giving.answers 0))
   -- what is told of the keeper after the load, and the state and the keeper at the end
@@ -161,6 +161,7 @@ pub record IsDeskServed (site : FrontSettings) (limits : WorkLimits) (told : Opt
   pub final : Point
   pub manned : IsManned site limits told start failed starved hub workers left final word_faults word_faults_after
   pub rows : IsWhereTold final.state.rows opener_after.rows
+  pub told : StillTells final.keeping.told opener_after.rows
   pub asked : opener_after.asked ≡ opener.asked
   pub rose : RoseBy final.keeping.faults opener.faults opener_after.faults
   pub doors_left : IsToldOfEach (map (λ (d : DoorTold). d.coming) left) doors_after.coming

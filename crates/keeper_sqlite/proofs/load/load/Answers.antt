@@ -13,3 +13,6 @@ pub returns-clause-damaged : goal.returns-clause-damaged
 returns-clause-damaged g c =
     read_damaged (state g.S.Store c.args.conn.now) (state g.S.Store c.load_tables.new.conn) c.load_tables.result (c.load_tables.ensures.still (c.is_autocommit.ensures.settled (search rules)))
     (λ rows clean holds. c.load_tables.ensures.whole clean rows holds.keeps holds.readable holds.sound) c.load_tables.ensures.first_whole
+
+pub returns-clause-keeps : goal.returns-clause-keeps
+returns-clause-keeps g c known = c.load_tables.ensures.keeps (c.is_autocommit.ensures.settled (search rules)) known

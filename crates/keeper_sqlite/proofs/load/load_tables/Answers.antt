@@ -1,10 +1,11 @@
 use Rattle.net_rows.specs.Rows.{empty_rows}
 use Rattle.net_rows.proofs.Empty.{damage-empty}
-use Rattle.std.proofs.Common.{ap, is_ok, arith}
+use Rattle.std.proofs.Common.{ap, arith, is_ok, subst, sym}
 use Rattle.sqlite.specs.Held.{state}
+use Rattle.keeper_sqlite.specs.Tells.{IsKnown}
 use Rattle.keeper_sqlite.specs.Told.{store_tells}
 use Rattle.keeper_sqlite.proofs.Firsts.{empty_readable}
-use Rattle.keeper_sqlite.proofs.Loading.{still_first, still_seen, still_then}
+use Rattle.keeper_sqlite.proofs.Loading.{known_first, known_seen, still_first, still_seen, still_then}
 use Rattle.keeper_sqlite.proofs.load.load_tables.Goals as goal
 
 pub returns-in-Ok-clause-first_whole : goal.returns-in-Ok-clause-first_whole
@@ -27,3 +28,19 @@ returns-in-Err-clause-still g c rest =
     let mid = state g.S.Store c.prepare.new.conn in
     still_first old mid rest (λ clean none. omega (arith, (c.prepare.ensures.crash clean none).clean, clean)) (λ none clean opened. c.prepare.ensures.left rest none clean opened)
     (λ other. ap (λ h. store_tells (state g.S.Store h)) (c.prepare.ensures.other other))
+
+pub returns-in-Ok-clause-keeps : goal.returns-in-Ok-clause-keeps
+returns-in-Ok-clause-keeps g c rest known =
+    let old = state g.S.Store c.args.conn.now in
+    let mid = state g.S.Store c.prepare.new.conn in
+    let new = state g.S.Store c.read_tables.new.conn in
+    known_seen mid new (is_ok c.read_tables.result) c.read_tables.ensures.seen c.in-Ok.ensures.ours (λ clean. c.in-Ok.ensures.rest clean rest)
+    (known_first old mid (λ clean none. omega (arith, (c.prepare.ensures.crash clean none).clean, clean)) (λ none clean opened. c.prepare.ensures.left rest none clean opened)
+    (λ other. subst (λ h. IsKnown (state g.S.Store h)) (sym (c.prepare.ensures.other other)) known) known)
+
+pub returns-in-Err-clause-keeps : goal.returns-in-Err-clause-keeps
+returns-in-Err-clause-keeps g c rest known =
+    let old = state g.S.Store c.args.conn.now in
+    let mid = state g.S.Store c.prepare.new.conn in
+    known_first old mid (λ clean none. omega (arith, (c.prepare.ensures.crash clean none).clean, clean)) (λ none clean opened. c.prepare.ensures.left rest none clean opened)
+    (λ other. subst (λ h. IsKnown (state g.S.Store h)) (sym (c.prepare.ensures.other other)) known) known

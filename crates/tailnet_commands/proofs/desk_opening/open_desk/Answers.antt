@@ -7,7 +7,7 @@ use Rattle.io_edge.specs.Edge.{IsWhereTold}
 use Rattle.moments.specs.Moments.{clamped}
 use Rattle.settings.specs.declared.fields.SettingsFields.{SettingsFields}
 use Rattle.connections.proofs.AnswerLemmas.{clamped_told}
-use Rattle.tailnet_commands.proofs.RunLemmas.{given_some, kept_given, still_still, where_given}
+use Rattle.tailnet_commands.proofs.RunLemmas.{kept_given, still_some, still_still, where_loaded}
 use Rattle.tailnet_commands.proofs.OpenedLemmas.{unopened}
 use Rattle.tailnet_commands.proofs.desk_opening.open_desk.Goals as goal
 
@@ -24,7 +24,7 @@ returns-in-Ok-open g c =
         rest = c.seconds.ensures.took.rest;
         state = opened.state;
         whole = c.tables-rules.ensures.sound;
-        rows_told = where_given _ (g.P.Opener.told c.args.opener.now) _ c.in-Ok.ensures.gives opened.rows;
+        rows_told = where_loaded _ (g.P.Opener.told c.args.opener.now) _ _ c.in-Ok.ensures.gives opened.still opened.rows;
         kept = kept_given (g.P.Opener.told c.args.opener.now) _ _ c.in-Ok.ensures.gives opened.still;
         asked = c.in-Ok.ensures.asked ∙ ap (and_asked (g.P.Opener.asked c.args.opener.now)) (c.as_str.ensures.value ∙ ap (λ (f : SettingsFields). f.database) c.fields-fields.ensures.value);
         later = c.in-Ok.ensures.later;
@@ -42,5 +42,5 @@ returns-in-Err g c =
           (kept_given (g.P.Opener.told c.args.opener.now) _ (g.P.Opener.told c.close.new.self) gives (still_still _ _ _ failed.kept c.close.ensures.told))
           (c.close.ensures.asked ∙ c.in-Ok.ensures.asked ∙ ap (and_asked (g.P.Opener.asked c.args.opener.now)) (c.as_str.ensures.value ∙ ap (λ (f : SettingsFields). f.database) c.fields-fields.ensures.value))
           (λ h. omega (arith, failed.fault h, c.close.ensures.faults, c.in-Ok.ensures.later, c.in-Ok.ensures.fresh))
-          (λ kind id h. given_some _ (g.P.Opener.told c.args.opener.now) _ gives (failed.damaged kind id h));
+          (λ kind id h. still_some _ _ (g.P.Opener.told c.close.new.self) c.close.ensures.told (failed.damaged kind id h));
     }

@@ -1,4 +1,6 @@
-use Rattle.std.proofs.Common.{◌∙◌, ap, refl, arith}
+use Rattle.std.proofs.Common.{◌∙◌, ap, refl, arith, subst}
+use Rattle.io_edge.specs.Edge.{StillTells}
+use Rattle.row_keeper.proofs.Told.{told_before}
 use Rattle.tailnet_commands.proofs.OpenedLemmas.{unopened_ran}
 use Rattle.tailnet_commands.proofs.RunLemmas.{conversed, where_still}
 use Rattle.tailnet_commands.proofs.running.run.Goals as goal
@@ -16,6 +18,8 @@ returns-in-Ok g c =
           c.seed_desk.ensures.seeded
           serves
           (where_still _ _ (g.P.Opener.told c.close-in-Ok.new.self) c.close-in-Ok.ensures.told c.close.ensures.told)
+          (told_before _ (g.P.Opener.told c.close-in-Ok.new.self)
+          (subst (λ k. StillTells (g.P.Keeper.Keeper.told k) (g.P.Opener.told c.close-in-Ok.new.self)) c.close.ensures.value c.close-in-Ok.ensures.told))
           (omega (arith, c.close-in-Ok.ensures.faults, opened.later, ap g.P.Keeper.Keeper.faults c.close.ensures.value))
           (c.close-in-Ok.ensures.asked ∙ opened.asked);
     }

@@ -1,6 +1,7 @@
 -- The workers of a hub have stopped, or there was no memory for one.
 use Rattle.std.proofs.Common.{◌∙◌, ◌≤◌, ap, arith, subst, sym, map, sum_by}
 use Rattle.io_edge.specs.Door.{IsToldOfEach}
+use Rattle.io_edge.specs.Edge.{StillTells}
 use Rattle.tailnet_commands.proofs.RunLemmas.{where_still}
 use Rattle.tailnet_serve.specs.Works.{DoorTold, door_told}
 use Rattle.tailnet_serve.proofs.Closing.{failed_sum, map_map, rose_by_one, sum_map}
@@ -18,6 +19,7 @@ returns-in-Ok-clause-served g c = λ told start opened split.
       final = _;
       manned = m;
       rows = where_still _ _ (g.P.Opener.told c.close-in-Ok-2.new.self) c.close-in-Ok-2.ensures.told c.close-in-Ok.ensures.told;
+      told = subst (λ k. StillTells (g.P.Keeper.Keeper.told k) (g.P.Opener.told c.close-in-Ok-2.new.self)) c.close-in-Ok.ensures.value c.close-in-Ok-2.ensures.told;
       asked = c.close-in-Ok-2.ensures.asked;
       rose = omega (arith, c.close-in-Ok-2.ensures.faults, ap g.P.Keeper.Keeper.faults c.close-in-Ok.ensures.value);
       doors_left = subst (λ z. IsToldOfEach z (g.D.Doors.coming c.close.new.self)) (sym (map_map at (λ (d : DoorTold). d.coming) left)) c.close.ensures.coming;

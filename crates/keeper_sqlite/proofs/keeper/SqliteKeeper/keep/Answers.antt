@@ -2,18 +2,15 @@ use Rattle.std.proofs.Common.{◌≡◌, arith, rules, subst, sym}
 use Rattle.io_edge.specs.Edge.{StillTells}
 use Rattle.sqlite.specs.Held.{state}
 use Rattle.keeper_sqlite.specs.Told.{store_tells}
-use Rattle.keeper_sqlite.proofs.Changing.{known_ok, still_err, still_ok}
+use Rattle.keeper_sqlite.proofs.Changing.{known_after, still_err, still_ok}
+use Rattle.keeper_sqlite.proofs.Loading.{kept_known, kept_on}
 use Rattle.keeper_sqlite.proofs.keeper.SqliteKeeper.keep.Goals as goal
 
 pub returns-in-Ok-clause-still_ok : goal.returns-in-Ok-clause-still_ok
-returns-in-Ok-clause-still_ok g c known sound =
-    still_ok (state g.S.Store c.args.self.now.conn) (state g.S.Store c.commit.new.conn) c.args.change.now (λ clean. omega (arith, c.commit.ensures.crash.clean, clean)) c.commit.ensures.opened known sound
-    c.in-Ok.ensures.made c.in-Ok.ensures.readable
-
-pub returns-in-Ok-clause-known : goal.returns-in-Ok-clause-known
-returns-in-Ok-clause-known g c known sound =
-    known_ok (state g.S.Store c.args.self.now.conn) (state g.S.Store c.commit.new.conn) c.args.change.now (λ clean. omega (arith, c.commit.ensures.crash.clean, clean)) c.commit.ensures.opened known sound
-    c.in-Ok.ensures.made c.in-Ok.ensures.readable
+returns-in-Ok-clause-still_ok g c =
+    let old = state g.S.Store c.args.self.now.conn in
+    still_ok old (state g.S.Store c.commit.new.conn) c.args.change.now (λ clean. omega (arith, c.commit.ensures.crash.clean, clean)) c.commit.ensures.opened
+    (kept_known c.args.self.now.is_loaded old (search rules) c.args.self.now.is_known_once_loaded) c.requires.sound c.in-Ok.ensures.made c.in-Ok.ensures.readable
 
 pub returns-in-Err-NoMemory-clause-still_err : goal.returns-in-Err-NoMemory-clause-still_err
 returns-in-Err-NoMemory-clause-still_err g c =
@@ -25,3 +22,12 @@ returns-in-Err-Failed-clause-still_err g c =
     let same : c.raise-in-Err-Failed.new.self.conn ≡ c.commit.new.conn = search rules in
     subst (λ h. StillTells (store_tells old) (store_tells (state g.S.Store h))) (sym same)
     (still_err old (state g.S.Store c.commit.new.conn) (λ clean. omega (arith, c.commit.ensures.crash.clean, clean)) c.commit.ensures.opened c.in-Err-Failed.ensures.err)
+
+pub invariant_of-self : goal.invariant_of-self
+invariant_of-self g c =
+    let old = state g.S.Store c.args.self.now.conn in
+    let new = state g.S.Store c.commit.new.conn in
+    record {
+      is_known_once_loaded = kept_on c.args.self.now.is_loaded old new c.args.self.now.is_known_once_loaded
+          (known_after old new c.args.change.now c.commit.result (λ clean. omega (arith, c.commit.ensures.crash.clean, clean)) c.commit.ensures.opened c.requires.sound c.commit.ensures.made c.commit.ensures.err c.commit.ensures.readable);
+    }

@@ -15,7 +15,7 @@ advance-requires-clause-entry g c =
     let r = rests me c.self.invariant.0 c.self.invariant.1 in
     may_enter (Replays at) r.0 me c.draw_ticket-ticket.new.place.me c.take_desk-desk.new.place.me c.take_desk-desk.result c.run-reply.new.desk c.draw_ticket-ticket.result _
     r.1 c.draw_ticket-ticket.ensures.drawn c.take_desk-desk.ensures.has c.self.invariant.2
-    (λ ls s. replay_more (at r.0) (at c.take_desk-desk.result) (at c.run-reply.new.desk) ls _ (ap (λ z. (at z).keeping.faults) c.of-before.ensures) refl c.run-reply.ensures.turn.call s)
+    (λ ls s. replay_more (at r.0) (at c.take_desk-desk.result) (at c.run-reply.new.desk) ls _ (ap (λ z. (at z).keeping.faults) c.of-before.ensures) refl c.run-reply.ensures.turn s)
 
 pub returns : goal.returns
 returns g c =
@@ -26,7 +26,7 @@ returns g c =
       turn = subst (λ z. IsSeatTurn z (record { hub = record { table = c.advance.new.place.table_id; start = option_map at c.advance.new.place.me.0.start }; name = c.self.inside.name; names = c.advance.new.place.me.0.names; seen = c.advance.new.place.me.0.seen }) (event_of c.args.call.now) c.run-reply.result) c.self.view_is
           (turned (Replays at) r.0 me c.draw_ticket-ticket.new.place.me c.take_desk-desk.new.place.me c.take_desk-desk.result c.run-reply.new.desk c.draw_ticket-ticket.result _
           r.1 c.draw_ticket-ticket.ensures.drawn c.take_desk-desk.ensures.has c.self.invariant.2
-          (λ ls s. replay_more (at r.0) (at c.take_desk-desk.result) (at c.run-reply.new.desk) ls _ (ap (λ z. (at z).keeping.faults) c.of-before.ensures) refl c.run-reply.ensures.turn.call s)
+          (λ ls s. replay_more (at r.0) (at c.take_desk-desk.result) (at c.run-reply.new.desk) ls _ (ap (λ z. (at z).keeping.faults) c.of-before.ensures) refl c.run-reply.ensures.turn s)
           at (λ ls h. h.legal) c.advance.new.place.me c.self.inside.place.table_id c.advance.new.place.table_id _ _ c.advance.ensures.entered (c.advance.ensures.same.0 ∙ c.take_desk-desk.ensures.same.0 ∙ c.draw_ticket-ticket.ensures.same.0)
           refl refl);
       kind = c.run-reply.ensures.kind;
@@ -40,9 +40,9 @@ invariant_of-self g c =
     rested at c.advance.new.place.me r.0 _ me.0.names c.self.inside.name c.self.inside.count
     (after_is (Replays at) r.0 me c.draw_ticket-ticket.new.place.me c.take_desk-desk.new.place.me c.take_desk-desk.result c.run-reply.new.desk c.draw_ticket-ticket.result _
     r.1 c.draw_ticket-ticket.ensures.drawn c.take_desk-desk.ensures.has c.self.invariant.2
-    (λ ls s. replay_more (at r.0) (at c.take_desk-desk.result) (at c.run-reply.new.desk) ls _ (ap (λ z. (at z).keeping.faults) c.of-before.ensures) refl c.run-reply.ensures.turn.call s)
+    (λ ls s. replay_more (at r.0) (at c.take_desk-desk.result) (at c.run-reply.new.desk) ls _ (ap (λ z. (at z).keeping.faults) c.of-before.ensures) refl c.run-reply.ensures.turn s)
     c.advance.new.place.me c.advance.ensures.entered)
     c.self.invariant.2 c.self.invariant.3
     (entry_there (Replays at) r.0 me c.draw_ticket-ticket.new.place.me c.take_desk-desk.new.place.me c.take_desk-desk.result c.run-reply.new.desk c.draw_ticket-ticket.result _
     r.1 c.draw_ticket-ticket.ensures.drawn c.take_desk-desk.ensures.has c.self.invariant.2
-    (λ ls s. replay_more (at r.0) (at c.take_desk-desk.result) (at c.run-reply.new.desk) ls _ (ap (λ z. (at z).keeping.faults) c.of-before.ensures) refl c.run-reply.ensures.turn.call s)).legal
+    (λ ls s. replay_more (at r.0) (at c.take_desk-desk.result) (at c.run-reply.new.desk) ls _ (ap (λ z. (at z).keeping.faults) c.of-before.ensures) refl c.run-reply.ensures.turn s)).legal

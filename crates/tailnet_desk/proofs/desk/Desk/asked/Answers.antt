@@ -39,5 +39,5 @@ returns-in-Ok g c =
       turn = carried_at g.K.Keeper.told g.K.Keeper.faults g.K.Keeper.calls c.args.self.now c.carry.new.self s desk.keeper
           c.args.ask.now c.args.moment c.args.words c.in-Ok.decision c.carry.result later (ap (λ (d : Seated _). d.keeper) c.self.view_is) c.requires.short
           is (decision_sound s c.args.ask.now c.args.words settings_hold tables_hold c.requires.short)
-          c.carry.ensures.carried c.carry.ensures.later c.carry.ensures.told;
+          c.carry.ensures.carried c.carry.ensures.later c.carry.ensures.told c.carry.ensures.before;
     }
