@@ -1,5 +1,5 @@
 //! Ids that others are looked up among.
-ghost use Rattle.std.specs.Prelude.{◌≡◌};
+ghost use Rattle.std.specs.Prelude.{◌≡◌, true};
 ghost use Rattle.policy_sites.specs.Sites.{is_listed};
 
 use std::marker::Model;
@@ -42,5 +42,23 @@ impl<'a> IdList<'a> {
         } else {
             self.ids.iter().any(|other| *other == id)
         }
+    }
+
+    /// Whether the id stands at that place.
+    fn stands_at(&self, place: usize, id: u32) -> bool
+        ensures listed { result ≡ true → is_listed self.now id ≡ true }
+    {
+        match self.ids.get(place) {
+            Some(there) => *there == id,
+            None => false,
+        }
+    }
+
+    /// Whether the id is one of them. It is looked for at that place first, so that whoever goes over
+    /// ids that rise like these searches for none of them.
+    pub fn has_near(&self, place: usize, id: u32) -> bool
+        ensures value { result ≡ is_listed self.now id }
+    {
+        self.stands_at(place, id) || self.has(id)
     }
 }

@@ -104,10 +104,11 @@ fn site_of(
 }
 
 /// Whether the machine is one of the live ones, whose ids these are.
-pub(crate) fn is_among(live: &IdList<'_>, machine: &Machine) -> bool
+/// Its id is looked for at that place first.
+pub(crate) fn is_among(live: &IdList<'_>, place: usize, machine: &Machine) -> bool
     ensures value { result ≡ is_among live.now machine.now }
 {
-    live.has(machine.id)
+    live.has_near(place, machine.id)
 }
 
 /// Adds the machine's site, where the machine is live.
@@ -123,7 +124,7 @@ fn add_site(
         then site_of (option_copied policy.entry) tables.now.rows.users machine.now ∷ []
         else [])) }
 {
-    if is_among(live, machine) {
+    if is_among(live, sites.len(), machine) {
         sites.push(site_of(alloc, policy, tables, machine)?)
     } else {
         Ok(())
