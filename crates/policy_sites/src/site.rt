@@ -9,7 +9,7 @@ ghost use Rattle.policy_sites.specs.Sites.{AreServedApart, AreDistinct, is_among
 
 use crate::id_list::IdList;
 use net_addr::{Addr, Prefix};
-use net_rows::{Machine, Tables, User};
+use net_rows::{HasId, Machine, Tables, User};
 use policy_rows::Policy;
 use route_rules::{approved, is_exit};
 use std::alloc::Global;
@@ -34,6 +34,14 @@ pub struct Site {
     pub approved: Items<Prefix>,
     /// Whether it is an exit node.
     pub exit: bool,
+}
+
+impl HasId for Site {
+    ghost id = { λ s. s.id };
+
+    fn id(&self) -> u32 {
+        self.id
+    }
 }
 
 /// Whether both machines are untagged and of one login, so that `autogroup:self` joins them.
