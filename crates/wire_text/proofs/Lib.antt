@@ -1,3 +1,4 @@
+pub mod JoinedLemmas
 pub mod MemberLemmas
 pub mod NumeralLemmas
 pub mod Plain

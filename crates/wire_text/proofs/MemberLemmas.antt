@@ -1,5 +1,5 @@
 -- Members that are put from the last on stand in the order in which they are written.
-use Rattle.std.proofs.Common.{◌≡◌, ℕ, List, [], ◌∷◌, ◌++◌, Bool, true, false, refl, sym, ap, ◌∙◌, subst, append-nil, Option, Some, None}
+use Rattle.std.proofs.Common.{◌≡◌, ℕ, List, [], ◌∷◌, ◌++◌, Bool, true, false, refl, sym, ap, Option, Some, None}
 use Rattle.std.specs.Prelude.{⊤}
 use Rattle.std.specs.Ordering.{nat_cmp, match_ordering}
 use Rattle.std.specs.declared.cmp.Ordering.TheVariants.{Less, Equal, Greater}
@@ -7,8 +7,8 @@ use Rattle.std.specs.Cmp.Lexicographic.{slice_cmp}
 use Rattle.serde_json.specs.Data.{Data, Members, no_members, member, put}
 use Rattle.json.specs.Written.{Written}
 use Rattle.wire_text.specs.Parts.{some_member}
-use Rattle.wire_text.specs.Tokens.{Adds, closing_tokens, option_tokens, optional_members}
-use Rattle.wire_text.proofs.TokenLemmas.{next}
+use Rattle.wire_text.specs.Tokens.{Adds, closing_tokens, data_tokens, option_tokens, optional_members}
+use Rattle.wire_text.proofs.TokenLemmas.{recast, then}
 
 -- every name comes behind this one
 abbrev pub AllBehind : List ℕ → Members → Type 0
@@ -50,13 +50,11 @@ behind k (m ∷ ms) h =
     let parts = behind_cmp k m.0 (before_all k ms) h in
     behind_some k m.0 m.1 (optional_members ms) parts.0 (behind k ms parts.1)
 
-some_next : (k : List ℕ) (o : Option Data) (ms : Members) {a b c : Written} → AllBehind k ms → Adds (option_tokens k o) a b → Adds (closing_tokens ms) b c → Adds (closing_tokens (some_member k o ms)) a c
-some_next k None ms {a} {b} {c} h p q = record {
-  before = q.before ∙ p.before;
-  tokens = q.tokens ∙ ap (λ ts. ts ++ closing_tokens ms) (p.tokens ∙ append-nil a.tokens);
-}
-some_next k (Some d) ms {a} {b} {c} h p q = subst (λ m. Adds (closing_tokens m) a c) (sym (put_first k d ms h)) (next d ms p q)
-
 -- an optional member, and then others
+pub option_step : (k : List ℕ) (o : Option Data) (ms : List (List ℕ × Option Data)) → before_all k ms ≡ true → closing_tokens (optional_members ((k, o) ∷ ms)) ≡ option_tokens k o ++ closing_tokens (optional_members ms)
+unfolding data_tokens closing_tokens
+option_step k None ms h = refl
+option_step k (Some d) ms h = ap closing_tokens (put_first k d (optional_members ms) (behind k ms h))
+
 pub next_some : (k : List ℕ) (o : Option Data) (ms : List (List ℕ × Option Data)) {a b c : Written} → before_all k ms ≡ true → Adds (option_tokens k o) a b → Adds (closing_tokens (optional_members ms)) b c → Adds (closing_tokens (optional_members ((k, o) ∷ ms))) a c
-next_some k o ms h p q = some_next k o (optional_members ms) (behind k ms h) p q
+next_some k o ms h p q = recast (sym (option_step k o ms h)) (then p q)

@@ -1,12 +1,10 @@
 -- The members of a response, as a list.
 use Rattle.std.proofs.Common.{List, [], ◌∷◌, ℕ, Option}
 use Rattle.std.specs.Prelude.{codes, option_map}
-use Rattle.serde_json.specs.Data.{Data, string}
+use Rattle.serde_json.specs.Data.{Data}
 use Rattle.tailcfg.specs.declared.response.Response.{Response}
-use Rattle.wire_text.specs.Dns.{dns_data}
-use Rattle.wire_text.specs.Filters.{rule_data}
 use Rattle.wire_text.specs.Nodes.{node_data, patch_data, profile_data}
-use Rattle.wire_text.specs.Parts.{array_data, number_data, some_array}
+use Rattle.wire_text.specs.Parts.{number_data, some_array}
 
 abbrev pub from_profiles : Response → List (List ℕ × Option Data)
 from_profiles r = (codes "UserProfiles", some_array profile_data r.profiles) ∷ []
@@ -25,15 +23,3 @@ from_changed r = (codes "PeersChanged", some_array node_data r.changed) ∷ from
 
 abbrev pub from_peers : Response → List (List ℕ × Option Data)
 from_peers r = (codes "Peers", some_array node_data r.peers) ∷ from_changed r
-
-abbrev pub from_filter : Response → List (List ℕ × Option Data)
-from_filter r = (codes "PacketFilter", option_map (array_data rule_data) r.filter) ∷ from_peers r
-
-abbrev pub from_node : Response → List (List ℕ × Option Data)
-from_node r = (codes "Node", option_map node_data r.node) ∷ from_filter r
-
-abbrev pub from_handle : Response → List (List ℕ × Option Data)
-from_handle r = (codes "MapSessionHandle", option_map string r.handle) ∷ from_node r
-
-abbrev pub from_domain : Response → List (List ℕ × Option Data)
-from_domain r = (codes "Domain", option_map string r.domain) ∷ from_handle r

@@ -11,7 +11,7 @@ use Rattle.std.proofs.lemmas.Map.Lookups.{exact_bytes}
 use Rattle.std.proofs.Math.ListN.{get_or-map}
 use Rattle.json.specs.Token.{key, end_object}
 use Rattle.json.specs.Written.{Written}
-use Rattle.serde_json.specs.Data.{Data, Members, no_members, member, object, put}
+use Rattle.serde_json.specs.Data.{Data, Members, member, object, put}
 use Rattle.tailcfg.specs.declared.dns.DnsRoute.{DnsRoute}
 use Rattle.wire_text.specs.Dns.{resolver_data, routes_data, with_route}
 use Rattle.wire_text.specs.Parts.{array_data}

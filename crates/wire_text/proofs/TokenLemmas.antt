@@ -1,5 +1,5 @@
 -- The tokens of lists and objects, and the text of tokens.
-use Rattle.std.proofs.Common.{◌≡◌, ℕ, List, [], ◌∷◌, ◌++◌, refl, sym, ap, ◌∙◌, ◌==◌, false, length, append_assoc, append-nil}
+use Rattle.std.proofs.Common.{◌≡◌, ℕ, List, [], ◌∷◌, ◌++◌, refl, sym, ap, ap₂, ◌∙◌, ◌==◌, false, length, append_assoc, append-nil}
 use Rattle.std.specs.Prelude.{map}
 use Rattle.json.specs.Token.{Token, key, begin_array, end_array, begin_object, end_object}
 use Rattle.json.specs.Print.{print}
@@ -16,6 +16,11 @@ pub print_data : (d : Data) → print (data_tokens d) ≡ compact_text d
 unfolding data_tokens
 print_data d = print-outline d
 
+-- the bytes that a writer began behind, and the text of the tokens that were added
+pub printed : {bytes made : List ℕ} {ts : List Token} {a b : Written} → a.before ≡ bytes → a.tokens ≡ [] → Adds ts a b → made ≡ b.before ++ print b.tokens → made ≡ bytes ++ print ts
+printed {bytes} {made} {ts} before none wrote text =
+    text ∙ ap₂ (λ xs us. xs ++ print us) (wrote.before ∙ before) (wrote.tokens ∙ ap (λ us. us ++ ts) none)
+
 -- one after the other
 pub then : {xs ys : List Token} {a b c : Written} → Adds xs a b → Adds ys b c → Adds (xs ++ ys) a c
 then {xs} {ys} {a} p q = record {
@@ -23,7 +28,11 @@ then {xs} {ys} {a} p q = record {
   tokens = q.tokens ∙ ap (λ ts. ts ++ ys) p.tokens ∙ append_assoc a.tokens xs ys;
 }
 
-recast : {xs ys : List Token} {a b : Written} → xs ≡ ys → Adds xs a b → Adds ys a b
+-- nothing was added
+pub nothing : {a : Written} → Adds [] a a
+nothing {a} = record { before = refl; tokens = sym (append-nil a.tokens) }
+
+pub recast : {xs ys : List Token} {a b : Written} → xs ≡ ys → Adds xs a b → Adds ys a b
 recast {xs} {ys} {a} same p = record {
   before = p.before;
   tokens = p.tokens ∙ ap (λ ts. a.tokens ++ ts) same;
@@ -50,7 +59,7 @@ unfolding data_tokens
 items_each f [] = refl
 items_each f (x ∷ xs) = ap (λ ts. data_tokens (f x) ++ ts) (items_each f xs) ∙ sym (append_assoc (data_tokens (f x)) (each_tokens f xs) (end_array ∷ []))
 
-array_each : {X : Type 0} (f : X → Data) (xs : List X) → begin_array ∷ (each_tokens f xs ++ end_array ∷ []) ≡ data_tokens (array_data f xs)
+pub array_each : {X : Type 0} (f : X → Data) (xs : List X) → begin_array ∷ (each_tokens f xs ++ end_array ∷ []) ≡ data_tokens (array_data f xs)
 unfolding data_tokens
 array_each f xs = ap (λ ts. begin_array ∷ ts) (sym (items_each f xs))
 

@@ -1,5 +1,6 @@
 pub mod Dns
 pub mod Filters
+pub mod Joined
 pub mod Nodes
 pub mod Parts
 pub mod Registered

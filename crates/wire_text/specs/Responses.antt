@@ -9,15 +9,18 @@ use Rattle.wire_text.specs.Dns.{dns_data}
 use Rattle.wire_text.specs.Filters.{rule_data}
 use Rattle.wire_text.specs.Nodes.{node_data, patch_data, profile_data}
 
--- the members from `Peers` on
-unfoldable pub peer_members : Response → Members
-peer_members r =
-    some_member (codes "Peers") (some_array node_data r.peers) (
+-- the members from `PeersChanged` on
+unfoldable pub changed_members : Response → Members
+changed_members r =
     some_member (codes "PeersChanged") (some_array node_data r.changed) (
     some_member (codes "PeersChangedPatch") (some_array patch_data r.patches) (
     some_member (codes "PeersRemoved") (some_array number_data r.removed) (
     some_member (codes "Seq") (option_map number_data r.seq) (
-    some_member (codes "UserProfiles") (some_array profile_data r.profiles) no_members)))))
+    some_member (codes "UserProfiles") (some_array profile_data r.profiles) no_members))))
+
+-- the members from `Peers` on
+unfoldable pub peer_members : Response → Members
+peer_members r = some_member (codes "Peers") (some_array node_data r.peers) (changed_members r)
 
 -- a response: the members before `Peers`, and those
 unfoldable pub response_data : Response → Data

@@ -1,5 +1,5 @@
 -- The resolvers of single suffixes (`Routes` of `tailcfg.DNSConfig`) in byte order, each suffix once.
-use Rattle.std.specs.Prelude.{ℕ, List, [], ◌∷◌, map, fold}
+use Rattle.std.specs.Prelude.{List, [], ◌∷◌, map, fold}
 use Rattle.std.specs.Borrow.{Bor}
 use Rattle.std.specs.Ordering.{nat_cmp, match_ordering}
 use Rattle.std.specs.Cmp.Lexicographic.{slice_cmp}

@@ -5,7 +5,7 @@ use Rattle.json.specs.Tree.{json_tokens, members_tokens}
 use Rattle.json.specs.Written.{Written}
 use Rattle.serde_json.specs.Data.{Data, Members, no_members}
 use Rattle.serde_json.specs.Written.{outline, members_outline}
-use Rattle.wire_text.specs.Parts.{some_array, some_member}
+use Rattle.wire_text.specs.Parts.{some_member}
 
 -- the tokens of a value
 unfoldable pub data_tokens : Data → List Token

@@ -6,6 +6,7 @@ mod addr_text;
 mod dns;
 mod filter;
 mod groups;
+mod joined;
 mod json_form;
 mod key_text;
 mod lists;
@@ -25,6 +26,7 @@ mod token_form;
 mod values;
 
 pub use dns::record_type;
+pub use joined::{append_before_peers, append_behind_peers, append_node};
 pub use json_form::JsonForm;
 pub use members::put_form;
 pub use parts::text_value;

@@ -1,6 +1,7 @@
 //! Responses of a map session.
 ghost use Rattle.std.specs.Prelude.{◌≡◌, ◌++◌, IfOk, OnOk};
-ghost use Rattle.wire_text.specs.Responses.{peer_members, response_data, response_text as text_of_response};
+ghost use Rattle.wire_text.specs.Joined.{first_tokens};
+ghost use Rattle.wire_text.specs.Responses.{changed_members, peer_members, response_data, response_text as text_of_response};
 ghost use Rattle.wire_text.specs.Tokens.{Adds, closing_tokens, data_tokens};
 
 use crate::marks::{begin_object, end_object};
@@ -11,17 +12,33 @@ use std::alloc::Global;
 use tail_base::{NoMemory, Text};
 use tailcfg::Response;
 
-/// Writes the members from `Peers` on.
-#[tactic(auto, unfolding(crate::specs::Responses::peer_members))]
-fn write_peers(
+/// Writes the opening brace and the members before `Peers`.
+pub(crate) fn write_first(
+    response: &ResponseParts<'_>,
+    room: &mut String,
+    out: &mut Writer,
+) -> Result<(), NoMemory>
+    ensures adds { OnOk result (Adds (first_tokens response.now) out.old out.new) }
+{
+    begin_object(out)?;
+    write_lent("DNSConfig", response.dns, room, out)?;
+    write_lent("Domain", response.domain, room, out)?;
+    write_lent("MapSessionHandle", response.handle, room, out)?;
+    write_lent("Node", response.node, room, out)?;
+    write_lent("PacketFilter", response.filter, room, out)?;
+    Ok(())
+}
+
+/// Writes the members from `PeersChanged` on.
+#[tactic(auto, unfolding(crate::specs::Responses::changed_members))]
+pub(crate) fn write_changed(
     response: &ResponseParts<'_>,
     room: &mut String,
     out: &mut Writer,
 ) -> Result<(), NoMemory>
     ensures adds { OnOk result
-        (Adds (closing_tokens (peer_members response.now)) out.old out.new) }
+        (Adds (closing_tokens (changed_members response.now)) out.old out.new) }
 {
-    write_list("Peers", response.peers, room, out)?;
     write_list("PeersChanged", response.changed, room, out)?;
     write_list("PeersChangedPatch", response.patches, room, out)?;
     write_list("PeersRemoved", response.removed, room, out)?;
@@ -31,7 +48,20 @@ fn write_peers(
     Ok(())
 }
 
-#[tactic(auto, unfolding(crate::specs::Responses::response_data))]
+/// Writes the members from `Peers` on.
+fn write_peers(
+    response: &ResponseParts<'_>,
+    room: &mut String,
+    out: &mut Writer,
+) -> Result<(), NoMemory>
+    ensures adds { OnOk result
+        (Adds (closing_tokens (peer_members response.now)) out.old out.new) }
+{
+    write_list("Peers", response.peers, room, out)?;
+    write_changed(response, room, out)?;
+    Ok(())
+}
+
 fn write_response(
     response: &ResponseParts<'_>,
     room: &mut String,
@@ -40,12 +70,7 @@ fn write_response(
     ensures adds { OnOk result
         (Adds (data_tokens (response_data response.now)) out.old out.new) }
 {
-    begin_object(out)?;
-    write_lent("DNSConfig", response.dns, room, out)?;
-    write_lent("Domain", response.domain, room, out)?;
-    write_lent("MapSessionHandle", response.handle, room, out)?;
-    write_lent("Node", response.node, room, out)?;
-    write_lent("PacketFilter", response.filter, room, out)?;
+    write_first(response, room, out)?;
     write_peers(response, room, out)?;
     Ok(())
 }

@@ -1,18 +1,17 @@
-use Rattle.std.proofs.Common.{[], refl, subst}
-use Rattle.std.specs.Prelude.{codes, option_map}
+use Rattle.std.proofs.Common.{refl, subst, sym}
+use Rattle.std.specs.Prelude.{codes}
 use Rattle.std.specs.Option.{option_copied}
 use Rattle.tailcfg.specs.declared.response.Response.{Response}
-use Rattle.wire_text.specs.Nodes.{node_data, patch_data, profile_data}
-use Rattle.wire_text.specs.Parts.{number_data, some_array}
-use Rattle.wire_text.specs.Responses.{peer_members}
+use Rattle.wire_text.specs.Nodes.{node_data}
+use Rattle.wire_text.specs.Parts.{some_array}
+use Rattle.wire_text.specs.Responses.{changed_members, peer_members}
 use Rattle.wire_text.specs.Tokens.{Adds, closing_tokens}
 use Rattle.wire_text.proofs.MemberLemmas.{next_some}
-use Rattle.wire_text.proofs.ResponseMembers.{from_changed, from_patches, from_profiles, from_removed, from_seq}
-use Rattle.wire_text.proofs.TokenLemmas.{last}
+use Rattle.wire_text.proofs.ResponseMembers.{from_changed}
 use Rattle.wire_text.proofs.response.write_peers.Goals as goal
 
 pub returns : goal.returns
-unfolding peer_members
+unfolding peer_members changed_members
 returns c =
     let i = c.response.inside in
     let r : Response = record {
@@ -29,12 +28,7 @@ returns c =
       profiles = i.profiles.now;
     } in
     record {
-      adds = subst (λ (s : Response). Adds (closing_tokens (peer_members s)) c.args.out.now c.end_object.new.out) c.response.view_is (
+      adds = subst (λ (s : Response). Adds (closing_tokens (peer_members s)) c.args.out.now c.write_changed.new.out) c.response.view_is (
           next_some (codes "Peers") (some_array node_data r.peers) (from_changed r) refl c.in_ok-write_list.ensures.adds (
-          next_some (codes "PeersChanged") (some_array node_data r.changed) (from_patches r) refl c.in_ok-write_list-2.ensures.adds (
-          next_some (codes "PeersChangedPatch") (some_array patch_data r.patches) (from_removed r) refl c.in_ok-write_list-3.ensures.adds (
-          next_some (codes "PeersRemoved") (some_array number_data r.removed) (from_seq r) refl c.in_ok-write_list-4.ensures.adds (
-          next_some (codes "Seq") (option_map number_data r.seq) (from_profiles r) refl c.in_ok-write_option.ensures.adds (
-          next_some (codes "UserProfiles") (some_array profile_data r.profiles) ([]) refl c.in_ok-write_list-5.ensures.adds (
-          last c.in_ok-end_object.ensures.adds)))))));
+          subst (λ (s : Response). Adds (closing_tokens (changed_members s)) c.write_list.new.out c.write_changed.new.out) (sym c.response.view_is) c.in_ok-write_changed.ensures.adds));
     }

@@ -1,6 +1,6 @@
 use Rattle.std.proofs.Common.{List, [], ◌∷◌, ℕ, refl, Option, Some}
 use Rattle.std.specs.Prelude.{codes, option_map}
-use Rattle.serde_json.specs.Data.{Data, boolean, no_members}
+use Rattle.serde_json.specs.Data.{Data, boolean}
 use Rattle.tailcfg.specs.declared.patch.Patch.{Patch}
 use Rattle.wire_text.specs.Parts.{array_data, disco_key_data, endpoint_data, number_data}
 use Rattle.wire_text.specs.Nodes.{patch_data}
