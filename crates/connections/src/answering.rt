@@ -13,6 +13,7 @@ ghost use Rattle.run_ends.specs.Pieces.{Sent};
 use crate::polling::{answer_poll, draw_words};
 use crate::replying::send_reply;
 use desk_front::{Front, Wanted};
+use fresh_maps::NodeTexts;
 use http::StatusCode;
 use http_front::{Request, no_memory_answer, plain_answer};
 use io_edge::{Clock, Entropy, Pause, Sink};
@@ -61,6 +62,7 @@ fn finish_early(sent: Result<(), Closed>) -> Result<(), Closed>
 fn answer_ask<T: Turns, O: Sink, C: Clock, N: Entropy, P: Pause>(
     alloc: Global,
     front: &Front,
+    texts: &mut NodeTexts,
     turns: &mut T,
     output: &mut O,
     clock: &mut C,
@@ -78,7 +80,7 @@ fn answer_ask<T: Turns, O: Sink, C: Clock, N: Entropy, P: Pause>(
     let moment = Moment::clamp(clock.seconds());
     let reply = turns.ask(alloc, ask, moment, words);
     pause.note();
-    send_reply(alloc, front, output, ask, &reply, close)
+    send_reply(alloc, front, texts, output, ask, &reply, close)
 }
 
 /// Writes a fixed answer. Where there is no memory for it the connection ends.
@@ -110,6 +112,7 @@ fn closes(asked: bool, last: bool) -> bool
 fn answer_wanted<T: Turns, O: Sink, C: Clock, N: Entropy, P: Pause>(
     alloc: Global,
     front: &Front,
+    texts: &mut NodeTexts,
     turns: &mut T,
     output: &mut O,
     clock: &mut C,
@@ -144,13 +147,13 @@ fn answer_wanted<T: Turns, O: Sink, C: Clock, N: Entropy, P: Pause>(
         ),
         Wanted::Poll(poll) => finish(
             answer_poll(
-                alloc, front, turns, output, clock, entropy, pause, more, poll, close,
+                alloc, front, texts, turns, output, clock, entropy, pause, more, poll, close,
             ),
             close,
         ),
         Wanted::Ask(ask) => finish(
             answer_ask(
-                alloc, front, turns, output, clock, entropy, pause, ask, close,
+                alloc, front, texts, turns, output, clock, entropy, pause, ask, close,
             ),
             close,
         ),
@@ -162,6 +165,7 @@ fn answer_wanted<T: Turns, O: Sink, C: Clock, N: Entropy, P: Pause>(
 pub(crate) fn answer_request<T: Turns, O: Sink, C: Clock, N: Entropy, P: Pause>(
     alloc: Global,
     front: &Front,
+    texts: &mut NodeTexts,
     turns: &mut T,
     output: &mut O,
     clock: &mut C,
@@ -181,6 +185,7 @@ pub(crate) fn answer_request<T: Turns, O: Sink, C: Clock, N: Entropy, P: Pause>(
         return finish(send(output, no_memory_answer(close)), close);
     };
     answer_wanted(
-        alloc, front, turns, output, clock, entropy, pause, more, request, last, &wanted, close,
+        alloc, front, texts, turns, output, clock, entropy, pause, more, request, last, &wanted,
+        close,
     )
 }

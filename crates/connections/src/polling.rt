@@ -13,6 +13,7 @@ ghost use Rattle.connections.specs.Tellings.{Drew, Giving, giving, taking, telli
 use crate::replying::send_reply;
 use crate::streaming::{complete, send_drained, send_first, send_opening};
 use desk_front::{Front, Poll};
+use fresh_maps::NodeTexts;
 use io_edge::{Clock, Entropy, Pause, Sink};
 use moments::Moment;
 use run_ends::Closed;
@@ -94,6 +95,7 @@ fn detach_poll<T: Turns, C: Clock>(
 /// One further drain and its chunks; says whether another may follow.
 fn send_next<T: Turns, O: Sink, C: Clock>(
     alloc: Global,
+    texts: &mut NodeTexts,
     turns: &mut T,
     output: &mut O,
     clock: &mut C,
@@ -106,13 +108,14 @@ fn send_next<T: Turns, O: Sink, C: Clock>(
         (at output.new clock.new) turns.old turns.new }
 {
     let drained = drain_poll(alloc, turns, clock, machine, handle);
-    send_drained(alloc, output, &drained)
+    send_drained(alloc, texts, output, &drained)
 }
 
 /// Waits for something new and drains, so many times, or until the session has ended. The mark that
 /// is handed in was taken before the last drain, so that no note is lost.
 fn send_further<T: Turns, O: Sink, C: Clock, P: Pause>(
     alloc: Global,
+    texts: &mut NodeTexts,
     turns: &mut T,
     output: &mut O,
     clock: &mut C,
@@ -131,7 +134,7 @@ fn send_further<T: Turns, O: Sink, C: Clock, P: Pause>(
     let mut left = more;
     while left > 0 {
         seen = pause.wait(seen);
-        let goes_on = send_next(alloc, turns, output, clock, machine, handle)?;
+        let goes_on = send_next(alloc, texts, turns, output, clock, machine, handle)?;
         if !goes_on {
             return Ok(());
         }
@@ -157,6 +160,7 @@ struct Stream<'a> {
 /// Begins the stream with these responses, and goes on with further drains.
 fn send_frames<T: Turns, O: Sink, C: Clock, P: Pause>(
     alloc: Global,
+    texts: &mut NodeTexts,
     turns: &mut T,
     output: &mut O,
     clock: &mut C,
@@ -171,9 +175,17 @@ fn send_frames<T: Turns, O: Sink, C: Clock, P: Pause>(
         stream.now.handle.now stream.now.resumed (replies.Frames responses.now)
         (at output.old clock.old) (at output.new clock.new) turns.old turns.new }
 {
-    match send_first(alloc, output, stream.handle, stream.resumed, responses) {
+    match send_first(
+        alloc,
+        texts,
+        output,
+        stream.handle,
+        stream.resumed,
+        responses,
+    ) {
         Ok(()) => send_further(
             alloc,
+            texts,
             turns,
             output,
             clock,
@@ -191,6 +203,7 @@ fn send_frames<T: Turns, O: Sink, C: Clock, P: Pause>(
 fn answer_drain<T: Turns, O: Sink, C: Clock, P: Pause>(
     alloc: Global,
     front: &Front,
+    texts: &mut NodeTexts,
     turns: &mut T,
     output: &mut O,
     clock: &mut C,
@@ -208,6 +221,7 @@ fn answer_drain<T: Turns, O: Sink, C: Clock, P: Pause>(
     match drained {
         Drained::Frames(responses) => send_frames(
             alloc,
+            texts,
             turns,
             output,
             clock,
@@ -216,10 +230,11 @@ fn answer_drain<T: Turns, O: Sink, C: Clock, P: Pause>(
             stream,
             responses.as_slice(),
         ),
-        Drained::Ended => send_opening(alloc, output, stream.handle, stream.resumed),
+        Drained::Ended => send_opening(alloc, texts, output, stream.handle, stream.resumed),
         Drained::NoMemory => send_reply(
             alloc,
             front,
+            texts,
             output,
             &stream.poll.map_ask(),
             &Reply::Lost(Loss::NoMemory),
@@ -232,6 +247,7 @@ fn answer_drain<T: Turns, O: Sink, C: Clock, P: Pause>(
 fn follow<T: Turns, O: Sink, C: Clock, P: Pause>(
     alloc: Global,
     front: &Front,
+    texts: &mut NodeTexts,
     turns: &mut T,
     output: &mut O,
     clock: &mut C,
@@ -247,7 +263,7 @@ fn follow<T: Turns, O: Sink, C: Clock, P: Pause>(
     let mark = pause.mark();
     let drained = drain_poll(alloc, turns, clock, &stream.poll.machine, stream.handle);
     let sent = answer_drain(
-        alloc, front, turns, output, clock, pause, mark, stream, &drained,
+        alloc, front, texts, turns, output, clock, pause, mark, stream, &drained,
     );
     detach_poll(turns, clock, &stream.poll.machine, stream.handle);
     pause.note();
@@ -265,6 +281,7 @@ fn further_of(may_wait: bool, more: u32) -> u32
 fn refuse_poll<O: Sink>(
     alloc: Global,
     front: &Front,
+    texts: &mut NodeTexts,
     output: &mut O,
     poll: &Poll,
     reply: &Reply,
@@ -274,13 +291,14 @@ fn refuse_poll<O: Sink>(
         (O.write_faults output.old) (O.write_faults output.new)
         (reply_bytes front.now (map_ask_of poll.now) reply.now close) }
 {
-    send_reply(alloc, front, output, &poll.map_ask(), reply, close)
+    send_reply(alloc, front, texts, output, &poll.map_ask(), reply, close)
 }
 
 /// Answers a poll by what its attach was replied.
 fn answer_attached<T: Turns, O: Sink, C: Clock, P: Pause>(
     alloc: Global,
     front: &Front,
+    texts: &mut NodeTexts,
     turns: &mut T,
     output: &mut O,
     clock: &mut C,
@@ -310,10 +328,10 @@ fn answer_attached<T: Turns, O: Sink, C: Clock, P: Pause>(
                 more: further_of(*may_wait, more),
                 close,
             };
-            follow(alloc, front, turns, output, clock, pause, &stream)
+            follow(alloc, front, texts, turns, output, clock, pause, &stream)
         }
-        Reply::Refused(_) => refuse_poll(alloc, front, output, poll, reply, close),
-        Reply::Lost(_) => refuse_poll(alloc, front, output, poll, reply, close),
+        Reply::Refused(_) => refuse_poll(alloc, front, texts, output, poll, reply, close),
+        Reply::Lost(_) => refuse_poll(alloc, front, texts, output, poll, reply, close),
         Reply::Done(_) | Reply::Frames(_) | Reply::Ended | Reply::Detached => unreachable!(),
     }
 }
@@ -323,6 +341,7 @@ fn answer_attached<T: Turns, O: Sink, C: Clock, P: Pause>(
 pub(crate) fn answer_poll<T: Turns, O: Sink, C: Clock, N: Entropy, P: Pause>(
     alloc: Global,
     front: &Front,
+    texts: &mut NodeTexts,
     turns: &mut T,
     output: &mut O,
     clock: &mut C,
@@ -340,6 +359,6 @@ pub(crate) fn answer_poll<T: Turns, O: Sink, C: Clock, N: Entropy, P: Pause>(
     let reply = attach_poll(alloc, turns, clock, entropy, poll);
     pause.note();
     answer_attached(
-        alloc, front, turns, output, clock, pause, more, poll, &reply, close,
+        alloc, front, texts, turns, output, clock, pause, more, poll, &reply, close,
     )
 }

@@ -5,6 +5,7 @@ ghost use Rattle.run_ends.specs.Pieces.{Sent};
 ghost use Rattle.std.specs.Prelude.{◌≡◌};
 
 use desk_front::Front;
+use fresh_maps::NodeTexts;
 use http_front::{HeadFault, head_fault_answer, no_memory_answer};
 use io_edge::Sink;
 use run_ends::{Closed, send};
@@ -17,6 +18,7 @@ use tailnet_desk::{Ask, Loss, Reply};
 pub(crate) fn send_reply<O: Sink>(
     alloc: Global,
     front: &Front,
+    texts: &mut NodeTexts,
     output: &mut O,
     ask: &Ask,
     reply: &Reply,
@@ -29,7 +31,7 @@ pub(crate) fn send_reply<O: Sink>(
     if let Reply::Lost(Loss::NoMemory) = reply {
         return send(output, no_memory_answer(close));
     }
-    match front.answer(alloc, ask, reply, close) {
+    match front.answer(alloc, texts, ask, reply, close) {
         Ok(bytes) => send(output, &bytes),
         Err(NoMemory) => Err(Closed::NoMemory),
     }

@@ -6,6 +6,7 @@ ghost use Rattle.tailnet_desk.specs.Turns.{IsTurn};
 
 use crate::serving::serve;
 use desk_front::Front;
+use fresh_maps::NodeTexts;
 use io_edge::{Clock, Entropy, NoPause, Sink, Source};
 use row_keeper::Keeper;
 use run_ends::Closed;
@@ -17,6 +18,7 @@ use tailnet_desk::Desk;
 pub fn serve_desk<K: Keeper, I: Source, O: Sink, C: Clock, N: Entropy>(
     alloc: Global,
     front: &Front,
+    texts: &mut NodeTexts,
     requests: u32,
     desk: &mut Desk<K>,
     input: &mut I,
@@ -33,6 +35,6 @@ pub fn serve_desk<K: Keeper, I: Source, O: Sink, C: Clock, N: Entropy>(
         (at input.new output.new clock.new entropy.new) (point desk.old) (point desk.new) }
 {
     serve(
-        alloc, front, requests, desk, input, output, clock, entropy, &NoPause, 0,
+        alloc, front, texts, requests, desk, input, output, clock, entropy, &NoPause, 0,
     )
 }

@@ -7,6 +7,7 @@ ghost use Rattle.connections.specs.Connection.{Goes, IsConnection, told};
 use crate::answering::answer_request;
 use crate::replying::send_refusal;
 use desk_front::Front;
+use fresh_maps::NodeTexts;
 use http_front::{Buffer, HeadFault, Taken, take_request};
 use io_edge::{Clock, Entropy, Pause, Sink, Source};
 use run_ends::Closed;
@@ -28,6 +29,7 @@ fn refuse<O: Sink>(alloc: Global, output: &mut O, fault: HeadFault) -> Closed
 fn serve_one<T: Turns, I: Source, O: Sink, C: Clock, N: Entropy, P: Pause>(
     alloc: Global,
     front: &Front,
+    texts: &mut NodeTexts,
     turns: &mut T,
     input: &mut I,
     output: &mut O,
@@ -55,7 +57,7 @@ fn serve_one<T: Turns, I: Source, O: Sink, C: Clock, N: Entropy, P: Pause>(
     match take_request(alloc, input, buffer) {
         Taken::Request(request) => {
             answer_request(
-                alloc, front, turns, output, clock, entropy, pause, more, &request, last,
+                alloc, front, texts, turns, output, clock, entropy, pause, more, &request, last,
             )
         }
         Taken::End => Err(Closed::End),
@@ -72,6 +74,7 @@ fn serve_one<T: Turns, I: Source, O: Sink, C: Clock, N: Entropy, P: Pause>(
 pub fn serve<T: Turns, I: Source, O: Sink, C: Clock, N: Entropy, P: Pause>(
     alloc: Global,
     front: &Front,
+    texts: &mut NodeTexts,
     requests: u32,
     turns: &mut T,
     input: &mut I,
@@ -97,6 +100,7 @@ pub fn serve<T: Turns, I: Source, O: Sink, C: Clock, N: Entropy, P: Pause>(
         match serve_one(
             alloc,
             front,
+            texts,
             turns,
             input,
             output,

@@ -7,7 +7,7 @@ ghost use Rattle.tailnet_desk.specs.Step.{drain_reply};
 ghost use Rattle.connections.specs.Polled.{Completed, GoesOn};
 ghost use Rattle.connections.specs.Polls.{chunks_for, drained_bytes, greeting_bytes, stream_ending, stream_opening};
 
-use fresh_maps::frame_bytes;
+use fresh_maps::{NodeTexts, frame_bytes};
 use http_chunks::{chunk_of, last_chunk, stream_head};
 use io_edge::Sink;
 use map_delta::greeting;
@@ -18,29 +18,43 @@ use tailcfg::Response;
 use tailnet_desk::Drained;
 
 /// A response's frame as a chunk.
-fn response_chunk(alloc: Global, response: &Response) -> Result<Vec<u8>, NoMemory>
+fn response_chunk(
+    alloc: Global,
+    texts: &mut NodeTexts,
+    response: &Response,
+) -> Result<Vec<u8>, NoMemory>
     ensures value { IfOk result (λ made. made.items ≡ chunks.chunk_of (frame_of response.now)) }
 {
-    let frame = frame_bytes(alloc, response)?;
+    let frame = frame_bytes(alloc, texts, response)?;
     chunk_of(alloc, &frame)
 }
 
 /// The greeting of a client whose session goes on.
-fn greeting_chunk(alloc: Global, handle: &Text, resumed: bool) -> Result<Vec<u8>, NoMemory>
+fn greeting_chunk(
+    alloc: Global,
+    texts: &mut NodeTexts,
+    handle: &Text,
+    resumed: bool,
+) -> Result<Vec<u8>, NoMemory>
     ensures value { IfOk result (λ made. made.items ≡ greeting_bytes handle.now resumed) }
 {
     if !resumed {
         return Ok(Vec::new(alloc));
     }
     let handle = handle.copy(alloc)?;
-    response_chunk(alloc, &greeting(alloc, handle))
+    response_chunk(alloc, texts, &greeting(alloc, handle))
 }
 
 /// The head of a stream, and the greeting.
-fn opening_of(alloc: Global, handle: &Text, resumed: bool) -> Result<Vec<u8>, NoMemory>
+fn opening_of(
+    alloc: Global,
+    texts: &mut NodeTexts,
+    handle: &Text,
+    resumed: bool,
+) -> Result<Vec<u8>, NoMemory>
     ensures value { IfOk result (λ made. made.items ≡ stream_opening handle.now resumed) }
 {
-    let greeting = greeting_chunk(alloc, handle, resumed)?;
+    let greeting = greeting_chunk(alloc, texts, handle, resumed)?;
     let mut bytes = Vec::from_slice(alloc, stream_head())?;
     bytes.extend_from_slice(&greeting)?;
     Ok(bytes)
@@ -49,6 +63,7 @@ fn opening_of(alloc: Global, handle: &Text, resumed: bool) -> Result<Vec<u8>, No
 /// Begins a stream.
 pub(crate) fn send_opening<O: Sink>(
     alloc: Global,
+    texts: &mut NodeTexts,
     output: &mut O,
     handle: &Text,
     resumed: bool,
@@ -57,19 +72,24 @@ pub(crate) fn send_opening<O: Sink>(
         (O.write_faults output.old) (O.write_faults output.new)
         (stream_opening handle.now resumed) }
 {
-    match opening_of(alloc, handle, resumed) {
+    match opening_of(alloc, texts, handle, resumed) {
         Ok(bytes) => send(output, &bytes),
         Err(NoMemory) => Err(Closed::NoMemory),
     }
 }
 
 /// Writes a response.
-fn send_response<O: Sink>(alloc: Global, output: &mut O, response: &Response) -> Result<(), Closed>
+fn send_response<O: Sink>(
+    alloc: Global,
+    texts: &mut NodeTexts,
+    output: &mut O,
+    response: &Response,
+) -> Result<(), Closed>
     ensures sent { Sent result (O.holds output.old) (O.holds output.new)
         (O.write_faults output.old) (O.write_faults output.new)
         (chunks.chunk_of (frame_of response.now)) }
 {
-    match response_chunk(alloc, response) {
+    match response_chunk(alloc, texts, response) {
         Ok(bytes) => send(output, &bytes),
         Err(NoMemory) => Err(Closed::NoMemory),
     }
@@ -78,6 +98,7 @@ fn send_response<O: Sink>(alloc: Global, output: &mut O, response: &Response) ->
 /// Writes responses, one after the other.
 fn send_responses<O: Sink>(
     alloc: Global,
+    texts: &mut NodeTexts,
     output: &mut O,
     responses: &[Response],
 ) -> Result<(), Closed>
@@ -85,7 +106,7 @@ fn send_responses<O: Sink>(
         (O.write_faults output.old) (O.write_faults output.new) (chunks_for responses.now) }
 {
     for response in responses {
-        send_response(alloc, output, response)?;
+        send_response(alloc, texts, output, response)?;
     }
     Ok(())
 }
@@ -93,6 +114,7 @@ fn send_responses<O: Sink>(
 /// Begins a stream, and writes its first responses.
 pub(crate) fn send_first<O: Sink>(
     alloc: Global,
+    texts: &mut NodeTexts,
     output: &mut O,
     handle: &Text,
     resumed: bool,
@@ -102,8 +124,8 @@ pub(crate) fn send_first<O: Sink>(
         (O.write_faults output.old) (O.write_faults output.new)
         (stream_opening handle.now resumed ++ chunks_for responses.now) }
 {
-    match send_opening(alloc, output, handle, resumed) {
-        Ok(()) => send_responses(alloc, output, responses),
+    match send_opening(alloc, texts, output, handle, resumed) {
+        Ok(()) => send_responses(alloc, texts, output, responses),
         Err(closed) => Err(closed),
     }
 }
@@ -111,6 +133,7 @@ pub(crate) fn send_first<O: Sink>(
 /// Writes what a further drain came to, and says whether another may follow.
 pub(crate) fn send_drained<O: Sink>(
     alloc: Global,
+    texts: &mut NodeTexts,
     output: &mut O,
     drained: &Drained,
 ) -> Result<bool, Closed>
@@ -121,7 +144,7 @@ pub(crate) fn send_drained<O: Sink>(
 {
     match drained {
         Drained::Frames(responses) => {
-            match send_responses(alloc, output, responses.as_slice()) {
+            match send_responses(alloc, texts, output, responses.as_slice()) {
                 Ok(()) => Ok(true),
                 Err(closed) => Err(closed),
             }

@@ -7,7 +7,7 @@ use admin_wire::{
     extras_text, key_text, keys_text, node_text, nodes_text, swept_text, user_text, users_text,
     waiting_text,
 };
-use fresh_maps::first_frame;
+use fresh_maps::{NodeTexts, first_frame};
 use map_asks::MachineAnswer;
 use policy_asks::PolicyAnswer;
 use std::alloc::Global;
@@ -25,6 +25,7 @@ pub(crate) fn bytes_of(alloc: Global, text: &Text) -> Result<Vec<u8>, NoMemory>
 /// What a machine is answered, with the URL at which the server is reached.
 fn machine_body(
     alloc: Global,
+    texts: &mut NodeTexts,
     server_url: &Text,
     answer: &MachineAnswer,
 ) -> Result<Vec<u8>, NoMemory>
@@ -38,7 +39,7 @@ fn machine_body(
             bytes_of(alloc, &login_at_text(alloc, server_url, pending)?)
         }
         MachineAnswer::Updated => Ok(Vec::new(alloc)),
-        MachineAnswer::Map(view) => first_frame(alloc, view, None, None),
+        MachineAnswer::Map(view) => first_frame(alloc, texts, view, None, None),
     }
 }
 
@@ -83,6 +84,7 @@ fn policy_body(alloc: Global, answer: &PolicyAnswer) -> Result<Vec<u8>, NoMemory
 /// The body of an answer, with the URL at which the server is reached.
 pub(crate) fn answer_body(
     alloc: Global,
+    texts: &mut NodeTexts,
     server_url: &Text,
     answer: &Answer,
 ) -> Result<Vec<u8>, NoMemory>
@@ -90,7 +92,7 @@ pub(crate) fn answer_body(
 {
     match answer {
         Answer::Seeded => bytes_of(alloc, &empty_object(alloc)?),
-        Answer::Machine(answer) => machine_body(alloc, server_url, answer),
+        Answer::Machine(answer) => machine_body(alloc, texts, server_url, answer),
         Answer::Operator(answer) => bytes_of(alloc, &operator_text(alloc, answer)?),
         Answer::Policy(answer) => policy_body(alloc, answer),
     }

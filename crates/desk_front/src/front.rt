@@ -11,6 +11,7 @@ use crate::front_settings::FrontSettings;
 use crate::machine::{header_key, machine_wants};
 use crate::replies::reply_answer;
 use crate::want::Wanted;
+use fresh_maps::NodeTexts;
 use http::StatusCode;
 use http_front::Request;
 use path_routes::{Found, Paths, owner_in};
@@ -111,10 +112,11 @@ impl Front {
     }
 
     /// The bytes of the answer to a reply to an ask; `close` says whether the connection ends after
-    /// it.
+    /// it. Texts of nodes that are kept are copied into a map.
     pub fn answer(
         &self,
         alloc: Global,
+        texts: &mut NodeTexts,
         ask: &Ask,
         reply: &Reply,
         close: bool,
@@ -122,6 +124,6 @@ impl Front {
         ensures value { IfOk result (λ made.
             made.items ≡ reply_bytes self.now ask.now reply.now close) }
     {
-        reply_answer(alloc, &self.settings, ask, reply, close)
+        reply_answer(alloc, texts, &self.settings, ask, reply, close)
     }
 }

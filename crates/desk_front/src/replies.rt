@@ -5,6 +5,7 @@ ghost use Rattle.desk_front.specs.Replies.{is_machine_ask, reply_body, reply_byt
 use crate::bodies::{answer_body, bytes_of};
 use crate::front_settings::FrontSettings;
 use crate::refusals::{loss_body, loss_status, refusal_body, refusal_status};
+use fresh_maps::NodeTexts;
 use http::StatusCode;
 use http_front::plain_answer;
 use std::alloc::Global;
@@ -35,11 +36,16 @@ fn reply_status(is_machine: bool, reply: &Reply) -> StatusCode
     }
 }
 
-fn reply_body(alloc: Global, server_url: &Text, reply: &Reply) -> Result<Vec<u8>, NoMemory>
+fn reply_body(
+    alloc: Global,
+    texts: &mut NodeTexts,
+    server_url: &Text,
+    reply: &Reply,
+) -> Result<Vec<u8>, NoMemory>
     ensures value { IfOk result (λ made. made.items ≡ reply_body server_url.now reply.now) }
 {
     match reply {
-        Reply::Done(answer) => answer_body(alloc, server_url, answer),
+        Reply::Done(answer) => answer_body(alloc, texts, server_url, answer),
         Reply::Attached { .. } | Reply::Frames(_) | Reply::Ended | Reply::Detached => {
             Ok(Vec::new(alloc))
         }
@@ -52,6 +58,7 @@ fn reply_body(alloc: Global, server_url: &Text, reply: &Reply) -> Result<Vec<u8>
 #[tactic(auto, unfolding(crate::specs::Replies::reply_bytes))]
 pub(crate) fn reply_answer(
     alloc: Global,
+    texts: &mut NodeTexts,
     settings: &FrontSettings,
     ask: &Ask,
     reply: &Reply,
@@ -60,7 +67,7 @@ pub(crate) fn reply_answer(
     ensures value { IfOk result (λ made.
         made.items ≡ reply_bytes settings.now ask.now reply.now close) }
 {
-    let body = reply_body(alloc, &settings.server_url, reply)?;
+    let body = reply_body(alloc, texts, &settings.server_url, reply)?;
     let status = reply_status(is_machine_ask(ask), reply);
     plain_answer(alloc, status, &body, close)
 }

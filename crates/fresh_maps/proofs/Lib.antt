@@ -3,3 +3,4 @@ pub mod IsolationLemmas
 pub mod OrderLemmas
 pub mod PeerLemmas
 pub mod ShownLemmas
+pub mod TextLemmas

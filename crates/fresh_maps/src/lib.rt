@@ -5,6 +5,7 @@
 mod frame;
 mod fresh;
 mod laws;
+mod node_texts;
 mod profile;
 mod response;
 mod view;
@@ -12,6 +13,7 @@ mod view;
 pub use frame::{first_frame, frame_bytes};
 pub use fresh::{dns_of, fresh_map};
 pub use laws::maps_of_sound_tables;
+pub use node_texts::NodeTexts;
 pub use profile::profile_of;
 pub use response::first_response;
 pub use view::View;

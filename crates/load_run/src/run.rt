@@ -21,6 +21,7 @@ use crate::task::{LoadPlan, Task, TaskKind, moment_at, request_count, source_aft
 use crate::watched::WatchedDesk;
 use connections::serve;
 use desk_front::Front;
+use fresh_maps::NodeTexts;
 use io_edge::{MemorySink, MemorySource, NoPause, Sink};
 use row_keeper::Keeper;
 use run_ends::Closed;
@@ -66,6 +67,7 @@ fn route_after(kind: TaskKind, route: Option<u8>) -> Option<u8>
 fn serve_message<K: Keeper>(
     alloc: Global,
     front: &Front,
+    texts: &mut NodeTexts,
     watched: &mut WatchedDesk<K>,
     words: &mut CountedWords,
     message: &Text,
@@ -88,7 +90,7 @@ fn serve_message<K: Keeper>(
     let mut input = MemorySource::new(bytes, Items::new(alloc));
     let mut clock = StillClock { seconds };
     match serve(
-        alloc, front, 1, watched, &mut input, answer, &mut clock, words, &NoPause, 0,
+        alloc, front, texts, 1, watched, &mut input, answer, &mut clock, words, &NoPause, 0,
     ) {
         Closed::End => Ok(()),
         Closed::Early => Err(Stopped::Early),
@@ -102,6 +104,7 @@ impl<K: Keeper> Run<K> {
         &mut self,
         alloc: Global,
         front: &Front,
+        texts: &mut NodeTexts,
         message: &Text,
         seconds: i64,
     ) -> Result<(), Stopped>
@@ -120,6 +123,7 @@ impl<K: Keeper> Run<K> {
         if let Err(stopped) = serve_message(
             alloc,
             front,
+            texts,
             &mut self.watched,
             &mut self.words,
             message,
@@ -173,6 +177,7 @@ impl<K: Keeper> Run<K> {
         &mut self,
         alloc: Global,
         front: &Front,
+        texts: &mut NodeTexts,
         plan: &LoadPlan,
         number: u64,
     ) -> Result<(), Stopped>
@@ -195,7 +200,7 @@ impl<K: Keeper> Run<K> {
             return Err(Stopped::NoMemory);
         };
         let seconds = moment_at(plan, number);
-        if let Err(stopped) = self.serve_task(alloc, front, &message, seconds) {
+        if let Err(stopped) = self.serve_task(alloc, front, texts, &message, seconds) {
             return Err(stopped);
         }
         let Ok(()) = self.learn(alloc, &task) else {
@@ -222,9 +227,10 @@ impl<K: Keeper> Run<K> {
         ensures ready { OnOk result (IsLoadReady plan.now (tasks.request_count plan.now) self.new) }
     {
         let count = request_count(plan);
+        let mut texts = NodeTexts::new(alloc);
         let mut number = 0;
         while number < count {
-            if let Err(stopped) = self.serve_next(alloc, front, plan, number) {
+            if let Err(stopped) = self.serve_next(alloc, front, &mut texts, plan, number) {
                 return Err(stopped);
             }
             number += 1;

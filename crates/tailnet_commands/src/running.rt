@@ -8,6 +8,7 @@ use crate::desk_opening::open_desk;
 use crate::seeding::seed_desk;
 use connections::serve_desk;
 use desk_front::Front;
+use fresh_maps::NodeTexts;
 use io_edge::{Clock, Entropy, Sink, Source};
 use row_keeper::Opener;
 use run_ends::Ended;
@@ -41,8 +42,9 @@ pub(crate) fn run<I: Source, O: Sink, P: Opener, C: Clock, N: Entropy>(
     match open_desk(alloc, settings, opener, clock) {
         Ok(mut desk) => {
             seed_desk(alloc, &mut desk, clock, seed);
+            let mut texts = NodeTexts::new(alloc);
             let closed = serve_desk(
-                alloc, front, requests, &mut desk, input, output, clock, entropy,
+                alloc, front, &mut texts, requests, &mut desk, input, output, clock, entropy,
             );
             opener.close(desk.close());
             Ended::Closed(closed)

@@ -5,6 +5,7 @@ ghost use Rattle.tailnet_serve.specs.Runs.{IsSeatStep};
 
 use connections::serve;
 use desk_front::Front;
+use fresh_maps::NodeTexts;
 use io_edge::{Clock, Entropy, Pause, Sink, Source};
 use row_keeper::Keeper;
 use run_ends::Closed;
@@ -16,6 +17,7 @@ use std::sync::Wait;
 fn serve_turns<'a, R: Wait, K: Keeper, I: Source, O: Sink, C: Clock, N: Entropy, A: Pause>(
     alloc: Global,
     front: &Front,
+    texts: &mut NodeTexts,
     requests: u32,
     turns: &mut HubTurns<'a, R, K>,
     input: &mut I,
@@ -35,7 +37,7 @@ fn serve_turns<'a, R: Wait, K: Keeper, I: Source, O: Sink, C: Clock, N: Entropy,
         turns.old.seat.now turns.new.seat.now }
 {
     serve(
-        alloc, front, requests, turns, input, output, clock, entropy, pause, more,
+        alloc, front, texts, requests, turns, input, output, clock, entropy, pause, more,
     )
 }
 
@@ -46,6 +48,7 @@ pub fn serve_seat<R: Wait, K: Keeper, I: Source, O: Sink, C: Clock, N: Entropy, 
     rt: &R,
     alloc: Global,
     front: &Front,
+    texts: &mut NodeTexts,
     requests: u32,
     hub: &Hub<K>,
     seat: &mut Seat<K>,
@@ -66,6 +69,6 @@ pub fn serve_seat<R: Wait, K: Keeper, I: Source, O: Sink, C: Clock, N: Entropy, 
 {
     let mut turns = HubTurns { rt, hub, seat };
     serve_turns(
-        alloc, front, requests, &mut turns, input, output, clock, entropy, pause, more,
+        alloc, front, texts, requests, &mut turns, input, output, clock, entropy, pause, more,
     )
 }

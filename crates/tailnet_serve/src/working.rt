@@ -6,6 +6,7 @@ ghost use Rattle.tailnet_serve.specs.Works.{HasPlaces, IsTaken, IsWorked, door_t
 use crate::seat_serving::serve_seat;
 use crate::worker::{Report, Stop, WorkLimits, Worker};
 use desk_front::Front;
+use fresh_maps::NodeTexts;
 use io_edge::{Clock, Door, Entropy, Failed, Pause};
 use row_keeper::Keeper;
 use run_ends::Closed;
@@ -46,6 +47,7 @@ fn serve_next<R: Wait, K: Keeper, D: Door, C: Clock, N: Entropy, A: Pause>(
     rt: &R,
     alloc: Global,
     front: &Front,
+    texts: &mut NodeTexts,
     limits: &WorkLimits,
     hub: &Hub<K>,
     pause: &A,
@@ -66,6 +68,7 @@ fn serve_next<R: Wait, K: Keeper, D: Door, C: Clock, N: Entropy, A: Pause>(
                 rt,
                 alloc,
                 front,
+                texts,
                 limits.requests,
                 hub,
                 &mut worker.seat,
@@ -101,8 +104,10 @@ fn serve_door<R: Wait, K: Keeper, D: Door, C: Clock, N: Entropy, A: Pause>(
 {
     let mut left = limits.connections;
     let mut starved = false;
+    // What is kept of nodes serves all connections of the worker.
+    let mut texts = NodeTexts::new(alloc);
     for _ in rt.forever() {
-        match serve_next(rt, alloc, front, limits, hub, pause, worker) {
+        match serve_next(rt, alloc, front, &mut texts, limits, hub, pause, worker) {
             Taking::Over => {
                 return Report {
                     stop: Stop::Over,

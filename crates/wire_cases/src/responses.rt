@@ -1,6 +1,6 @@
 //! The texts of `tailcfg`'s own names, as a client reads them, and the frames that carry them.
 use crate::parts::{dns, empty, node, one, patch, profile, rule};
-use fresh_maps::frame_bytes;
+use fresh_maps::{NodeTexts, frame_bytes};
 use std::alloc::Global;
 use std::test::Fail;
 use tail_base::{Duplicate, Items, NoMemory, Text};
@@ -137,7 +137,7 @@ fn frame_if(
     response: &Response,
 ) -> Result<Vec<u8>, NoMemory> {
     filled?;
-    frame_bytes(alloc, response)
+    frame_bytes(alloc, &mut NodeTexts::new(alloc), response)
 }
 
 /// A response that greets, as a frame.
