@@ -11,15 +11,17 @@ ghost use Rattle.fresh_maps.specs.Profiles.{owners_of};
 use crate::profile::owners_of;
 use crate::view::View;
 use filter_compile::filter_for;
-use peer_view::{LiveMachine, World, own_row, routers_of, sees_machine, shown};
+use peer_view::{LiveMachine, Near, World, add_shown, own_row, routers_of, sees_machine};
 use policy_sites::Site;
 use std::alloc::Global;
 use tail_base::{Duplicate, Items, NoMemory};
 use tailcfg::{Dns, NodeRow, Profile};
 
-/// Adds the live machine of the site, if the viewer sees it.
+/// Adds the live machine of the site, if the viewer sees it. It is looked for where it is expected behind
+/// that of the site before.
 fn add_visible<'b>(
     visible: &mut Items<LiveMachine<'b>>,
+    near: &mut Near,
     world: &'b World<'_>,
     viewer: &LiveMachine<'_>,
     site: &'b Site,
@@ -29,7 +31,7 @@ fn add_visible<'b>(
     ensures ok { OnOk result (visible.new ≡ visible.old
         ++ node_seen world.now viewer.now (node_with world.now site.now.id)) }
 {
-    let Some(peer) = world.machine_at(site) else {
+    let Some(peer) = world.machine_at(near, site) else {
         return Ok(());
     };
     if sees_machine(world, viewer, &peer) {
@@ -51,9 +53,11 @@ fn visible_of<'b>(
     let expanded = world.expanded();
     // For what it promises, that nodes go by id.
     let _users = world.users();
-    let mut visible = Items::new(alloc);
-    for site in expanded.sites() {
-        add_visible(&mut visible, world, viewer, site)?;
+    let sites = expanded.sites();
+    let mut visible = Items::from_vec(Vec::with_capacity(alloc, sites.len())?);
+    let mut near = Near::first();
+    for site in sites {
+        add_visible(&mut visible, &mut near, world, viewer, site)?;
     }
     Ok(visible)
 }
@@ -70,9 +74,9 @@ fn peers_of(
     let visible = visible_of(alloc, world, viewer)?;
     let visible = visible.as_slice();
     let routers = routers_of(alloc, world, viewer, visible)?;
-    let mut peers = Items::new(alloc);
+    let mut peers = Items::from_vec(Vec::with_capacity(alloc, visible.len())?);
     for peer in visible {
-        peers.push(shown(alloc, world, viewer, &routers, peer)?)?;
+        add_shown(alloc, &mut peers, world, viewer, &routers, peer)?;
     }
     Ok(peers)
 }

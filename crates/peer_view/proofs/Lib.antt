@@ -4,6 +4,7 @@ pub mod GrantLaws
 pub mod IsolationLaws
 pub mod ListLemmas
 pub mod LiveLaws
+pub mod NearLemmas
 pub mod OpenLaws
 pub mod ReachLaws
 pub mod RouterLaws

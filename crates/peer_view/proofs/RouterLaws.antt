@@ -10,10 +10,10 @@ use Rattle.policy_rows.specs.Internet.{is_internet}
 use Rattle.policy_sites.specs.Sites.{AreServedApart}
 use Rattle.route_rules.specs.Exits.{has_route}
 use Rattle.route_rules.specs.Serving.{exits_if}
-use Rattle.peer_view.specs.Nodes.{node_of, own_addresses}
+use Rattle.peer_view.specs.Nodes.{own_addresses}
 use Rattle.peer_view.specs.Routers.{has_routes, routers_of}
 use Rattle.peer_view.specs.Seen.{Node, Seen, sees, sites_seen, visible}
-use Rattle.peer_view.specs.Shown.{IsUnheld, choice, granted_into, is_choice, offers, or_else, shown, shown_exits, shown_routes}
+use Rattle.peer_view.specs.Shown.{IsUnheld, choice, granted_into, is_choice, offers, or_else, shown_exits, shown_routes}
 use Rattle.peer_view.specs.declared.routers.Routers.{Routers}
 use Rattle.peer_view.proofs.GrantLaws.{exit_free}
 use Rattle.peer_view.proofs.ListLemmas.{filter_member, map_member}
@@ -53,16 +53,15 @@ exits_same w viewer p seen =
       | inr not ↦ rw not refl
     ]
 
--- The row of a peer, by the routers of the viewer's map; the last is what the code has at hand.
-pub row_by_routers : (w : Seen) (viewer p : Node) (routers : Routers) → routers ≡ routers_of w viewer → Contains (visible w viewer) p → (routes : List Block) (exit : Bool)
-    → routes ≡ shown_routes w viewer routers.machines p → exit ≡ (p.site.exit && routers.exits)
-    → (domain : List ℕ) (allowed : List Block) (q : Node) → domain ≡ w.settings.base_domain → allowed ≡ own_addresses p.row ++ routes ++ exits_if exit → q ≡ p
-    → node_of domain allowed q.online q.row ≡ shown w viewer (visible w viewer) p
-row_by_routers w viewer p routers are seen routes exit by last domain allowed q named made same =
-    let all : routes ≡ shown_routes w viewer (visible w viewer) p = by ∙ (ap (λ (x : Routers). shown_routes w viewer x.machines p) are ∙ routes_same w viewer (visible w viewer) p) in
+-- the prefixes through a peer, by the routers of the viewer's map
+pub prefixes_by_routers : (w : Seen) (viewer p : Node) (routers : Routers) → routers ≡ routers_of w viewer → Contains (visible w viewer) p → (machines : List Node) → machines ≡ routers.machines → (routes : List Block) (exit : Bool)
+    → routes ≡ shown_routes w viewer machines p → exit ≡ (p.site.exit && routers.exits)
+    → own_addresses p.row ++ routes ++ exits_if exit ≡ own_addresses p.row ++ shown_routes w viewer (visible w viewer) p ++ shown_exits w viewer p
+prefixes_by_routers w viewer p routers are seen machines ms routes exit by last =
+    let all : routes ≡ shown_routes w viewer (visible w viewer) p =
+    by ∙ (ap (λ (ns : List Node). shown_routes w viewer ns p) ms ∙ (ap (λ (x : Routers). shown_routes w viewer x.machines p) are ∙ routes_same w viewer (visible w viewer) p)) in
     let both : exit ≡ (p.site.exit && granted_into w viewer is_internet) = last ∙ (ap (λ (x : Routers). p.site.exit && x.exits) are ∙ exits_same w viewer p seen) in
-    let whole : allowed ≡ own_addresses p.row ++ shown_routes w viewer (visible w viewer) p ++ shown_exits w viewer p = made ∙ (λ i. own_addresses p.row ++ all i ++ exits_if (both i)) in
-    λ i. node_of (named i) (whole i) (same i).online (same i).row
+    λ i. own_addresses p.row ++ all i ++ exits_if (both i)
 
 -- no machine has an address of the internet where the viewer sees an exit node
 pub seen_exit_free : (w : Seen) (viewer : Node) (machines : List Node) → machines ≡ visible w viewer → AreServedApart (sites_seen w) → list_any (λ (q : Node). q.site.exit) machines ≡ true → IsUnheld (sites_seen w) is_internet

@@ -4,6 +4,7 @@ use Rattle.net_addr.specs.Bits.{Block}
 use Rattle.net_addr.specs.Blocks.{prefix_of_addr}
 use Rattle.net_rows.specs.declared.machine.Machine.{Machine}
 use Rattle.tailcfg.specs.declared.node_row.NodeRow.{NodeRow}
+use Rattle.peer_view.specs.declared.node.NodeCopies.{NodeCopies}
 use Rattle.peer_view.specs.declared.node.TheConstants.{TAGGED_OWNER}
 
 -- the machine's two addresses
@@ -20,6 +21,16 @@ owner_of m = if is_tagged m then TAGGED_OWNER else m.user
 -- a machine's whole name: its label, a dot, the base domain, and a dot
 abbrev pub full_name : List ℕ → List ℕ → List ℕ
 full_name label domain = label ++ codes "." ++ domain ++ codes "."
+
+-- what of its node is a copy, beside where packets may be sent
+abbrev pub copies_of : List ℕ → Machine → NodeCopies
+copies_of domain m = record {
+  name = full_name m.name domain;
+  host = m.host;
+  addresses = own_addresses m;
+  endpoints = m.endpoints;
+  tags = m.tags;
+}
 
 -- the node of a machine, where packets may be sent through it, and whether it is online
 abbrev pub node_of : List ℕ → List Block → Bool → Machine → NodeRow

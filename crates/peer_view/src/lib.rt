@@ -4,6 +4,7 @@
 mod by_id;
 mod laws;
 mod machine;
+mod near;
 mod node;
 mod pair;
 mod routers;
@@ -17,9 +18,10 @@ pub use laws::{
     machines_without_routes_change_no_row, reach_is_local, sight_is_mutual_and_by_rules,
 };
 pub use machine::LiveMachine;
+pub use near::Near;
 pub use node::TAGGED_OWNER;
 pub use pair::{pair_test, sees, sees_machine};
 pub use routers::{Routers, routers_of};
-pub use shown_rows::{own_row, shown};
+pub use shown_rows::{add_shown, own_row, shown};
 pub use steps::Steps;
 pub use world::World;

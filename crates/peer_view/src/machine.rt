@@ -1,6 +1,7 @@
 //! Live machines.
 ghost use Rattle.std.specs.Prelude.{◌≡◌};
 
+use crate::near::Spot;
 use net_rows::Machine;
 use policy_sites::Site;
 use std::marker::Model;
@@ -11,6 +12,8 @@ pub struct LiveMachine<'a> {
     pub row: &'a Machine,
     pub site: &'a Site,
     pub online: bool,
+    /// At which place the site is looked for first.
+    pub(crate) place: usize,
 }
 
 impl<'a> Model for LiveMachine<'a> {
@@ -30,6 +33,17 @@ impl<'a> LiveMachine<'a> {
             row: self.row,
             site: self.site,
             online: self.online,
+            place: self.place,
+        }
+    }
+
+    /// Its id, and where its site is looked for.
+    pub(crate) fn spot(&self) -> Spot
+        ensures id { result.id ≡ self.now.row.id }
+    {
+        Spot {
+            id: self.row.id,
+            place: self.place,
         }
     }
 }

@@ -4,13 +4,14 @@ ghost use Rattle.peer_view.specs.Seen.{node_reaches, of_ids, sees};
 
 use crate::by_id::id_reaches;
 use crate::machine::LiveMachine;
+use crate::near::Spot;
 use crate::steps::Steps;
 use crate::world::World;
 use std::sync::ledger::Ledger;
 
 /// Whether the machine of one id reaches that of the other.
-fn reaches(world: &World<'_>, a: u32, b: u32) -> bool
-    ensures value { result ≡ of_ids (node_reaches world.now) world.now a b }
+fn reaches(world: &World<'_>, a: Spot, b: Spot) -> bool
+    ensures value { result ≡ of_ids (node_reaches world.now) world.now a.id b.id }
 {
     let expanded = world.expanded;
     // For what it promises, that rules are sound.
@@ -26,7 +27,7 @@ pub fn pair_test<L: Ledger>(world: &World<'_>, a: u32, b: u32, steps: &mut Steps
     ensures cost { steps.new ≡ steps.old + 1 }
 {
     steps.tick();
-    reaches(world, a, b)
+    reaches(world, Spot { id: a, place: 0 }, Spot { id: b, place: 0 })
 }
 
 /// Whether the machine of one id sees that of the other: both are live, they differ, and one reaches
@@ -46,14 +47,15 @@ pub fn sees<L: Ledger>(world: &World<'_>, viewer: u32, peer: u32, steps: &mut St
     pair_test(world, peer, viewer, steps)
 }
 
-/// Whether one live machine sees the other. It takes no memory.
+/// Whether one live machine sees the other. Their sites are looked for where they were found. It takes no
+/// memory.
 pub fn sees_machine(world: &World<'_>, viewer: &LiveMachine<'_>, peer: &LiveMachine<'_>) -> bool
     requires viewer { Contains world.now.nodes viewer.now }
     requires peer { Contains world.now.nodes peer.now }
     ensures value { result ≡ sees world.now viewer.now peer.now }
 {
-    let (a, b) = (viewer.row.id, peer.row.id);
-    if a == b {
+    let (a, b) = (viewer.spot(), peer.spot());
+    if a.id == b.id {
         return false;
     }
     // For what it promises, that nodes go by id.

@@ -7,7 +7,7 @@ ghost use Rattle.policy_sites.specs.ByRule.{target_of};
 ghost use Rattle.peer_view.specs.Seen.{sites_seen};
 ghost use Rattle.peer_view.specs.Shown.{IsUnheld, choice, granted_into, is_choice, is_shown, offers};
 
-use crate::by_id::site_place;
+use crate::by_id::place_near;
 use crate::machine::LiveMachine;
 use crate::world::World;
 use net_addr::Prefix;
@@ -28,7 +28,7 @@ pub(crate) fn is_granted(
     let expanded = world.expanded;
     // For what it promises, that rules are sound.
     let _rules = expanded.rules();
-    match site_place(expanded.sites(), viewer.site.id) {
+    match place_near(expanded.sites(), viewer.place, viewer.site.id) {
         Ok(place) => expanded.sends_into(place, target),
         Err(_) => unreachable!(),
     }

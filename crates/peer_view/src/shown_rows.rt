@@ -4,10 +4,10 @@ ghost use Rattle.route_rules.specs.Serving.{exits_if};
 ghost use Rattle.peer_view.specs.Nodes.{own_addresses};
 ghost use Rattle.peer_view.specs.Routers.{routers_of};
 ghost use Rattle.peer_view.specs.Seen.{visible};
-ghost use Rattle.peer_view.specs.Shown.{own_row, shown, shown_routes};
+ghost use Rattle.peer_view.specs.Shown.{own_row, shown, shown_exits, shown_routes};
 
 use crate::machine::LiveMachine;
-use crate::node::{node_of, own_addresses};
+use crate::node::{add_node, add_own, node_of};
 use crate::routers::Routers;
 use crate::routes::is_shown;
 use crate::world::World;
@@ -50,7 +50,9 @@ fn allowed_of(
     ensures value { IfOk result (λ made. made
         ≡ own_addresses machine.now.row ++ routes.now ++ exits_if exit) }
 {
-    let mut allowed = own_addresses(alloc, machine.row)?;
+    let room = routes.len().saturating_add(if exit { 4 } else { 2 });
+    let mut allowed = Items::from_vec(Vec::with_capacity(alloc, room)?);
+    add_own(&mut allowed, machine.row)?;
     add_all(&mut allowed, routes)?;
     add_exits(&mut allowed, exit)?;
     Ok(allowed)
@@ -91,8 +93,9 @@ fn shown_routes(
     ensures value { IfOk result (λ made. made
         ≡ shown_routes world.now viewer.now machines.now peer.now) }
 {
-    let mut out = Items::new(alloc);
-    for route in peer.site.approved.as_slice() {
+    let approved = peer.site.approved.as_slice();
+    let mut out = Items::from_vec(Vec::with_capacity(alloc, approved.len())?);
+    for route in approved {
         add_if(
             &mut out,
             is_shown(world, viewer, machines, peer, route),
@@ -107,6 +110,28 @@ fn is_shown_exit(routers: &Routers<'_>, peer: &LiveMachine<'_>) -> bool
     ensures value { result ≡ (peer.now.site.exit && routers.now.exits) }
 {
     peer.site.exit && routers.exits
+}
+
+/// The prefixes through the peer that the viewer is shown, which sees it and for which these are the
+/// routers.
+fn shown_prefixes(
+    alloc: Global,
+    world: &World<'_>,
+    viewer: &LiveMachine<'_>,
+    routers: &Routers<'_>,
+    peer: &LiveMachine<'_>,
+) -> Result<Items<Prefix>, NoMemory>
+    requires viewer { Contains world.now.nodes viewer.now }
+    requires routers { routers.now ≡ routers_of world.now viewer.now }
+    requires peer { Contains (visible world.now viewer.now) peer.now }
+    ensures value { IfOk result (λ made. made ≡ own_addresses peer.now.row
+        ++ shown_routes world.now viewer.now (visible world.now viewer.now) peer.now
+        ++ shown_exits world.now viewer.now peer.now) }
+{
+    let routes = shown_routes(alloc, world, viewer, routers.machines.as_slice(), peer)?;
+    let exit = is_shown_exit(routers, peer);
+    let made = allowed_of(alloc, peer, routes.as_slice(), exit)?;
+    Ok(made)
 }
 
 /// The row of a live machine as another one is shown it, which sees it and for which these are the routers.
@@ -125,8 +150,26 @@ pub fn shown(
         ≡ shown world.now viewer.now (visible world.now viewer.now) peer.now) }
 {
     let domain = world.fields().base_domain.as_str();
-    let routes = shown_routes(alloc, world, viewer, routers.machines.as_slice(), peer)?;
-    let exit = is_shown_exit(routers, peer);
-    let allowed = allowed_of(alloc, peer, routes.as_slice(), exit)?;
+    let allowed = shown_prefixes(alloc, world, viewer, routers, peer)?;
     node_of(alloc, domain, allowed, peer.online, peer.row)
+}
+
+/// Adds that row.
+pub fn add_shown(
+    alloc: Global,
+    rows: &mut Items<NodeRow>,
+    world: &World<'_>,
+    viewer: &LiveMachine<'_>,
+    routers: &Routers<'_>,
+    peer: &LiveMachine<'_>,
+) -> Result<(), NoMemory>
+    requires viewer { Contains world.now.nodes viewer.now }
+    requires routers { routers.now ≡ routers_of world.now viewer.now }
+    requires peer { Contains (visible world.now viewer.now) peer.now }
+    ensures ok { OnOk result (rows.new ≡ rows.old
+        ++ shown world.now viewer.now (visible world.now viewer.now) peer.now ∷ []) }
+{
+    let domain = world.fields().base_domain.as_str();
+    let allowed = shown_prefixes(alloc, world, viewer, routers, peer)?;
+    add_node(alloc, rows, domain, allowed, peer.online, peer.row)
 }

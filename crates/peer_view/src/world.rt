@@ -4,8 +4,9 @@ ghost use Rattle.std.specs.Option.{option_copied};
 ghost use Rattle.policy_eval.specs.Expansion.{expansion_of};
 ghost use Rattle.peer_view.specs.Seen.{IsSoundSeen, expansion_seen, node_with, seen_of, sites_seen};
 
-use crate::by_id::site_with;
+use crate::by_id::{machine_near, site_place, site_with};
 use crate::machine::LiveMachine;
+use crate::near::{Near, is_listed_near, next_place};
 use net_rows::{Tables, User};
 use policy_eval::Expanded;
 use policy_rows::Policy;
@@ -96,17 +97,19 @@ impl<'a> World<'a> {
         self.expanded
     }
 
-    /// The live machine of a site.
-    pub fn machine_at<'b>(&'b self, site: &'b Site) -> Option<LiveMachine<'b>>
+    /// The live machine of a site. Its parts are looked for where they are expected to be, and then those
+    /// of the next site's machine behind them.
+    pub fn machine_at<'b>(&'b self, near: &mut Near, site: &'b Site) -> Option<LiveMachine<'b>>
         requires among { Contains (sites_seen self.now) site.now }
         ensures value { result ≡ node_with self.now site.now.id }
     {
-        match self.tables.machine(site.id) {
+        match machine_near(self.tables, &mut near.row, site.id) {
             None => None,
             Some(row) => Some(LiveMachine {
                 row,
                 site,
-                online: self.online.has(site.id),
+                online: is_listed_near(&self.online, &mut near.online, site.id),
+                place: next_place(&mut near.site),
             }),
         }
     }
@@ -115,9 +118,11 @@ impl<'a> World<'a> {
     pub fn machine(&self, id: u32) -> Option<LiveMachine<'_>>
         ensures value { result ≡ node_with self.now id }
     {
-        match site_with(self.expanded.sites(), id) {
+        let sites = self.expanded.sites();
+        let place = site_place(sites, id);
+        match site_with(sites, place, id) {
             None => None,
-            Some(site) => self.machine_at(site),
+            Some(site) => self.machine_at(&mut Near::at(place), site),
         }
     }
 }

@@ -1,12 +1,12 @@
 -- Ids that rise, looked up by halving.
-use Rattle.std.proofs.Common.{◌≡◌, ◌≤◌, ◌==◌, ℕ, Bool, List, true, false, length, get_or, arith, inl, inr, sym}
+use Rattle.std.proofs.Common.{◌≡◌, ◌+◌, ◌-◌, ◌++◌, ◌<◌, ◌≤◌, ◌==◌, ℕ, Bool, List, true, false, length, length-append, get_or, arith, ap, inl, inr, sym, ◌∙◌}
 use Rattle.std.specs.Prelude.{Result, Ok, Err, Some}
-use Rattle.std.specs.List.{IsAllAdjacentAnswer, list_any}
+use Rattle.std.specs.List.{IsAllAdjacentAnswer, SameBelow, TailFrom, list_any}
 use Rattle.std.specs.List.Sorted.{IsBinarySearchResult, IsNonDecreasingBy, IsSearchInRange}
 use Rattle.std.specs.Ordering.{is_le, is_some_and, nat_cmp, ordering_index}
 use Rattle.std.specs.declared.cmp.Ordering.TheVariants.{Less, Equal, Greater}
 use Rattle.std.specs.Result.{is_ok}
-use Rattle.std.proofs.lemmas.Bool.{cases_lt}
+use Rattle.std.proofs.lemmas.Bool.{cases_lt, ne_eqb}
 use Rattle.std.proofs.lemmas.Bool.Decides.{nat_tests}
 use Rattle.std.proofs.lemmas.List.Folds.{list_any_at, list_any_none}
 use Rattle.std.proofs.lemmas.List.Sorted.{non_decreasing_from_is_sorted}
@@ -39,3 +39,24 @@ found_by_halves ids k (Err i) up inside at =
 pub found_to_rise : (ids : List ℕ) (r : Bool) → IsAllAdjacentAnswer (λ x y b. is_some_and is_le (Some (nat_cmp x y)) ≡ b) ids r → r ≡ true → IsNonDecreasingBy (λ id. id) ids
 found_to_rise ids true h e = non_decreasing_from_is_sorted ids true h
 found_to_rise ids false h e = cc
+
+-- ids that rise past another have it neither among those before a place nor among those behind
+pub risen_past : (ids before behind : List ℕ) (k i : ℕ) → IsNonDecreasingBy (λ id. id) ids → ids ≡ before ++ behind → length before ≡ i → SameBelow ids before i → TailFrom ids behind i
+    → (0 < length before → (d : ℕ) → get_or before (length before - 1) d < k) → (0 < length behind → (d : ℕ) → k < get_or behind 0 d) → list_any (λ other. other == k) ids ≡ false
+risen_past ids before behind k i up whole len front back below above =
+    let sum : length ids ≡ length before + length behind = ap length whole ∙ length-append before behind in
+    list_any_none (λ other. other == k) ids (λ j d here.
+    elim (cases_lt j i) [
+      | inl left ↦
+          let last : get_or before (length before - 1) d < k = below (omega arith) d in
+          let place : length before - 1 ≡ i - 1 = omega arith in
+          let same : get_or before (length before - 1) d ≡ get_or ids (i - 1) d = ap (λ n. get_or before n d) place ∙ front (i - 1) d (omega arith) in
+          let less : get_or ids j d ≤ get_or ids (i - 1) d = up j (i - 1) d (omega arith) (omega arith) in
+          ne_eqb (get_or ids j d) k (λ e. absurd (omega arith))
+      | inr right ↦
+          let first : k < get_or behind 0 d = above (omega arith) d in
+          let place : i + 0 ≡ i = omega arith in
+          let same : get_or behind 0 d ≡ get_or ids i d = back 0 d ∙ ap (λ n. get_or ids n d) place in
+          let more : get_or ids i d ≤ get_or ids j d = up i j d right here in
+          ne_eqb (get_or ids j d) k (λ e. absurd (omega arith))
+    ])

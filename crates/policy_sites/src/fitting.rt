@@ -52,27 +52,29 @@ fn same_place(site: &Site, machine: &Machine) -> bool
         && site.v6 == machine.v6
 }
 
-/// Whether the site is the machine's.
+/// Whether the site is the machine's. The user is looked up last.
 fn same_site(tables: &Tables, site: &Site, machine: &Machine) -> bool
     ensures value { result ≡ same_site tables.now.rows.users site.now machine.now }
 {
     same_place(site, machine)
-        && has_login_of(site.login.as_slice(), tables.user(machine.user))
         && same_tags(site.tags.as_slice(), machine.tags.as_slice())
         && same_routes(site, machine)
+        && has_login_of(site.login.as_slice(), tables.user(machine.user))
 }
 
-/// The sites behind that of the machine, which is the first if the machine is live; None if it isn't.
+/// The sites behind that of the machine, which is the first if the machine is live; None if it isn't. The
+/// machine's id is looked for at that place first.
 fn sites_behind<'a>(
     tables: &Tables,
     live: &IdList<'_>,
+    place: usize,
     machine: &Machine,
     sites: &'a [Site],
 ) -> Option<&'a [Site]>
     ensures behind { IfSome (option_copied result)
         (IsBehind tables.now.rows.users live.now machine.now sites.now) }
 {
-    if !is_among(live, machine) {
+    if !is_among(live, place, machine) {
         return Some(sites);
     }
     let (site, rest) = sites.split_first()?;
@@ -90,7 +92,9 @@ fn are_sites_of(tables: &Tables, live: &IdList<'_>, machines: &[Machine], sites:
 {
     let mut rest = sites;
     for machine in machines {
-        let Some(behind) = sites_behind(tables, live, machine, rest) else {
+        // So many machines before it were live, and as many ids stand before its own.
+        let place = sites.len().saturating_sub(rest.len());
+        let Some(behind) = sites_behind(tables, live, place, machine, rest) else {
             return false;
         };
         rest = behind;

@@ -9,7 +9,7 @@ ghost use Rattle.policy_sites.specs.Sites.{AreServedApart, AreDistinct, is_among
 
 use crate::id_list::IdList;
 use net_addr::{Addr, Prefix};
-use net_rows::{Machine, Tables, User};
+use net_rows::{HasId, Machine, Tables, User};
 use policy_rows::Policy;
 use route_rules::{approved, is_exit};
 use std::alloc::Global;
@@ -34,6 +34,14 @@ pub struct Site {
     pub approved: Items<Prefix>,
     /// Whether it is an exit node.
     pub exit: bool,
+}
+
+impl HasId for Site {
+    ghost id = { λ s. s.id };
+
+    fn id(&self) -> u32 {
+        self.id
+    }
 }
 
 /// Whether both machines are untagged and of one login, so that `autogroup:self` joins them.
@@ -104,10 +112,11 @@ fn site_of(
 }
 
 /// Whether the machine is one of the live ones, whose ids these are.
-pub(crate) fn is_among(live: &IdList<'_>, machine: &Machine) -> bool
+/// Its id is looked for at that place first.
+pub(crate) fn is_among(live: &IdList<'_>, place: usize, machine: &Machine) -> bool
     ensures value { result ≡ is_among live.now machine.now }
 {
-    live.has(machine.id)
+    live.has_near(place, machine.id)
 }
 
 /// Adds the machine's site, where the machine is live.
@@ -123,7 +132,7 @@ fn add_site(
         then site_of (option_copied policy.entry) tables.now.rows.users machine.now ∷ []
         else [])) }
 {
-    if is_among(live, machine) {
+    if is_among(live, sites.len(), machine) {
         sites.push(site_of(alloc, policy, tables, machine)?)
     } else {
         Ok(())

@@ -23,11 +23,11 @@ pub enum Status {
     Damaged,
     /// Memory was refused.
     NoMemory,
-    /// A door failed. No command has doors yet.
+    /// Listening failed.
     DoorFault,
     /// A policy has a fault.
     Refused,
-    /// The random source failed before a door was asked. No command has doors yet.
+    /// The random source failed before a listener was asked.
     EntropyFault,
 }
 

@@ -40,6 +40,9 @@ pub struct Desk<K: Keeper> {
     pub(crate) settings: Settings,
     pub(crate) tables: Tables,
     pub(crate) policy: InForce,
+    /// When the policy was seen to be expanded over the live machines, if nothing has changed since. It
+    /// only saves looking again: what needs the expansion looks whether it fits.
+    expanded_at: Option<Moment>,
     pub(crate) presence: Shelf<MachinePresence>,
     pub(crate) sessions: Sessions,
     pub(crate) time: Moment,
@@ -110,6 +113,15 @@ fn is_map(ask: &Ask) -> bool {
     }
 }
 
+/// The moment if the decision leaves all that an expansion depends on.
+fn unless_decided<A>(moment: Option<Moment>, decision: &Decision<A>) -> Option<Moment> {
+    let rests = decision.change.is_none()
+        && decision.policy.is_none()
+        && decision.ended.is_empty()
+        && decision.offline.is_empty();
+    if rests { moment } else { None }
+}
+
 /// An answer that isn't given is let go here.
 fn let_go(_answer: Answer) {}
 
@@ -158,6 +170,7 @@ impl<K: Keeper> Desk<K> {
                 settings,
                 tables,
                 policy: InForce::new(policy),
+                expanded_at: None,
                 presence,
                 sessions: Sessions::new(alloc),
                 time: moment,
@@ -236,6 +249,7 @@ impl<K: Keeper> Desk<K> {
         ensures told { IsWhereTold self.new.state.rows (K.told self.new.keeper) }
         ensures before { ToldBefore (K.told self.old.keeper) (K.told self.new.keeper) }
     {
+        self.expanded_at = unless_decided(self.expanded_at, &decision);
         let Decision {
             change,
             policy,
@@ -261,9 +275,9 @@ impl<K: Keeper> Desk<K> {
         }
     }
 
-    /// Expands the policy over the machines that are live at the moment, unless it is so already.
-    /// Contracts see no change. Out of memory is told by what needs it.
-    pub(crate) fn expand(&mut self, alloc: Global, moment: Moment)
+    /// Expands the policy over the machines that are live at that time, unless it is so already, and
+    /// says whether there was memory for it.
+    fn expand_over(&mut self, alloc: Global, time: Moment) -> Result<(), NoMemory>
         ensures same { self.new ≡ self.old }
     {
         let at = Snapshot {
@@ -272,10 +286,20 @@ impl<K: Keeper> Desk<K> {
             policy: &self.policy,
             presence: &self.presence,
             sessions: &self.sessions,
-            time: self.time.or_later(moment),
+            time,
         };
-        if let Ok(live) = live_ids(alloc, &at) {
-            let _kept = self.policy.expand(alloc, &self.tables, live.as_slice());
+        let live = live_ids(alloc, &at)?;
+        self.policy.expand(alloc, &self.tables, live.as_slice())
+    }
+
+    /// Expands the policy over the machines that are live at the moment, unless it was seen to be so.
+    /// Contracts see no change. Out of memory is told by what needs it.
+    pub(crate) fn expand(&mut self, alloc: Global, moment: Moment)
+        ensures same { self.new ≡ self.old }
+    {
+        let time = self.time.or_later(moment);
+        if self.expanded_at != Some(time) && self.expand_over(alloc, time).is_ok() {
+            self.expanded_at = Some(time);
         }
     }
 
@@ -338,6 +362,7 @@ impl<K: Keeper> Desk<K> {
             settings: _,
             tables: _,
             policy: _,
+            expanded_at: _,
             presence: _,
             sessions: _,
             time: _,

@@ -10,13 +10,13 @@ use Rattle.fresh_maps.proofs.fresh.visible_of.Goals as goal
 
 pub loop-site-preserved : goal.loop-site-preserved
 loop-site-preserved c =
-    flat_more (λ (s : Site). node_seen c.args.world.now c.args.viewer.now (node_with c.args.world.now s.id)) c.sites-site-items.result.now c.loop-site.site-index c.loop-site.visible _ c.site-item.result _
+    flat_more (λ (s : Site). node_seen c.args.world.now c.args.viewer.now (node_with c.args.world.now s.id)) c.sites-sites.result.now c.loop-site.site-index c.loop-site.visible _ c.site-item.result _
     c.loop-site-test.true c.site-item.is c.loop-site.invariant c.in_ok-add_visible.ensures.ok
 
 pub returns : goal.returns
 returns c =
     let w = c.args.world.now in
     let each = λ (s : Site). node_seen w c.args.viewer.now (node_with w s.id) in
-    let sites = c.sites-site-items.ensures.value ∙ ap (λ (x : Expansion). x.sites) c.expanded-expanded.ensures.value in
-    let done = flat_end each c.sites-site-items.result.now c.sites-site-items.result.now c.loop-site.site-index c.loop-site.visible _ refl c.loop-site-test.false c.loop-site.invariant in
+    let sites = c.sites-sites.ensures.value ∙ ap (λ (x : Expansion). x.sites) c.expanded-expanded.ensures.value in
+    let done = flat_end each c.sites-sites.result.now c.sites-sites.result.now c.loop-site.site-index c.loop-site.visible _ refl c.loop-site-test.false c.loop-site.invariant in
     record { value = done ∙ (ap (λ (ss : List Site). flat_map each ss) sites ∙ gathered_visible w c.args.viewer.now c.users-users.ensures.sound) }

@@ -8,5 +8,5 @@ use Rattle.fresh_maps.proofs.fresh.visible_of.Given as goal
 -- with those that are seen of the machines to come these are all
 abbrev pub invariant-loop-site : goal.invariant-loop-site
 invariant-loop-site l =
-    l.visible ++ flat_map (λ (s : Site). node_seen l.world l.viewer (node_with l.world s.id)) (drop l.site-index l.site-items)
-    ≡ flat_map (λ (s : Site). node_seen l.world l.viewer (node_with l.world s.id)) l.site-items
+    l.visible ++ flat_map (λ (s : Site). node_seen l.world l.viewer (node_with l.world s.id)) (drop l.site-index l.sites)
+    ≡ flat_map (λ (s : Site). node_seen l.world l.viewer (node_with l.world s.id)) l.sites

@@ -7,5 +7,5 @@ returns-in-Ok-Ok c =
     let x = c.args.expanded.now in
     record {
       value = c.reaches.ensures.value any_site
-          ∙ places_reach x.groups x.rules x.sites c.sites-sites.result.now c.args.a c.args.b c.in-Ok-Ok.a c.in-Ok-Ok.b c.sites-sites.ensures.value c.in-Ok-Ok.ensures.there c.in-Ok-Ok.ensures'.there;
+          ∙ places_reach x.groups x.rules x.sites c.sites-sites.result.now c.args.a.id c.args.b.id c.in-Ok-Ok.a c.in-Ok-Ok.b c.sites-sites.ensures.value c.in-Ok-Ok.ensures.there c.in-Ok-Ok.ensures'.there;
     }

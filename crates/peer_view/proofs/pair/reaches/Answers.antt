@@ -13,5 +13,5 @@ returns c =
     let w = c.world.inside in
     record {
       value = world_pair w.settings.now (option_copied w.policy) w.tables.now.rows w.live.now w.online w.expanded.now c.args.world.now c.world.invariant c.world.view_is c.rules-rules.ensures.sound
-          w.expanded.now.groups w.expanded.now.rules w.expanded.now.sites refl refl refl c.args.a c.args.b c.id_reaches.result c.id_reaches.ensures.value;
+          w.expanded.now.groups w.expanded.now.rules w.expanded.now.sites refl refl refl c.args.a.id c.args.b.id c.id_reaches.result c.id_reaches.ensures.value;
     }

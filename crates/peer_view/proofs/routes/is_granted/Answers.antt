@@ -12,8 +12,8 @@ use Rattle.peer_view.proofs.ListLemmas.{map_member}
 use Rattle.peer_view.proofs.WorldLaws.{any_site, expansion_is, world_ascends}
 use Rattle.peer_view.proofs.routes.is_granted.Goals as goal
 
-pub site_place-requires : goal.site_place-requires
-site_place-requires c =
+pub place_near-requires : goal.place_near-requires
+place_near-requires c =
     let w = c.world.inside in
     record { ascending = world_ascends w.expanded.now (option_copied w.policy) w.tables.now.rows w.live.now c.sites.result.now c.world.invariant c.sites.ensures.value }
 
