@@ -1,10 +1,12 @@
 //! Profiles of users.
-ghost use Rattle.std.specs.Prelude.{◌≡◌, ◌∷◌, ◌++◌, [], IfOk, OnOk, OnErr, map, filter, if◌then◌else◌};
+ghost use Rattle.std.specs.Prelude.{◌≡◌, ◌∷◌, ◌++◌, [], ℕ, IfOk, OnOk, OnErr, map, filter, if◌then◌else◌};
 ghost use Rattle.std.specs.Option.{option_copied};
+ghost use Rattle.policy_sites.specs.Sites.{is_listed};
 ghost use Rattle.fresh_maps.specs.Profiles.{display_of, owners_of, owns_any, profile_in, profile_of, tagged_profile, user_profile};
 
 use net_rows::{Tables, User};
 use peer_view::TAGGED_OWNER;
+use policy_sites::IdList;
 use std::alloc::Global;
 use tail_base::{Items, NoMemory, Text};
 use tailcfg::{NodeRow, Profile};
@@ -65,55 +67,81 @@ fn tagged_profile(alloc: Global) -> Result<Profile, NoMemory>
     })
 }
 
-/// Whether one of the nodes belongs to the user of that id.
-fn owns_any(nodes: &[NodeRow], id: u32) -> bool
-    ensures value { result ≡ owns_any nodes.now id }
+/// The ids of those to whom the node and the peers belong.
+fn owners_among(alloc: Global, node: &NodeRow, peers: &[NodeRow]) -> Result<Vec<u32>, NoMemory>
+    ensures value { IfOk result (λ ids. ids.items
+        ≡ node.now.user ∷ map (λ p. p.user) peers.now) }
 {
-    nodes.iter().any(|node| node.user == id)
+    let mut ids = Vec::with_capacity(alloc, peers.len().saturating_add(1))?;
+    ids.push(node.user)?;
+    for peer in peers {
+        ids.push(peer.user)?;
+    }
+    Ok(ids)
 }
 
-/// Whether the node or a peer belongs to the user of that id.
-fn is_owner(node: &NodeRow, peers: &[NodeRow], id: u32) -> bool
-    ensures value { result ≡ owns_any (node.now ∷ peers.now) id }
+/// The same ids in order, among which one is found by halving.
+fn sorted_owners(alloc: Global, node: &NodeRow, peers: &[NodeRow]) -> Result<Vec<u32>, NoMemory>
+    ensures listed { IfOk result (λ ids. (id : ℕ) → is_listed ids.items id
+        ≡ owns_any (node.now ∷ peers.now) id) }
 {
-    node.user == id || owns_any(peers, id)
+    let mut ids = owners_among(alloc, node, peers)?;
+    ids.sort_unstable();
+    Ok(ids)
 }
 
 /// Adds the user's profile, where it is shown.
 fn add_owner(
     alloc: Global,
-    owners: &mut Items<Profile>,
+    shown: &mut Items<Profile>,
     user: &User,
     is_shown: bool,
 ) -> Result<(), NoMemory>
-    ensures ok { OnOk result (owners.new
-        ≡ owners.old ++ (if is_shown then user_profile user.now ∷ [] else [])) }
+    ensures ok { OnOk result (shown.new
+        ≡ shown.old ++ (if is_shown then user_profile user.now ∷ [] else [])) }
 {
     if is_shown {
-        owners.push(user_profile(alloc, user)?)
+        shown.push(user_profile(alloc, user)?)
     } else {
         Ok(())
     }
 }
 
-/// The users that own one of the nodes.
+/// The profiles of the users whose ids are listed.
 fn users_shown(
     alloc: Global,
     users: &[User],
-    node: &NodeRow,
-    peers: &[NodeRow],
+    owners: &IdList<'_>,
 ) -> Result<Items<Profile>, NoMemory>
-    ensures value { IfOk result (λ owners. owners
-        ≡ map user_profile (filter (λ u. owns_any (node.now ∷ peers.now) u.id) users.now)) }
+    ensures value { IfOk result (λ shown. shown
+        ≡ map user_profile (filter (λ u. is_listed owners.now u.id) users.now)) }
 {
-    let mut owners = Items::new(alloc);
+    let mut shown = Items::new(alloc);
     for user in users {
-        add_owner(alloc, &mut owners, user, is_owner(node, peers, user.id))?;
+        add_owner(alloc, &mut shown, user, owners.has(user.id))?;
     }
-    Ok(owners)
+    Ok(shown)
 }
 
-/// The profiles of the users that own the node or a peer, by ascending id.
+/// The same, and behind them the profile of tagged machines, if it is listed.
+fn owners_shown(
+    alloc: Global,
+    users: &[User],
+    owners: &IdList<'_>,
+) -> Result<Items<Profile>, NoMemory>
+    ensures value { IfOk result (λ shown. shown
+        ≡ map user_profile (filter (λ u. is_listed owners.now u.id) users.now)
+        ++ (if is_listed owners.now TAGGED_OWNER then tagged_profile ∷ [] else [])) }
+{
+    let mut shown = users_shown(alloc, users, owners)?;
+    if owners.has(TAGGED_OWNER) {
+        shown.push(tagged_profile(alloc)?)?;
+    }
+    Ok(shown)
+}
+
+/// The profiles of the users that own the node or a peer, by ascending id. The nodes are gone over once,
+/// however many users there are.
 pub(crate) fn owners_of(
     alloc: Global,
     users: &[User],
@@ -122,9 +150,8 @@ pub(crate) fn owners_of(
 ) -> Result<Items<Profile>, NoMemory>
     ensures value { IfOk result (λ owners. owners ≡ owners_of users.now (node.now ∷ peers.now)) }
 {
-    let mut owners = users_shown(alloc, users, node, peers)?;
-    if is_owner(node, peers, TAGGED_OWNER) {
-        owners.push(tagged_profile(alloc)?)?;
-    }
-    Ok(owners)
+    let ids = sorted_owners(alloc, node, peers)?;
+    let owners = IdList::of(ids.as_slice());
+    let shown = owners_shown(alloc, users, &owners)?;
+    Ok(shown)
 }
