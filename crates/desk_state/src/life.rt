@@ -98,11 +98,18 @@ pub fn is_live_with(at: &Snapshot<'_>, presence: Option<Presence>, machine: &Mac
         && (!machine.ephemeral || stays_with(at.settings.fields(), at.time, presence))
 }
 
-/// Whether the machine is live.
+/// Whether the machine is live. Its presence is looked up only if it is ephemeral: others live without
+/// being online.
 pub fn is_live(at: &Snapshot<'_>, machine: &Machine) -> bool
     ensures value { result ≡ is_live at.now machine.now }
 {
-    is_live_with(at, presence_of(at.presence, machine.id), machine)
+    is_ahead(at.time, machine.expiry)
+        && (!machine.ephemeral
+            || stays_with(
+                at.settings.fields(),
+                at.time,
+                presence_of(at.presence, machine.id),
+            ))
 }
 
 /// Adds the machine's id, if it is live.
@@ -121,7 +128,8 @@ fn add_live(at: &Snapshot<'_>, ids: &mut Items<u32>, machine: &Machine) -> Resul
 pub fn live_ids(alloc: Global, at: &Snapshot<'_>) -> Result<Items<u32>, NoMemory>
     ensures value { IfOk result (λ ids. ids ≡ live_ids at.now) }
 {
-    let mut ids = Items::new(alloc);
+    let count = at.tables.machines().len();
+    let mut ids = Items::from_vec(Vec::with_capacity(alloc, count)?);
     for machine in at.tables.machines() {
         add_live(at, &mut ids, machine)?;
     }
