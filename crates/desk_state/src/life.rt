@@ -128,9 +128,9 @@ fn add_live(at: &Snapshot<'_>, ids: &mut Items<u32>, machine: &Machine) -> Resul
 pub fn live_ids(alloc: Global, at: &Snapshot<'_>) -> Result<Items<u32>, NoMemory>
     ensures value { IfOk result (λ ids. ids ≡ live_ids at.now) }
 {
-    let machines = at.tables.machines();
-    let mut ids = Items::from_vec(Vec::with_capacity(alloc, machines.len())?);
-    for machine in machines {
+    let count = at.tables.machines().len();
+    let mut ids = Items::from_vec(Vec::with_capacity(alloc, count)?);
+    for machine in at.tables.machines() {
         add_live(at, &mut ids, machine)?;
     }
     Ok(ids)
