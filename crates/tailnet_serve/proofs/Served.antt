@@ -74,7 +74,7 @@ module _ (settings : SettingsFields) (old new : Outside) (mid : OpenerTold) (aft
         rows = p.state.rows;
         sound = sound;
         asked = s.asked ∙ opened.asked;
-        rows_told = λ tells. opened.rows_told (stands.before (told_before s.final.keeping.told new.rows s.told tells));
+        rows_told = λ tells. opened.rows_told (stands.before (told_before s.final.keeping.told new.rows s.given_back tells));
         moment = opened.moment;
         moment_told = opened.moment_told;
         keeping = p.keeping;

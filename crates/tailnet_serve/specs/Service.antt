@@ -161,7 +161,7 @@ pub record IsDeskServed (site : FrontSettings) (limits : WorkLimits) (told : Opt
   pub final : Point
   pub manned : IsManned site limits told start failed starved hub workers left final word_faults word_faults_after
   pub rows : IsWhereTold final.state.rows opener_after.rows
-  pub told : StillTells final.keeping.told opener_after.rows
+  pub given_back : StillTells final.keeping.told opener_after.rows
   pub asked : opener_after.asked ≡ opener.asked
   pub rose : RoseBy final.keeping.faults opener.faults opener_after.faults
   pub doors_left : IsToldOfEach (map (λ (d : DoorTold). d.coming) left) doors_after.coming
