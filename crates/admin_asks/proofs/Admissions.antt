@@ -19,11 +19,11 @@ use Rattle.desk_state.specs.Tags.{tags_granted}
 use Rattle.desk_state.specs.Users.{user_named}
 use Rattle.desk_state.specs.declared.refusal.Refusal.TheVariants.{NodeKeyTaken, PendingUnknown}
 use Rattle.desk_state.proofs.Proper.{proper_bind, proper_refuse, proper_some}
-use Rattle.machine_rows.specs.Rows.{is_taken, machine_row, place_for, row_change}
-use Rattle.machine_rows.specs.declared.place.Place.{Place}
-use Rattle.machine_rows.proofs.Rests.{admitted_differs}
-use Rattle.machine_rows.proofs.RowLemmas.{EntrantKeeps}
-use Rattle.machine_rows.proofs.SoundChanges.{enter_change}
+use Rattle.desk_state.specs.Rows.{is_taken, machine_row, place_for, row_change}
+use Rattle.desk_state.specs.declared.place.Place.{Place}
+use Rattle.desk_state.proofs.Rests.{admitted_differs}
+use Rattle.desk_state.proofs.RowLemmas.{EntrantKeeps}
+use Rattle.desk_state.proofs.SoundChanges.{enter_change}
 use Rattle.admin_asks.specs.Admit.{admission, admit, entrant_of_entry, timely_entry}
 use Rattle.admin_asks.proofs.NamedLaws.{user_there}
 

@@ -23,7 +23,7 @@ use Rattle.desk_state.specs.declared.refusal.Refusal.TheVariants.{Full, EntropyF
 use Rattle.desk_state.specs.declared.refusal.Scarce.TheVariants as scarce
 use Rattle.desk_state.proofs.Proper.{proper_bind, proper_choice, proper_none, proper_or, proper_refuse, proper_some, same_counters, sound_change}
 use Rattle.desk_state.proofs.TextLemmas.{fresh_key_text, key_text_names}
-use Rattle.machine_rows.proofs.Rests.{put_rests_is}
+use Rattle.desk_state.proofs.Rests.{put_rests_is}
 use Rattle.admin_asks.specs.Keys.{new_key, key_change, added_key, add_key, expiry_change, expire_key}
 use Rattle.admin_asks.proofs.NamedLaws.{row_there, user_there}
 

@@ -26,10 +26,10 @@ use Rattle.desk_state.specs.State.{State}
 use Rattle.desk_state.specs.Tags.{tags_defined}
 use Rattle.desk_state.specs.declared.refusal.Refusal.TheVariants.{UnknownMachine, BadName, NameTaken}
 use Rattle.desk_state.proofs.Proper.{proper_bind, proper_choice, proper_none, proper_or, proper_refuse, proper_some, same_counters, sound_change}
-use Rattle.machine_rows.specs.Rows.{row_replaced}
-use Rattle.machine_rows.proofs.Rests.{replaced_differs}
-use Rattle.machine_rows.proofs.RowLemmas.{row_sound}
-use Rattle.machine_rows.proofs.SoundChanges.{gone_change}
+use Rattle.desk_state.specs.Rows.{row_replaced}
+use Rattle.desk_state.proofs.Rests.{replaced_differs}
+use Rattle.desk_state.proofs.RowLemmas.{row_sound}
+use Rattle.desk_state.proofs.SoundChanges.{gone_change}
 use Rattle.admin_asks.specs.Nodes.{changed_node, ends_at, expired_node, expire_node, is_name_taken, renamed_node, rename, same_node, tagged_node, set_tags, drop_node}
 use Rattle.admin_asks.proofs.NamedLaws.{row_there}
 

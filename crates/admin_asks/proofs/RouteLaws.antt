@@ -14,8 +14,8 @@ use Rattle.desk_state.specs.Decisions.{IsPlain}
 use Rattle.desk_state.specs.State.{State}
 use Rattle.desk_state.specs.declared.refusal.Refusal.TheVariants.{UnknownMachine}
 use Rattle.desk_state.proofs.Proper.{proper_bind, proper_choice, proper_none, proper_or}
-use Rattle.machine_rows.specs.Same.{prefix_eq}
-use Rattle.machine_rows.proofs.Sameness.{routes_is}
+use Rattle.desk_state.specs.Same.{prefix_eq}
+use Rattle.desk_state.proofs.Sameness.{routes_is}
 use Rattle.admin_asks.specs.Nodes.{same_node}
 use Rattle.admin_asks.specs.Routes.{is_chosen, kept_routes, routed_node, routes_approvable, set_routes}
 use Rattle.admin_asks.proofs.NamedLaws.{row_there}

@@ -14,8 +14,8 @@ use Rattle.desk_state.specs.Users.{user_named}
 use Rattle.desk_state.specs.declared.decision.Decision.{Decision}
 use Rattle.desk_state.specs.declared.refusal.Refusal.{Refusal}
 use Rattle.desk_state.specs.declared.refusal.Refusal.TheVariants.{NodeKeyTaken, PendingUnknown}
-use Rattle.machine_rows.specs.Rows.{expiry_of, is_taken, machine_row, place_for, row_change}
-use Rattle.machine_rows.specs.declared.entrant.Entrant.{Entrant}
+use Rattle.desk_state.specs.Rows.{expiry_of, is_taken, machine_row, place_for, row_change}
+use Rattle.desk_state.specs.declared.entrant.Entrant.{Entrant}
 use Rattle.admin_asks.specs.declared.operator_answer.OperatorAnswer.{OperatorAnswer}
 use Rattle.admin_asks.specs.declared.operator_answer.OperatorAnswer.TheVariants as answer
 

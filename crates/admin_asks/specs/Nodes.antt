@@ -18,7 +18,7 @@ use Rattle.desk_state.specs.declared.decision.Decision.{Decision}
 use Rattle.desk_state.specs.declared.lines.NodeLine.{NodeLine}
 use Rattle.desk_state.specs.declared.refusal.Refusal.{Refusal}
 use Rattle.desk_state.specs.declared.refusal.Refusal.TheVariants.{UnknownMachine, BadName, NameTaken}
-use Rattle.machine_rows.specs.Rows.{row_replaced}
+use Rattle.desk_state.specs.Rows.{row_replaced}
 use Rattle.admin_asks.specs.declared.operator_answer.OperatorAnswer.{OperatorAnswer}
 use Rattle.admin_asks.specs.declared.operator_answer.OperatorAnswer.TheVariants as answer
 

@@ -6,13 +6,13 @@ use Rattle.net_addr.specs.Bits.{Block}
 use Rattle.net_addr.specs.Routes.{sorted_routes}
 use Rattle.net_rows.specs.Rows.{machine_with}
 use Rattle.net_rows.specs.declared.machine.Machine.{Machine}
-use Rattle.route_rules.specs.Exits.{both_exits, exit_v4, exit_v6, has_route, is_exit_route}
-use Rattle.route_rules.specs.Tailnets.{overlaps_tailnet}
+use Rattle.policy_sites.specs.Exits.{both_exits, exit_v4, exit_v6, has_route, is_exit_route}
+use Rattle.policy_sites.specs.Tailnets.{overlaps_tailnet}
 use Rattle.desk_state.specs.State.{State}
 use Rattle.desk_state.specs.declared.decision.Decision.{Decision}
 use Rattle.desk_state.specs.declared.refusal.Refusal.{Refusal}
 use Rattle.desk_state.specs.declared.refusal.Refusal.TheVariants.{RouteNotAdvertised, RouteOverlaps, UnknownMachine}
-use Rattle.machine_rows.specs.Same.{prefix_eq}
+use Rattle.desk_state.specs.Same.{prefix_eq}
 use Rattle.admin_asks.specs.Nodes.{changed_node, same_node}
 use Rattle.admin_asks.specs.declared.operator_answer.OperatorAnswer.{OperatorAnswer}
 

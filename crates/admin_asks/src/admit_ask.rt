@@ -1,12 +1,14 @@
 //! An operator admits a machine that waits.
 ghost use Rattle.std.specs.Prelude.{◌≡◌, IfOk, None, Some};
 ghost use Rattle.tail_base.specs.Steps.{Gives};
-ghost use Rattle.machine_rows.specs.Rows.{row_change};
+ghost use Rattle.desk_state.specs.Rows.{row_change};
 ghost use Rattle.admin_asks.specs.Admit as spec;
 
 use crate::operator_answer::OperatorAnswer;
-use desk_state::{Decision, Refusal, Snapshot, is_overdue, offline_line, tags_granted, user_named};
-use machine_rows::{Entrant, expiry_of, is_taken, machine_row, place_for, row_change};
+use desk_state::{
+    Decision, Entrant, Refusal, Snapshot, expiry_of, is_overdue, is_taken, machine_row,
+    offline_line, place_for, row_change, tags_granted, user_named,
+};
 use net_rows::{Change, Machine, Pending, Tables};
 use std::alloc::Global;
 use tail_base::{Duplicate, Failure, Items, NoMemory, Text, sorted_once};

@@ -3,12 +3,13 @@ ghost use Rattle.std.specs.Prelude.{◌≡◌, IfOk};
 ghost use Rattle.std.specs.Cmp.Lexicographic.{pointwise};
 ghost use Rattle.std.specs.Str.{bytes_eq};
 ghost use Rattle.tail_base.specs.Steps.{Gives};
-ghost use Rattle.machine_rows.specs.Rows.{row_replaced};
+ghost use Rattle.desk_state.specs.Rows.{row_replaced};
 ghost use Rattle.admin_asks.specs.Nodes as spec;
 
 use crate::operator_answer::OperatorAnswer;
-use desk_state::{Decision, NodeLine, Refusal, Snapshot, machine_gone, node_line, tags_defined};
-use machine_rows::row_replaced;
+use desk_state::{
+    Decision, NodeLine, Refusal, Snapshot, machine_gone, node_line, row_replaced, tags_defined,
+};
 use moments::Moment;
 use net_rows::{Change, Machine, Tables};
 use std::alloc::Global;

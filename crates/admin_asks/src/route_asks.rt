@@ -5,11 +5,10 @@ ghost use Rattle.admin_asks.specs.Routes as spec;
 
 use crate::node_asks::{changed_node, same_node};
 use crate::operator_answer::OperatorAnswer;
-use desk_state::{Decision, Refusal, Snapshot};
-use machine_rows::same_routes;
+use desk_state::{Decision, Refusal, Snapshot, same_routes};
 use net_addr::{Prefix, sorted_routes};
 use net_rows::Machine;
-use route_rules::{both_exits, exit_routes, has_route, is_exit_route, overlaps_tailnet};
+use policy_sites::{both_exits, exit_routes, has_route, is_exit_route, overlaps_tailnet};
 use std::alloc::Global;
 use tail_base::{Duplicate, Failure, Items, NoMemory};
 

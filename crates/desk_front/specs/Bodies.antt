@@ -8,8 +8,8 @@ use Rattle.admin_wire.specs.Nodes.{node_text, nodes_text}
 use Rattle.admin_wire.specs.Swept.{swept_text}
 use Rattle.admin_wire.specs.Users.{user_text, users_text}
 use Rattle.admin_wire.specs.Waiting.{waiting_text}
-use Rattle.map_asks.specs.declared.answer.MachineAnswer.{MachineAnswer}
-use Rattle.map_asks.specs.declared.answer.MachineAnswer.TheVariants as machine
+use Rattle.machine_asks.specs.declared.answer.MachineAnswer.{MachineAnswer}
+use Rattle.machine_asks.specs.declared.answer.MachineAnswer.TheVariants as machine
 use Rattle.fresh_maps.specs.Frames.{frame_of}
 use Rattle.fresh_maps.specs.Responses.{first_response}
 use Rattle.policy_asks.specs.declared.answer.PolicyAnswer.{PolicyAnswer}

@@ -8,7 +8,7 @@ use admin_wire::{
     waiting_text,
 };
 use fresh_maps::{NodeTexts, first_frame};
-use map_asks::MachineAnswer;
+use machine_asks::MachineAnswer;
 use policy_asks::PolicyAnswer;
 use std::alloc::Global;
 use tail_base::{NoMemory, Text};

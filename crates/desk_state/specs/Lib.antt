@@ -1,6 +1,8 @@
 pub mod Changes
 pub mod Decisions
 pub mod Lines
+pub mod Rows
+pub mod Same
 pub mod Sessions
 pub mod State
 pub mod Tags

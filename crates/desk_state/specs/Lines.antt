@@ -4,8 +4,8 @@ use Rattle.net_rows.specs.Rows.{user_with}
 use Rattle.net_rows.specs.declared.key.AuthKey.{AuthKey}
 use Rattle.net_rows.specs.declared.machine.Machine.{Machine}
 use Rattle.net_rows.specs.declared.user.User.{User}
-use Rattle.route_rules.specs.Owners.{machine_login}
-use Rattle.route_rules.specs.Serving.{served_routes}
+use Rattle.policy_sites.specs.Owners.{machine_login}
+use Rattle.policy_sites.specs.Serving.{served_routes}
 use Rattle.desk_state.specs.State.{State, is_live, is_live_with, is_online, presence_of}
 use Rattle.desk_state.specs.declared.lines.KeyLine.{KeyLine}
 use Rattle.desk_state.specs.declared.lines.NodeLine.{NodeLine}

@@ -7,7 +7,7 @@ use crate::life::{Snapshot, is_live, is_live_with, is_online, presence_of};
 use crate::presence::Presence;
 use net_addr::Prefix;
 use net_rows::{AuthKey, Machine, Tables, User};
-use route_rules::served_routes;
+use policy_sites::served_routes;
 use std::alloc::Global;
 use tail_base::{Duplicate, Items, NoMemory, Text};
 

@@ -21,7 +21,7 @@ use Rattle.policy_rows.specs.declared.group.Group.{Group}
 use Rattle.tailcfg.specs.declared.filter.DestRange.{DestRange}
 use Rattle.tailcfg.specs.declared.filter.FilterRule.{FilterRule}
 use Rattle.tailcfg.specs.declared.filter.Sources.TheVariants.{Any}
-use Rattle.route_rules.specs.Serving.{serves_with}
+use Rattle.policy_sites.specs.Serving.{serves_with}
 use Rattle.policy_sites.specs.Grants.{open_rule}
 use Rattle.policy_sites.specs.Sites.{serves}
 use Rattle.policy_sites.specs.declared.site.Site.{Site}

@@ -9,9 +9,8 @@ ghost use Rattle.filter_compile.specs.Filters.{is_of_own, own_site_has};
 
 use crate::dest_ranges::shared_prefixes;
 use net_addr::Prefix;
-use policy_sites::{Site, are_own};
+use policy_sites::{Site, are_own, served_with};
 use range_sets::RangeSet;
-use route_rules::served_with;
 use std::alloc::Global;
 use tail_base::{Items, NoMemory};
 

@@ -1,8 +1,8 @@
 -- What replies tell a load.
 use Rattle.std.specs.Prelude.{◌≡◌, ℕ, ◌+◌, ◌-◌, ◌^◌, min, Bool, true, false, List, [], ◌∷◌, Option, None, Some}
 use Rattle.tailcfg.specs.declared.response.Response.{Response}
-use Rattle.map_asks.specs.declared.answer.MachineAnswer.{MachineAnswer}
-use Rattle.map_asks.specs.declared.answer.MachineAnswer.TheVariants as machine
+use Rattle.machine_asks.specs.declared.answer.MachineAnswer.{MachineAnswer}
+use Rattle.machine_asks.specs.declared.answer.MachineAnswer.TheVariants as machine
 use Rattle.tailnet_desk.specs.Chains.{Turned}
 use Rattle.tailnet_desk.specs.declared.reply.Answer.{Answer}
 use Rattle.tailnet_desk.specs.declared.reply.Answer.TheVariants as answer

@@ -4,7 +4,7 @@ ghost use Rattle.load_run.specs.Hearing as spec;
 ghost use Rattle.load_run.specs.Hearing.{IsHeard};
 ghost use Rattle.tailnet_desk.specs.Step.{drain_reply};
 
-use map_asks::MachineAnswer;
+use machine_asks::MachineAnswer;
 use std::alloc::Global;
 use tail_base::{Duplicate, Text};
 use tailcfg::Response;

@@ -12,7 +12,7 @@ use Rattle.machine_asks.specs.declared.ask.MachineAsk.{MachineAsk}
 use Rattle.machine_asks.specs.declared.ask.MachineAsk.TheVariants as ask
 use Rattle.machine_asks.proofs.Registrations.{register_proper}
 use Rattle.machine_asks.proofs.Seeds.{seed_proper}
-use Rattle.map_asks.proofs.Updates.{one_map_proper, update_proper}
+use Rattle.machine_asks.proofs.Updates.{one_map_proper, update_proper}
 
 pub machine_decision_sound : (s : State) (x : MachineAsk) (words : Option (List ℕ)) → AreSettings s.settings → damage s.rows ≡ None → IsShortMachineAsk x → IsPlain s.rows (decision s x words)
 machine_decision_sound s (ask.Register mk form) words hold fit short = register_proper s mk form words hold (sound_of s.rows fit) short

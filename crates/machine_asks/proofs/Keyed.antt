@@ -29,14 +29,14 @@ use Rattle.desk_state.specs.declared.decision.Decision.{Decision}
 use Rattle.desk_state.specs.declared.refusal.Refusal.TheVariants.{KeyUnknown, KeyExpired, KeyUsed}
 use Rattle.desk_state.proofs.Kept.{is_no_policy}
 use Rattle.desk_state.proofs.Proper.{proper_bind, proper_none, proper_some}
-use Rattle.machine_rows.specs.Rows.{is_taken, kept_place, machine_row, place_for, row_change}
-use Rattle.machine_rows.specs.Same.{same_row}
-use Rattle.machine_rows.specs.declared.entrant.Entrant.{Entrant}
-use Rattle.machine_rows.specs.declared.place.Place.{Place}
-use Rattle.machine_rows.proofs.Rests.{admitted_differs, entered_differs, first_use_differs, renewed_differs}
-use Rattle.machine_rows.proofs.RowLemmas.{EntrantKeeps, machine_found, new_place_is}
-use Rattle.machine_rows.proofs.Sameness.{row_kept}
-use Rattle.machine_rows.proofs.SoundChanges.{enter_change}
+use Rattle.desk_state.specs.Rows.{is_taken, kept_place, machine_row, place_for, row_change}
+use Rattle.desk_state.specs.Same.{same_row}
+use Rattle.desk_state.specs.declared.entrant.Entrant.{Entrant}
+use Rattle.desk_state.specs.declared.place.Place.{Place}
+use Rattle.desk_state.proofs.Rests.{admitted_differs, entered_differs, first_use_differs, renewed_differs}
+use Rattle.desk_state.proofs.RowLemmas.{EntrantKeeps, machine_found, new_place_is}
+use Rattle.desk_state.proofs.Sameness.{row_kept}
+use Rattle.desk_state.proofs.SoundChanges.{enter_change}
 use Rattle.machine_asks.specs.ByKey.{admitted_by_key, by_key, changes_nothing, entrant_of_key, usable_key}
 
 -- a usable key is one of the tables

@@ -20,12 +20,12 @@ use Rattle.desk_state.specs.declared.decision.Decision.{Decision}
 use Rattle.desk_state.specs.declared.refusal.Refusal.{Refusal}
 use Rattle.desk_state.specs.declared.refusal.Refusal.TheVariants.{NodeKeyTaken, UnknownMachine}
 use Rattle.desk_state.proofs.Proper.{proper_err, proper_if, proper_none, proper_some}
-use Rattle.machine_rows.specs.Rows.{is_taken, row_replaced}
-use Rattle.machine_rows.proofs.RowLemmas.{machine_found, own_node}
-use Rattle.machine_rows.proofs.SoundChanges.{gone_change, replaced_change}
+use Rattle.desk_state.specs.Rows.{is_taken, row_replaced}
+use Rattle.desk_state.proofs.RowLemmas.{machine_found, own_node}
+use Rattle.desk_state.proofs.SoundChanges.{gone_change, replaced_change}
 use Rattle.machine_asks.specs.Logout.{expired_row, is_logout, is_old, logout, logout_again, logout_now, machine_removed, node_key_replaced, rotates}
 use Rattle.machine_asks.specs.Register.{of_row, register, registered_again, repeats}
-use Rattle.map_asks.specs.declared.answer.MachineAnswer.{MachineAnswer}
+use Rattle.machine_asks.specs.declared.answer.MachineAnswer.{MachineAnswer}
 use Rattle.machine_asks.proofs.Keyed.{by_key_proper}
 use Rattle.machine_asks.proofs.Waits.{wait_proper}
 

@@ -17,12 +17,12 @@ use Rattle.tailcfg.specs.declared.register.Register.{Register}
 use Rattle.desk_state.specs.Decisions.{rows_after}
 use Rattle.desk_state.specs.State.{State, is_live}
 use Rattle.desk_state.specs.declared.decision.Decision.{Decision}
-use Rattle.machine_rows.proofs.RowLemmas.{machine_found}
+use Rattle.desk_state.proofs.RowLemmas.{machine_found}
 use Rattle.machine_asks.specs.Decision.{decision}
 use Rattle.machine_asks.specs.Laws.{IsRepeat}
 use Rattle.machine_asks.specs.Logout.{is_logout}
 use Rattle.machine_asks.specs.Register.{register_as, registered_again, repeats}
-use Rattle.map_asks.specs.declared.answer.MachineAnswer.{MachineAnswer}
+use Rattle.machine_asks.specs.declared.answer.MachineAnswer.{MachineAnswer}
 use Rattle.machine_asks.specs.declared.ask.MachineAsk.TheVariants as ask
 
 first_of_two : {A : Type 0} (b : Bool) (x y : A) → b ≡ true → (if b then x else y) ≡ x

@@ -18,11 +18,11 @@ use Rattle.desk_state.specs.Tags.{tags_granted}
 use Rattle.desk_state.specs.declared.decision.Decision.{Decision}
 use Rattle.desk_state.specs.declared.refusal.Refusal.{Refusal}
 use Rattle.desk_state.specs.declared.refusal.Refusal.TheVariants.{KeyUnknown, KeyExpired, KeyUsed}
-use Rattle.machine_rows.specs.Rows.{expiry_of, machine_row, place_for, row_change}
-use Rattle.machine_rows.specs.Same.{same_row}
-use Rattle.machine_rows.specs.declared.entrant.Entrant.{Entrant}
-use Rattle.map_asks.specs.declared.answer.MachineAnswer.{MachineAnswer}
-use Rattle.map_asks.specs.declared.answer.MachineAnswer.TheVariants.{Registered}
+use Rattle.desk_state.specs.Rows.{expiry_of, machine_row, place_for, row_change}
+use Rattle.desk_state.specs.Same.{same_row}
+use Rattle.desk_state.specs.declared.entrant.Entrant.{Entrant}
+use Rattle.machine_asks.specs.declared.answer.MachineAnswer.{MachineAnswer}
+use Rattle.machine_asks.specs.declared.answer.MachineAnswer.TheVariants.{Registered}
 
 -- the pre-auth key of that text, if it may be used
 abbrev pub usable_key : State → List ℕ → Result AuthKey Refusal

@@ -3,10 +3,10 @@ use Rattle.std.specs.Prelude.{â„•, Bool, false, List, Option, Result, length, â—
 use Rattle.desk_state.specs.State.{State}
 use Rattle.desk_state.specs.declared.decision.Decision.{Decision}
 use Rattle.desk_state.specs.declared.refusal.Refusal.{Refusal}
-use Rattle.map_asks.specs.OneMap.{one_map}
+use Rattle.machine_asks.specs.OneMap.{one_map}
 use Rattle.machine_asks.specs.Register.{register}
-use Rattle.map_asks.specs.Update.{update}
-use Rattle.map_asks.specs.declared.answer.MachineAnswer.{MachineAnswer}
+use Rattle.machine_asks.specs.Update.{update}
+use Rattle.machine_asks.specs.declared.answer.MachineAnswer.{MachineAnswer}
 use Rattle.machine_asks.specs.declared.ask.MachineAsk.{MachineAsk}
 use Rattle.machine_asks.specs.declared.ask.MachineAsk.TheVariants as ask
 

@@ -1,8 +1,14 @@
+pub mod Asking
+pub mod Attach
 pub mod ByKey
 pub mod Decision
+pub mod Detach
+pub mod Drain
 pub mod Laws
 pub mod Logout
+pub mod OneMap
 pub mod Register
 pub mod Seed
 pub mod Short
+pub mod Update
 pub mod Waiting

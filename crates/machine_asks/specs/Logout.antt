@@ -11,9 +11,9 @@ use Rattle.desk_state.specs.State.{State, is_ahead, is_live}
 use Rattle.desk_state.specs.declared.decision.Decision.{Decision}
 use Rattle.desk_state.specs.declared.refusal.Refusal.{Refusal}
 use Rattle.desk_state.specs.declared.refusal.Refusal.TheVariants.{UnknownMachine}
-use Rattle.machine_rows.specs.Rows.{row_replaced}
-use Rattle.map_asks.specs.declared.answer.MachineAnswer.{MachineAnswer}
-use Rattle.map_asks.specs.declared.answer.MachineAnswer.TheVariants.{Registered}
+use Rattle.desk_state.specs.Rows.{row_replaced}
+use Rattle.machine_asks.specs.declared.answer.MachineAnswer.{MachineAnswer}
+use Rattle.machine_asks.specs.declared.answer.MachineAnswer.TheVariants.{Registered}
 
 -- an expiry that has passed is asked for
 abbrev pub is_logout : State → Option ℤ → Bool

@@ -12,12 +12,12 @@ use Rattle.desk_state.specs.State.{State, is_live}
 use Rattle.desk_state.specs.declared.decision.Decision.{Decision}
 use Rattle.desk_state.specs.declared.refusal.Refusal.{Refusal}
 use Rattle.desk_state.specs.declared.refusal.Refusal.TheVariants.{NodeKeyTaken}
-use Rattle.machine_rows.specs.Rows.{is_taken}
+use Rattle.desk_state.specs.Rows.{is_taken}
 use Rattle.machine_asks.specs.ByKey.{by_key}
 use Rattle.machine_asks.specs.Logout.{is_logout, logout, node_key_replaced, rotates}
 use Rattle.machine_asks.specs.Waiting.{wait}
-use Rattle.map_asks.specs.declared.answer.MachineAnswer.{MachineAnswer}
-use Rattle.map_asks.specs.declared.answer.MachineAnswer.TheVariants.{Registered}
+use Rattle.machine_asks.specs.declared.answer.MachineAnswer.{MachineAnswer}
+use Rattle.machine_asks.specs.declared.answer.MachineAnswer.TheVariants.{Registered}
 
 -- the machine's row is live and has this node key: it registers again
 abbrev pub repeats : State → NodeKey → Machine → Bool

@@ -19,9 +19,9 @@ use Rattle.desk_state.specs.declared.decision.Decision.{Decision}
 use Rattle.desk_state.specs.declared.refusal.Refusal.{Refusal}
 use Rattle.desk_state.specs.declared.refusal.Refusal.TheVariants.{EntropyFault, Full}
 use Rattle.desk_state.specs.declared.refusal.Scarce.TheVariants as scarce
-use Rattle.machine_rows.specs.Rows.{pending_gone}
-use Rattle.map_asks.specs.declared.answer.MachineAnswer.{MachineAnswer}
-use Rattle.map_asks.specs.declared.answer.MachineAnswer.TheVariants.{LoginAt}
+use Rattle.desk_state.specs.Rows.{pending_gone}
+use Rattle.machine_asks.specs.declared.answer.MachineAnswer.{MachineAnswer}
+use Rattle.machine_asks.specs.declared.answer.MachineAnswer.TheVariants.{LoginAt}
 
 -- the entry is this node key's, and its time hasn't passed
 abbrev pub waits : State → NodeKey → Pending → Bool

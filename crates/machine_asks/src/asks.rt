@@ -6,8 +6,8 @@ ghost use Rattle.machine_asks.specs.Short.{IsShortMachineAsk};
 
 use crate::ask::MachineAsk;
 use crate::register_ask::register;
+use crate::{MachineAnswer, one_map, update};
 use desk_state::{Decision, Refusal, Snapshot};
-use map_asks::{MachineAnswer, one_map, update};
 use std::alloc::Global;
 use tail_base::Failure;
 

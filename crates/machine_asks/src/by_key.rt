@@ -4,11 +4,13 @@ ghost use Rattle.std.specs.Option.{option_copied};
 ghost use Rattle.tail_base.specs.Steps.{Gives};
 ghost use Rattle.machine_asks.specs.ByKey as spec;
 
+use crate::MachineAnswer;
 use crate::ids::one_id;
-use desk_state::{Decision, Refusal, Snapshot, is_ahead, tags_granted};
+use desk_state::{
+    Decision, Entrant, Refusal, Snapshot, expiry_of, is_ahead, joined, machine_row, place_for,
+    row_change, same_row, tags_granted,
+};
 use fresh_maps::profile_of;
-use machine_rows::{Entrant, expiry_of, joined, machine_row, place_for, row_change, same_row};
-use map_asks::MachineAnswer;
 use moments::Moment;
 use net_rows::{AuthKey, Change, Machine, Pending};
 use std::alloc::Global;

@@ -13,8 +13,8 @@ ghost use Rattle.machine_asks.specs.Decision.{decision};
 ghost use Rattle.machine_asks.specs.Laws.{IsRepeat};
 ghost use Rattle.machine_asks.specs.Seed.{seed};
 ghost use Rattle.machine_asks.specs.Short.{IsShortMachineAsk};
-ghost use Rattle.map_asks.specs.declared.answer.MachineAnswer.{MachineAnswer};
-ghost use Rattle.map_asks.specs.declared.answer.MachineAnswer.TheVariants.{Registered};
+ghost use Rattle.machine_asks.specs.declared.answer.MachineAnswer.{MachineAnswer};
+ghost use Rattle.machine_asks.specs.declared.answer.MachineAnswer.TheVariants.{Registered};
 ghost use Rattle.machine_asks.specs.declared.ask.MachineAsk.{MachineAsk};
 ghost use Rattle.machine_asks.specs.declared.ask.MachineAsk.TheVariants.{Register};
 

@@ -2,14 +2,13 @@
 ghost use Rattle.std.specs.Prelude.{◌≡◌, [], IfOk, None};
 ghost use Rattle.std.specs.Option.{option_copied};
 ghost use Rattle.tail_base.specs.Steps.{Gives};
-ghost use Rattle.machine_rows.specs.Rows.{row_replaced};
+ghost use Rattle.desk_state.specs.Rows.{row_replaced};
 ghost use Rattle.machine_asks.specs.Logout as spec;
 
+use crate::MachineAnswer;
 use crate::ids::one_id;
-use desk_state::{Decision, Refusal, Snapshot, is_ahead, is_live, machine_gone};
+use desk_state::{Decision, Refusal, Snapshot, is_ahead, is_live, machine_gone, row_replaced};
 use fresh_maps::profile_of;
-use machine_rows::row_replaced;
-use map_asks::MachineAnswer;
 use moments::Moment;
 use net_rows::{Change, Machine};
 use std::alloc::Global;

@@ -4,13 +4,12 @@ ghost use Rattle.std.specs.Option.{option_copied};
 ghost use Rattle.tail_base.specs.Steps.{Gives};
 ghost use Rattle.machine_asks.specs.Register as spec;
 
+use crate::MachineAnswer;
 use crate::by_key::by_key;
 use crate::logout::{is_logout, logout, node_key_replaced, rotates};
 use crate::waiting::wait;
-use desk_state::{Decision, Refusal, Snapshot, is_live};
+use desk_state::{Decision, Refusal, Snapshot, is_live, is_taken};
 use fresh_maps::profile_of;
-use machine_rows::is_taken;
-use map_asks::MachineAnswer;
 use net_rows::Machine;
 use std::alloc::Global;
 use tail_base::{Failure, MachineKey, NoMemory, NodeKey};

@@ -6,9 +6,8 @@ ghost use Rattle.net_rows.specs.Shelf.{without};
 ghost use Rattle.net_rows.specs.declared.pending.Pending.{Pending};
 ghost use Rattle.machine_asks.specs.Waiting as spec;
 
-use desk_state::{Decision, Refusal, Scarce, Snapshot, is_overdue, row_text};
-use machine_rows::pending_gone;
-use map_asks::MachineAnswer;
+use crate::MachineAnswer;
+use desk_state::{Decision, Refusal, Scarce, Snapshot, is_overdue, pending_gone, row_text};
 use net_rows::{COUNTER_LIMIT, Change, Counters, PENDING_LIMIT, Pending, Row, Tables};
 use std::alloc::Global;
 use tail_base::{Duplicate, Failure, Items, MachineKey, NoMemory, NodeKey};

@@ -12,7 +12,7 @@ use Rattle.net_rows.proofs.Members.{find_member, find_none, list_any_found, list
 use Rattle.net_rows.proofs.RowAt.{row_at_is}
 use Rattle.settings.specs.declared.fields.SettingsFields.{SettingsFields}
 use Rattle.policy_rows.specs.declared.policy.Policy.{Policy}
-use Rattle.route_rules.specs.Exits.{has_route}
+use Rattle.policy_sites.specs.Exits.{has_route}
 use Rattle.peer_view.specs.Choices.{IsShownAt}
 use Rattle.peer_view.specs.Nodes.{node_of, own_addresses}
 use Rattle.peer_view.specs.Seen.{Node, Seen, seen_of, sees, visible}

@@ -13,7 +13,7 @@ use Rattle.net_rows.proofs.RowAt.{row_at_is}
 use Rattle.policy_rows.specs.Internet.{is_internet}
 use Rattle.policy_rows.specs.declared.policy.Policy.{Policy}
 use Rattle.range_sets.specs.Sets.{some_holds}
-use Rattle.route_rules.specs.Serving.{exits_if}
+use Rattle.policy_sites.specs.Serving.{exits_if}
 use Rattle.policy_sites.specs.ByRule.{site_addresses}
 use Rattle.policy_sites.specs.Ends.{end_at}
 use Rattle.policy_sites.specs.Grants.{grants}

@@ -8,8 +8,8 @@ use Rattle.net_addr.specs.Blocks.{holds}
 use Rattle.net_rows.proofs.Members.{list_any_found, list_any_is}
 use Rattle.policy_rows.specs.Internet.{is_internet}
 use Rattle.policy_sites.specs.Sites.{AreServedApart}
-use Rattle.route_rules.specs.Exits.{has_route}
-use Rattle.route_rules.specs.Serving.{exits_if}
+use Rattle.policy_sites.specs.Exits.{has_route}
+use Rattle.policy_sites.specs.Serving.{exits_if}
 use Rattle.peer_view.specs.Nodes.{own_addresses}
 use Rattle.peer_view.specs.Routers.{has_routes, routers_of}
 use Rattle.peer_view.specs.Seen.{Node, Seen, sees, sites_seen, visible}

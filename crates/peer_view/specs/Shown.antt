@@ -5,8 +5,8 @@ use Rattle.net_addr.specs.Bits.{Address, Block}
 use Rattle.net_addr.specs.Blocks.{holds}
 use Rattle.policy_rows.specs.Internet.{is_internet}
 use Rattle.tailcfg.specs.declared.node_row.NodeRow.{NodeRow}
-use Rattle.route_rules.specs.Exits.{has_route}
-use Rattle.route_rules.specs.Serving.{exits_if}
+use Rattle.policy_sites.specs.Exits.{has_route}
+use Rattle.policy_sites.specs.Serving.{exits_if}
 use Rattle.policy_sites.specs.ByRule.{site_addresses}
 use Rattle.policy_sites.specs.Ends.{end_at, free_end}
 use Rattle.policy_sites.specs.Reach.{reaches_into}

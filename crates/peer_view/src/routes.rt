@@ -11,7 +11,7 @@ use crate::by_id::place_near;
 use crate::machine::LiveMachine;
 use crate::world::World;
 use net_addr::Prefix;
-use route_rules::has_route;
+use policy_sites::has_route;
 
 /// Whether some flow from an address of the viewer into the route, or, without a route, into the internet
 /// is granted. No machine has an address there.

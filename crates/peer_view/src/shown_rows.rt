@@ -1,6 +1,6 @@
 //! The rows of machines as viewers are shown them.
 ghost use Rattle.std.specs.Prelude.{◌≡◌, ◌&&◌, ◌++◌, ◌∷◌, [], Contains, IfOk, OnOk, if◌then◌else◌};
-ghost use Rattle.route_rules.specs.Serving.{exits_if};
+ghost use Rattle.policy_sites.specs.Serving.{exits_if};
 ghost use Rattle.peer_view.specs.Nodes.{own_addresses};
 ghost use Rattle.peer_view.specs.Routers.{routers_of};
 ghost use Rattle.peer_view.specs.Seen.{visible};
@@ -12,7 +12,7 @@ use crate::routers::Routers;
 use crate::routes::is_shown;
 use crate::world::World;
 use net_addr::Prefix;
-use route_rules::exit_routes;
+use policy_sites::exit_routes;
 use std::alloc::Global;
 use tail_base::{Items, NoMemory};
 use tailcfg::NodeRow;

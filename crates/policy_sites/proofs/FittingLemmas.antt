@@ -14,9 +14,9 @@ use Rattle.net_rows.specs.declared.user.User.{User}
 use Rattle.net_rows.proofs.Stands.{address_of}
 use Rattle.tail_base.proofs.Bools.{all4, bytes_eq-true}
 use Rattle.policy_rows.specs.declared.policy.Policy.{Policy}
-use Rattle.route_rules.specs.Approvals.{approved_of, is_exit}
-use Rattle.route_rules.specs.Exits.{route_eq}
-use Rattle.route_rules.specs.Owners.{login_or_empty}
+use Rattle.policy_sites.specs.Approvals.{approved_of, is_exit}
+use Rattle.policy_sites.specs.Exits.{route_eq}
+use Rattle.policy_sites.specs.Owners.{login_or_empty}
 use Rattle.policy_sites.specs.Fitting.{AreApproved, IsApproved, IsBehind, has_login_of, live_sites, same_place, same_routes, same_site}
 use Rattle.policy_sites.specs.Sites.{is_among, site_of, sites_of}
 use Rattle.policy_sites.specs.declared.site.Site.{Site}

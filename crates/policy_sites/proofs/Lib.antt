@@ -3,9 +3,11 @@ pub mod FittingLemmas
 pub mod IdLemmas
 pub mod InternetLemmas
 pub mod IntoLemmas
+pub mod LawLemmas
 pub mod ListLemmas
 pub mod OwnLemmas
 pub mod ReachLemmas
 pub mod RouteLemmas
+pub mod ServingLemmas
 pub mod SetLemmas
 pub mod SiteLemmas

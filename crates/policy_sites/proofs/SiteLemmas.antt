@@ -19,9 +19,9 @@ use Rattle.net_rows.proofs.RowAt.{row_at_is}
 use Rattle.net_rows.proofs.Sounds.{sound_of}
 use Rattle.net_rows.proofs.Stands.{address_of}
 use Rattle.range_sets.specs.Sets.{some_holds}
-use Rattle.route_rules.specs.Owners.{machine_login}
-use Rattle.route_rules.specs.Tailnets.{is_tailnet}
-use Rattle.route_rules.proofs.LawLemmas.{addresses_outside, internet_outside}
+use Rattle.policy_sites.specs.Owners.{machine_login}
+use Rattle.policy_sites.specs.Tailnets.{is_tailnet}
+use Rattle.policy_sites.proofs.LawLemmas.{addresses_outside, internet_outside}
 use Rattle.policy_sites.specs.Sites.{AreServedApart, AreDistinct, is_among, serves_beyond, site_has, site_of, sites_of}
 use Rattle.policy_sites.specs.declared.site.Site.{Site}
 use Rattle.policy_sites.proofs.RouteLemmas.{kept}

@@ -7,8 +7,8 @@ use Rattle.net_rows.specs.Rows.{user_with}
 use Rattle.net_rows.specs.declared.machine.Machine.{Machine}
 use Rattle.net_rows.specs.declared.user.User.{User}
 use Rattle.policy_rows.specs.declared.policy.Policy.{Policy}
-use Rattle.route_rules.specs.Approvals.{approved_of, is_exit}
-use Rattle.route_rules.specs.Exits.{route_eq}
+use Rattle.policy_sites.specs.Approvals.{approved_of, is_exit}
+use Rattle.policy_sites.specs.Exits.{route_eq}
 use Rattle.policy_sites.specs.Sites.{is_among, site_of}
 use Rattle.policy_sites.specs.declared.site.Site.{Site}
 

@@ -1,8 +1,13 @@
+pub mod Approvals
 pub mod Beyond
 pub mod ByRule
 pub mod Covers
 pub mod Ends
+pub mod Exits
 pub mod Fitting
 pub mod Grants
+pub mod Owners
 pub mod Reach
+pub mod Serving
 pub mod Sites
+pub mod Tailnets

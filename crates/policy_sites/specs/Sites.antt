@@ -9,9 +9,9 @@ use Rattle.net_rows.specs.declared.user.User.{User}
 use Rattle.policy_rows.specs.Internet.{is_internet}
 use Rattle.policy_rows.specs.declared.policy.Policy.{Policy}
 use Rattle.range_sets.specs.Sets.{some_holds}
-use Rattle.route_rules.specs.Approvals.{approved_of, is_exit}
-use Rattle.route_rules.specs.Owners.{machine_login}
-use Rattle.route_rules.specs.Serving.{serves_with}
+use Rattle.policy_sites.specs.Approvals.{approved_of, is_exit}
+use Rattle.policy_sites.specs.Owners.{machine_login}
+use Rattle.policy_sites.specs.Serving.{serves_with}
 use Rattle.policy_sites.specs.declared.site.Site.{Site}
 
 -- what policies see of a machine, and what a policy, or none, approves of it

@@ -4,7 +4,7 @@ ghost use Rattle.std.specs.Cmp.Lexicographic.{pointwise};
 ghost use Rattle.std.specs.Option.{option_copied};
 ghost use Rattle.std.specs.Str.{bytes_eq};
 ghost use Rattle.policy_rows.specs.declared.policy.Policy.{Policy};
-ghost use Rattle.route_rules.specs.Exits.{route_eq};
+ghost use Rattle.policy_sites.specs.Exits.{route_eq};
 ghost use Rattle.policy_sites.specs.Fitting.{AreApproved, IsBehind, has_login_of, live_sites, same_place, same_routes, same_site};
 ghost use Rattle.policy_sites.specs.Sites.{sites_of};
 

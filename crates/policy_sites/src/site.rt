@@ -3,15 +3,15 @@ ghost use Rattle.std.specs.Prelude.{◌≡◌, ◌∷◌, ◌++◌, [], IfOk, On
 ghost use Rattle.std.specs.Option.{option_copied};
 ghost use Rattle.policy_sites.specs.Covers.{is_own};
 ghost use Rattle.policy_sites.specs.Ends.{holder_of};
-ghost use Rattle.route_rules.specs.Approvals.{approved_of, is_exit};
-ghost use Rattle.route_rules.specs.Owners.{login_or_empty, machine_login};
+ghost use Rattle.policy_sites.specs.Approvals.{approved_of, is_exit};
+ghost use Rattle.policy_sites.specs.Owners.{login_or_empty, machine_login};
 ghost use Rattle.policy_sites.specs.Sites.{AreServedApart, AreDistinct, is_among, site_of, sites_of};
 
 use crate::id_list::IdList;
+use crate::{approved, is_exit};
 use net_addr::{Addr, Prefix};
 use net_rows::{HasId, Machine, Tables, User};
 use policy_rows::Policy;
-use route_rules::{approved, is_exit};
 use std::alloc::Global;
 use tail_base::{Duplicate, Items, NoMemory, Tag, Text};
 

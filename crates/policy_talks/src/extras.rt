@@ -1,9 +1,10 @@
 //! Extra DNS records: what is put in place of what, what is refused, and what is kept.
+use crate::held::assert_held;
 use run_ends::Status;
 use std::alloc::Global;
 use std::test::Fail;
 use tail_base::NoMemory;
-use talk_runs::{CALM, SETTINGS, first_not_held, piped, piped_over, talk_bytes};
+use talk_runs::{CALM, SETTINGS, piped, piped_over, talk_bytes};
 
 const RECORDS: &str = r#"= extra-record
 > POST /machine/register mkey:%1 {"Auth":{"AuthKey":"k1"},"NodeKey":"nodekey:%a"}
@@ -176,13 +177,13 @@ const FAULTS: &str = r#"= no-list
 
 #[test]
 fn records_are_put(rt: HostRuntime) -> Result<(), Fail> {
-    assert_eq!(rt; first_not_held(rt.alloc(), RECORDS)?, None);
+    assert_held(&rt, rt.alloc(), RECORDS)?;
     Ok(())
 }
 
 #[test]
 fn faults_of_records(rt: HostRuntime) -> Result<(), Fail> {
-    assert_eq!(rt; first_not_held(rt.alloc(), FAULTS)?, None);
+    assert_held(&rt, rt.alloc(), FAULTS)?;
     Ok(())
 }
 
@@ -205,7 +206,7 @@ fn as_many_records_as_there_may_be(rt: HostRuntime) -> Result<(), Fail> {
     let alloc = rt.alloc();
     let list = records(alloc, 256)?;
     let talk = format!(in alloc; "= all\n> PUT /api/v1/dns Bearer/secret {list}\n< 200 {list}")?;
-    assert_eq!(rt; first_not_held(alloc, talk.as_str())?, None);
+    assert_held(&rt, alloc, talk.as_str())?;
     Ok(())
 }
 
@@ -216,7 +217,7 @@ fn one_record_more_than_there_may_be(rt: HostRuntime) -> Result<(), Fail> {
     let talk = format!(in alloc;
         "= more\n> PUT /api/v1/dns Bearer/secret {list}\n< 400 {{\"error\":\"BadField\",\"field\":\"Name\"}}"
     )?;
-    assert_eq!(rt; first_not_held(alloc, talk.as_str())?, None);
+    assert_held(&rt, alloc, talk.as_str())?;
     Ok(())
 }
 

@@ -5,10 +5,11 @@
 //! map of machine N: its peers, each a digit, or `-` for none, and its filter, where `@` and `#` stand for the beginning of
 //! an address, and `~` for all ports. Behind a digit stand the routes that the map has at the machine: `a` for 10.1.0.0/16,
 //! `b` for 10.2.0.0/16, `x` for both exit routes.
+use crate::held::assert_held;
 use std::alloc::Global;
 use std::test::Fail;
 use tail_base::NoMemory;
-use talk_runs::{cut, first_not_held};
+use talk_runs::cut;
 
 /// The machines 1 and 2 of seed@, 3 of seed@ with a tag, 4 of bob@, and 5 of bob@ with a tag. 2 and 5 aren't live.
 const SETUP: &str = r#"> POST /api/v1/user Bearer/secret {"name":"bob"}
@@ -507,13 +508,13 @@ fn written(alloc: Global, table: &str) -> Result<String, NoMemory> {
 #[test]
 fn maps_are_those_of_the_policy_in_force(rt: HostRuntime) -> Result<(), Fail> {
     let talks = written(rt.alloc(), FILTERS)?;
-    assert_eq!(rt; first_not_held(rt.alloc(), talks.as_str())?, None);
+    assert_held(&rt, rt.alloc(), talks.as_str())?;
     Ok(())
 }
 
 #[test]
 fn maps_have_routes_at_one_router(rt: HostRuntime) -> Result<(), Fail> {
     let talks = written(rt.alloc(), ROUTED)?;
-    assert_eq!(rt; first_not_held(rt.alloc(), talks.as_str())?, None);
+    assert_held(&rt, rt.alloc(), talks.as_str())?;
     Ok(())
 }

@@ -6,6 +6,8 @@ mod extras;
 #[cfg(test)]
 mod filters;
 #[cfg(test)]
+mod held;
+#[cfg(test)]
 mod office;
 #[cfg(test)]
 mod policies;

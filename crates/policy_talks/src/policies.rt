@@ -1,10 +1,11 @@
 //! Policies saved, refused and opened, and the tags that they let machines have.
+use crate::held::assert_held;
 use crate::requests::add_head;
 use run_ends::Status;
 use std::alloc::Global;
 use std::test::Fail;
 use tail_base::NoMemory;
-use talk_runs::{CALM, SETTINGS, first_not_held, piped, piped_over, tables_with};
+use talk_runs::{CALM, SETTINGS, piped, piped_over, tables_with};
 
 /// What is kept of each save.
 const SAVES: &str = r#"= policy-none
@@ -240,19 +241,19 @@ fn is_answered(alloc: Global, body: &[u8], end: &[u8]) -> Result<bool, NoMemory>
 
 #[test]
 fn policies_are_saved(rt: HostRuntime) -> Result<(), Fail> {
-    assert_eq!(rt; first_not_held(rt.alloc(), SAVES)?, None);
+    assert_held(&rt, rt.alloc(), SAVES)?;
     Ok(())
 }
 
 #[test]
 fn policies_grant_tags(rt: HostRuntime) -> Result<(), Fail> {
-    assert_eq!(rt; first_not_held(rt.alloc(), TAGS)?, None);
+    assert_held(&rt, rt.alloc(), TAGS)?;
     Ok(())
 }
 
 #[test]
 fn kept_policies_are_in_force(rt: HostRuntime) -> Result<(), Fail> {
-    assert_eq!(rt; first_not_held(rt.alloc(), KEPT)?, None);
+    assert_held(&rt, rt.alloc(), KEPT)?;
     Ok(())
 }
 
@@ -292,7 +293,7 @@ fn kept_policies_with_faults_are_damage(rt: HostRuntime) -> Result<(), Fail> {
 
 #[test]
 fn policies_are_tested(rt: HostRuntime) -> Result<(), Fail> {
-    assert_eq!(rt; first_not_held(rt.alloc(), TESTS)?, None);
+    assert_held(&rt, rt.alloc(), TESTS)?;
     Ok(())
 }
 

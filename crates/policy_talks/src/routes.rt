@@ -3,11 +3,12 @@
 //! A line of `APPROVALS` stands for a conversation: its name, the tags of a machine of seed@, the routes that it advertises, those that
 //! an operator gives, or `~` where none is asked, the policy's `autoApprovers`, the routes that the operator has approved then, and
 //! those that are served, with ` ; ` between them and `-` for none.
+use crate::held::assert_held;
 use run_ends::Status;
 use std::alloc::Global;
 use std::test::Fail;
 use tail_base::NoMemory;
-use talk_runs::{CALM, SETTINGS, first_not_held, piped, piped_over};
+use talk_runs::{CALM, SETTINGS, piped, piped_over};
 
 /// What an operator approves, and what becomes of it.
 const ROWS: &str = r##"= half-exit
@@ -312,26 +313,26 @@ fn approvals(alloc: Global) -> Result<String, NoMemory> {
 
 #[test]
 fn operators_approve_routes(rt: HostRuntime) -> Result<(), Fail> {
-    assert_eq!(rt; first_not_held(rt.alloc(), ROWS)?, None);
+    assert_held(&rt, rt.alloc(), ROWS)?;
     Ok(())
 }
 
 #[test]
 fn maps_show_a_route_at_its_first_router(rt: HostRuntime) -> Result<(), Fail> {
-    assert_eq!(rt; first_not_held(rt.alloc(), FIRST_ROUTER)?, None);
+    assert_held(&rt, rt.alloc(), FIRST_ROUTER)?;
     Ok(())
 }
 
 #[test]
 fn bodies_with_routes_are_read(rt: HostRuntime) -> Result<(), Fail> {
-    assert_eq!(rt; first_not_held(rt.alloc(), BODIES)?, None);
+    assert_held(&rt, rt.alloc(), BODIES)?;
     Ok(())
 }
 
 #[test]
 fn routes_are_served_where_they_are_approved(rt: HostRuntime) -> Result<(), Fail> {
     let talks = approvals(rt.alloc())?;
-    assert_eq!(rt; first_not_held(rt.alloc(), talks.as_str())?, None);
+    assert_held(&rt, rt.alloc(), talks.as_str())?;
     Ok(())
 }
 

@@ -64,8 +64,8 @@ fn run_both<R: Threads + Wait + Sync>(
 fn doors_without_connections(rt: HostRuntime) -> Result<(), Fail> {
     let ran = served(&rt, rt.alloc(), b"", Items::new(rt.alloc()), &NOTHING)?;
     assert!(rt; ran.status == Status::Ok);
-    assert!(rt; ran.errors.bytes() == NO_LINE);
-    assert!(rt; ran.tables.users().is_empty() && ran.tables.next().user == 1);
+    assert!(rt; ran.given.errors() == NO_LINE);
+    assert!(rt; ran.given.tables().users().is_empty() && ran.given.tables().next().user == 1);
     let asked = ran.doors.asked();
     assert!(rt; asked.len() == 1);
     assert!(rt; asked[0].address.as_slice() == LISTEN && asked[0].count == 4);
@@ -77,7 +77,7 @@ fn what_one_connection_adds_the_next_lists(rt: HostRuntime) -> Result<(), Fail> 
     let ran = run_both(&rt, rt.alloc(), b"workers = 1\n", &NOTHING)?;
     assert!(rt; ran.status == Status::Ok);
     assert!(rt; answered(rt.alloc(), &ran, 2)?);
-    assert!(rt; ran.tables.users().len() == 1);
+    assert!(rt; ran.given.tables().users().len() == 1);
     Ok(())
 }
 
@@ -98,8 +98,8 @@ fn doors_that_do_not_open(rt: HostRuntime) -> Result<(), Fail> {
     };
     let ran = run_both(&rt, rt.alloc(), b"workers = 1\n", &fails)?;
     assert!(rt; ran.status == Status::DoorFault);
-    assert!(rt; ran.errors.bytes() == DOOR_FAULT);
-    assert!(rt; ran.tables.users().is_empty());
+    assert!(rt; ran.given.errors() == DOOR_FAULT);
+    assert!(rt; ran.given.tables().users().is_empty());
     Ok(())
 }
 
@@ -112,7 +112,7 @@ fn a_door_that_fails_at_an_accept(rt: HostRuntime) -> Result<(), Fail> {
     };
     let ran = run_both(&rt, rt.alloc(), b"workers = 1\n", &fails)?;
     assert!(rt; ran.status == Status::DoorFault);
-    assert!(rt; ran.errors.bytes() == DOOR_FAULT);
+    assert!(rt; ran.given.errors() == DOOR_FAULT);
     assert!(rt; answered(rt.alloc(), &ran, 1)?);
     Ok(())
 }
@@ -126,7 +126,7 @@ fn a_random_source_that_is_not_split(rt: HostRuntime) -> Result<(), Fail> {
     };
     let ran = run_both(&rt, rt.alloc(), b"workers = 1\n", &fails)?;
     assert!(rt; ran.status == Status::EntropyFault);
-    assert!(rt; ran.errors.bytes() == ENTROPY_FAULT);
+    assert!(rt; ran.given.errors() == ENTROPY_FAULT);
     assert!(rt; ran.doors.asked().is_empty());
     Ok(())
 }

@@ -11,3 +11,5 @@ mod runs;
 mod seats;
 #[cfg(test)]
 mod served_talks;
+#[cfg(test)]
+mod waiting;

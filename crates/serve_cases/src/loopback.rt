@@ -1,11 +1,9 @@
 //! A registration over loopback, through the program's own listeners.
 ghost use Rattle.std.specs.Prelude.{◌≡◌, ◌≤◌, ◌+◌, ◌-◌, ◌^◌, None, min, sum_by};
 
-use crate::runs::{noon, random, settings_with};
-use io_edge::{Door, Doors, EdgeFault, MemorySink};
+use crate::runs::{NOTHING, POLLING, given_with, has_bytes, run_over};
+use io_edge::{Door, Doors, EdgeFault};
 use memory_edge::MemoryPause;
-use net_rows::Tables;
-use row_keeper::MemoryOpener;
 use run_ends::Status;
 use std::alloc::Global;
 use std::io::{Read, Write};
@@ -15,16 +13,9 @@ use std::test::Fail;
 use std::thread;
 use std::thread::Threads;
 use std::time::{Clock, Duration};
-use tail_base::{Items, NoMemory};
-use tailnet_serve::serve_command;
+use tail_base::NoMemory;
 use talk_runs::talk_bytes;
 use tcp_edge::{TcpDoor, TcpDoors};
-
-/// A machine registers by a new key, and polls: the writes are three answers, a head, and a frame.
-const POLLING: &str = r#"> POST /api/v1/user Bearer/secret {"name":"ann"}
-> POST /api/v1/preauthkey Bearer/secret {"user":"ann@"}
-> POST /machine/register mkey:%1 {"Auth":{"AuthKey":"tnkey-1-0000000000000001000000000000000200000000000000030000000000000004"},"NodeKey":"nodekey:%a"}
-> POST /machine/map mkey:%1 {"NodeKey":"nodekey:%a","Stream":true}"#;
 
 /// Where the system let it listen.
 type Listening = Mutex<Option<SocketAddr>>;
@@ -88,26 +79,9 @@ fn serve_once<
         doors: TcpDoors::new(rt),
         at,
     };
-    Ok(serve_command(
-        &rt,
-        alloc,
-        "tailnet.toml",
-        &mut MemorySink::new(alloc, Items::new(alloc)),
-        &mut settings_with(
-            alloc,
-            b"workers = 1\nconnections = 1\npoll_turns = 1\nlisten = \"127.0.0.1:0\"\n",
-        )?,
-        &mut MemoryOpener::new(
-            alloc,
-            Tables::empty(alloc),
-            Items::new(alloc),
-            Items::new(alloc),
-        ),
-        &mut noon(alloc)?,
-        &mut random(alloc, 0)?,
-        &mut doors,
-        &MemoryPause::new(),
-    ))
+    let lines = b"workers = 1\nconnections = 1\npoll_turns = 1\nlisten = \"127.0.0.1:0\"\n";
+    let mut given = given_with(alloc, lines, &NOTHING)?;
+    Ok(run_over(&rt, alloc, &mut given, &mut doors, &MemoryPause::new()))
 }
 
 /// Waits, ten seconds at most, until the server listens.
@@ -135,16 +109,6 @@ fn asked<R: Net<Listener = TcpListener, Stream = TcpStream> + Wait + Clock>(
     let mut answers = Vec::new(alloc);
     client.read_to_end(&mut answers).ok()?;
     Some(answers)
-}
-
-/// Whether these bytes stand somewhere in the others.
-fn has_bytes(all: &[u8], wanted: &[u8]) -> bool {
-    for at in 0..all.len() {
-        if all[at..].starts_with(wanted) {
-            return true;
-        }
-    }
-    false
 }
 
 #[test]

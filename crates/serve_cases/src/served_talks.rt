@@ -2,6 +2,7 @@
 //! begin with what the seed makes.
 ghost use Rattle.std.specs.Prelude.{◌<◌, IfOk, length};
 
+use crate::runs::{Given, run_over};
 use io_edge::{MemoryClock, MemoryFiles, MemorySink};
 use memory_edge::{DoorPlan, MemoryDoors, MemoryPause};
 use net_rows::Tables;
@@ -12,9 +13,7 @@ use std::sync::Wait;
 use std::test::Fail;
 use std::thread::Threads;
 use tail_base::{Bytes, Duplicate, Items, NoMemory};
-use tailnet_serve::serve_command;
-use talk_cases::{POLLS, WORKED};
-use talk_runs::{CALM, Talk, entropy_of, failing, files_of, piped_at, talks_of};
+use talk_runs::{CALM, POLLS, Talk, WORKED, entropy_of, failing, files_of, piped_at, talks_of};
 
 /// Whether `serve` can hold it: nothing fails but commits behind the seed's, and no write is cut off.
 fn is_served_alike(talk: &Talk) -> bool {
@@ -98,31 +97,26 @@ fn is_answered(doors: &MemoryDoors, talk: &Talk) -> bool {
     }
 }
 
+/// What `serve` is given for a conversation.
+fn given_for(alloc: Global, talk: &Talk) -> Result<Given, NoMemory> {
+    let clock = clock_behind_seed(alloc, talk)?;
+    let entropy = entropy_of(alloc, 0)?;
+    let files = files_for(alloc, talk)?;
+    let opener = opener_for(alloc, talk)?;
+    let errors = MemorySink::new(alloc, Items::new(alloc));
+    Ok(Given::new(files, opener, clock, entropy, errors))
+}
+
 /// Whether `serve tailnet.toml` answers the conversation as `pipe` does.
 fn is_served<R: Threads + Wait + Sync>(
     rt: &R,
     alloc: Global,
     talk: &Talk,
 ) -> Result<bool, NoMemory> {
-    let mut errors = MemorySink::new(alloc, Items::new(alloc));
-    let mut files = files_for(alloc, talk)?;
-    let mut opener = opener_for(alloc, talk)?;
-    let mut clock = clock_behind_seed(alloc, talk)?;
-    let mut entropy = entropy_of(alloc, 0)?;
     let mut doors = doors_of(alloc, talk)?;
-    let status = serve_command(
-        rt,
-        alloc,
-        "tailnet.toml",
-        &mut errors,
-        &mut files,
-        &mut opener,
-        &mut clock,
-        &mut entropy,
-        &mut doors,
-        &MemoryPause::new(),
-    );
-    Ok(status == Status::Ok && errors.bytes().is_empty() && is_answered(&doors, talk))
+    let mut given = given_for(alloc, talk)?;
+    let status = run_over(rt, alloc, &mut given, &mut doors, &MemoryPause::new());
+    Ok(status == Status::Ok && given.errors().is_empty() && is_answered(&doors, talk))
 }
 
 /// The name of the first conversation of the table that `serve` doesn't hold as `pipe` does; None if it

@@ -1,5 +1,5 @@
 //! Databases in files, opened as the program opens them.
-use crate::sound::{commit, load};
+use crate::sound::{commit_over, load};
 use keeper_sqlite::HostOpener;
 use net_rows::{Change, Row, Tables};
 use row_keeper::{Keeper, Opener};
@@ -36,8 +36,8 @@ fn opened<O: Opener>(alloc: Global, opener: &mut O) -> Result<O::Keeper, Fail> {
 
 /// Loads the tables, and keeps this policy.
 fn keep<K: Keeper>(alloc: Global, keeper: &mut K, text: &str) -> Result<(), Fail> {
-    let tables = load(alloc, keeper)?;
-    let _left = commit(alloc, keeper, &tables, &policy(alloc, text)?)?;
+    let change = policy(alloc, text)?;
+    let _left = commit_over(alloc, keeper, &change)?;
     Ok(())
 }
 

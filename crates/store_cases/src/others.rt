@@ -3,7 +3,8 @@ use io_edge::EdgeFault;
 use keeper_sqlite::HostOpener;
 use net_rows::Kind;
 use row_keeper::{Keeper, LoadFault, Opener};
-use sqlite::Connection;
+use sqlite::{Connection, FileStore};
+use sqlite_disk::Disk;
 use std::alloc::Global;
 use std::fs;
 use std::test::Fail;
@@ -53,14 +54,18 @@ const ANOTHER: &str = "store_cases_another";
 
 const NOTES: &str = "store_cases_another/notes.db";
 
+/// Makes a table of another program in a database, and closes it.
+fn is_made<D: Disk + Drop>(mut conn: Connection<FileStore<D>>) -> bool {
+    let is_made = conn.execute("CREATE TABLE notes (note TEXT)", &[]).is_ok();
+    conn.close().is_ok() && is_made
+}
+
 /// Makes a database with a table of another program.
 fn make_notes(rt: &HostRuntime) -> Result<(), Fail> {
-    let Ok(mut conn) = Connection::open(rt, NOTES) else {
+    let Ok(conn) = Connection::open(rt, NOTES) else {
         return Err(Fail::from("the file isn't made"));
     };
-    let is_made = conn.execute("CREATE TABLE notes (note TEXT)", &[]).is_ok();
-    let is_closed = conn.close().is_ok();
-    if is_made && is_closed {
+    if is_made(conn) {
         Ok(())
     } else {
         Err(Fail::from("the table isn't made"))

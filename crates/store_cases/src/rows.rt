@@ -1,6 +1,8 @@
 //! Rows of every kind, written and read again.
+ghost use Rattle.io_edge.specs.Edge.{IsWhereTold};
+
 use crate::made::{made, run};
-use crate::sound::{commit, load, try_commit};
+use crate::sound::{commit, commit_over, load, try_commit};
 use io_edge::EdgeFault;
 use keeper_sqlite::SqliteKeeper;
 use net_rows::{Change, Counters, Row, RowKey, Tables};
@@ -143,12 +145,23 @@ fn whole_change(alloc: Global) -> Result<Change, Fail> {
     Ok(change_to(alloc, &tables)?)
 }
 
+/// Commits the change to tables that have it already.
+fn commit_again<K: Keeper>(
+    alloc: Global,
+    keeper: &mut K,
+    tables: &Tables,
+    change: &Change,
+) -> Result<(), Fail>
+    requires told { IsWhereTold tables.now.rows (K.told keeper.old) }
+{
+    let _replaced = commit(alloc, keeper, tables, change)?;
+    Ok(())
+}
+
 /// Commits the change twice, so that each row is added and then replaced.
 fn commit_twice<K: Keeper>(alloc: Global, keeper: &mut K, change: &Change) -> Result<(), Fail> {
-    let tables = load(alloc, keeper)?;
-    let added = commit(alloc, keeper, &tables, change)?;
-    let _replaced = commit(alloc, keeper, &added, change)?;
-    Ok(())
+    let added = commit_over(alloc, keeper, change)?;
+    commit_again(alloc, keeper, &added, change)
 }
 
 /// A database to which the change was committed twice.
@@ -198,12 +211,28 @@ fn counted<K: Keeper>(alloc: Global, keeper: &mut K) -> Result<[usize; 4], Fail>
     Ok(counts(&tables))
 }
 
+/// What the removal of these tables comes to.
+fn try_removal<K: Keeper>(
+    alloc: Global,
+    keeper: &mut K,
+    tables: &Tables,
+) -> Result<Result<(), EdgeFault>, Fail>
+    requires told { IsWhereTold tables.now.rows (K.told keeper.old) }
+{
+    let change = removal(alloc, tables.next())?;
+    match try_commit(alloc, keeper, tables, &change)? {
+        Ok(_) => Ok(Ok(())),
+        Err(fault) => Ok(Err(fault)),
+    }
+}
+
 /// Loads, and removes the rows. It counts those before.
 fn remove<K: Keeper>(alloc: Global, keeper: &mut K) -> Result<[usize; 4], Fail> {
     let tables = load(alloc, keeper)?;
-    let change = removal(alloc, tables.next())?;
-    let _left = commit(alloc, keeper, &tables, &change)?;
-    Ok(counts(&tables))
+    match try_removal(alloc, keeper, &tables)? {
+        Ok(()) => Ok(counts(&tables)),
+        Err(_) => Err(Fail::from("the rows aren't removed")),
+    }
 }
 
 /// The counts before and after the removal.
@@ -232,12 +261,8 @@ fn remove_early<S: Alter + Drop>(
 ) -> Result<Result<(), EdgeFault>, Fail> {
     let mut first = SqliteKeeper::adopt(conn);
     let tables = load(alloc, &mut first)?;
-    let change = removal(alloc, tables.next())?;
     let mut keeper = SqliteKeeper::adopt(first.give_back());
-    match try_commit(alloc, &mut keeper, &tables, &change)? {
-        Ok(_) => Ok(Ok(())),
-        Err(fault) => Ok(Err(fault)),
-    }
+    try_removal(alloc, &mut keeper, &tables)
 }
 
 fn early_commit(alloc: Global) -> Result<Result<(), EdgeFault>, Fail> {

@@ -1,55 +1,118 @@
 //! Changes that are tried on the tables before they are committed: a keeper that tells its rows takes
 //! no change that breaks their rules.
-ghost use Rattle.std.specs.Prelude.{◌≡◌, None, IfOk, OnOk};
+ghost use Rattle.std.specs.Prelude.{◌≡◌, [], None, IfOk, OnOk};
 ghost use Rattle.io_edge.specs.Edge.{IsWhereTold};
 ghost use Rattle.net_rows.specs.Damage.{damage};
 ghost use Rattle.net_rows.specs.Rows.{after};
 
 use io_edge::EdgeFault;
-use net_rows::{Change, Lists, Rows, Tables};
+use net_rows::{AuthKey, Change, Counters, Lists, Machine, Pending, Rows, Tables, User};
 use row_keeper::Keeper;
 use std::alloc::Global;
 use std::test::Fail;
-use tail_base::{Duplicate, Items, NoMemory};
+use tail_base::{Duplicate, Items, NoMemory, Text};
+use tailcfg::DnsExtra;
 
-/// The rows of these tables, in lists that keep no rules.
-fn lists_of(alloc: Global, tables: &Tables) -> Result<Lists, NoMemory>
-    ensures rows { IfOk result (λ lists. lists.rows ≡ tables.now.rows) }
+/// Rows without machines, extra records and a policy.
+fn small_rows(
+    alloc: Global,
+    users: &[User],
+    keys: &[AuthKey],
+    pending: &[Pending],
+    next: Counters,
+) -> Result<Rows, NoMemory>
+    ensures rows { IfOk result (λ rows. rows ≡ record {
+      users = users.now;
+      keys = keys.now;
+      pending = pending.now;
+      machines = [];
+      extras = [];
+      policy = None;
+      next = next;
+    }) }
 {
-    Ok(Lists::from_rows(Rows {
-        users: Items::from_slice(alloc, tables.users())?,
-        keys: Items::from_slice(alloc, tables.keys())?,
-        pending: Items::from_slice(alloc, tables.pending())?,
-        machines: Items::from_slice(alloc, tables.machines())?,
-        extras: Items::from_slice(alloc, tables.extras())?,
-        policy: tables.policy().copy(alloc)?,
-        next: tables.next(),
-    }))
+    let users = Items::from_slice(alloc, users)?;
+    let keys = Items::from_slice(alloc, keys)?;
+    let pending = Items::from_slice(alloc, pending)?;
+    Ok(Rows {
+        users,
+        keys,
+        pending,
+        machines: Items::new(alloc),
+        extras: Items::new(alloc),
+        policy: None,
+        next,
+    })
+}
+
+/// These rows with machines, extra records and a policy.
+fn with_others(
+    alloc: Global,
+    mut rows: Rows,
+    machines: &[Machine],
+    extras: &[DnsExtra],
+    policy: &Option<Text>,
+) -> Result<Rows, NoMemory>
+    ensures rows { IfOk result (λ made. made ≡ record rows {
+      machines = machines.now;
+      extras = extras.now;
+      policy = policy.now;
+    }) }
+{
+    rows.policy = policy.copy(alloc)?;
+    rows.extras = Items::from_slice(alloc, extras)?;
+    rows.machines = Items::from_slice(alloc, machines)?;
+    Ok(rows)
+}
+
+/// The rows of these tables.
+fn rows_of(alloc: Global, tables: &Tables) -> Result<Rows, NoMemory>
+    ensures rows { IfOk result (λ rows. rows ≡ tables.now.rows) }
+    ensures sound { damage tables.now.rows ≡ None }
+{
+    let (users, keys) = (tables.users(), tables.keys());
+    let rows = small_rows(alloc, users, keys, tables.pending(), tables.next())?;
+    with_others(
+        alloc,
+        rows,
+        tables.machines(),
+        tables.extras(),
+        tables.policy(),
+    )
 }
 
 /// The rows of these lists.
 fn rows_in(alloc: Global, lists: &Lists) -> Result<Rows, NoMemory>
     ensures rows { IfOk result (λ rows. rows ≡ lists.now.rows) }
 {
-    Ok(Rows {
-        users: Items::from_slice(alloc, lists.users())?,
-        keys: Items::from_slice(alloc, lists.keys())?,
-        pending: Items::from_slice(alloc, lists.pending())?,
-        machines: Items::from_slice(alloc, lists.machines())?,
-        extras: Items::from_slice(alloc, lists.extras())?,
-        policy: lists.policy().copy(alloc)?,
-        next: lists.next(),
-    })
+    let (users, keys) = (lists.users(), lists.keys());
+    let rows = small_rows(alloc, users, keys, lists.pending(), lists.next())?;
+    with_others(
+        alloc,
+        rows,
+        lists.machines(),
+        lists.extras(),
+        lists.policy(),
+    )
 }
 
-/// The rows after the change, whatever they are.
+/// The rows of these lists after the change.
+fn rows_applied(alloc: Global, mut lists: Lists, change: Change) -> Result<Rows, NoMemory>
+    ensures rows { IfOk result (λ rows. rows ≡ after lists.rows change) }
+{
+    lists.reserve(change.puts.as_slice())?;
+    lists.apply(change);
+    rows_in(alloc, &lists)
+}
+
+/// The rows after the change, whatever they are: those of the tables in lists that keep no rules, where
+/// it is applied.
 fn rows_after(alloc: Global, tables: &Tables, change: &Change) -> Result<Rows, NoMemory>
     ensures rows { IfOk result (λ rows. rows ≡ after tables.now.rows change.now) }
 {
-    let mut lists = lists_of(alloc, tables)?;
-    lists.reserve(change.puts.as_slice())?;
-    lists.apply(change.copy(alloc)?);
-    rows_in(alloc, &lists)
+    let change = change.copy(alloc)?;
+    let rows = rows_of(alloc, tables)?;
+    rows_applied(alloc, Lists::from_rows(rows), change)
 }
 
 /// The tables after the change, which is to keep their rules.
@@ -105,4 +168,16 @@ pub(crate) fn load<K: Keeper>(alloc: Global, keeper: &mut K) -> Result<Tables, F
         Ok(tables) => Ok(tables),
         Err(_) => Err(Fail::from("the tables aren't loaded")),
     }
+}
+
+/// Loads the tables, commits a change of them, and gives those after it.
+pub(crate) fn commit_over<K: Keeper>(
+    alloc: Global,
+    keeper: &mut K,
+    change: &Change,
+) -> Result<Tables, Fail>
+    ensures told { IfOk result (λ left. IsWhereTold left.rows (K.told keeper.new)) }
+{
+    let tables = load(alloc, keeper)?;
+    commit(alloc, keeper, &tables, change)
 }

@@ -6,8 +6,8 @@ use Rattle.tail_base.specs.declared.key.MachineKey.{MachineKey}
 use Rattle.net_rows.specs.declared.rows.Rows.{Rows}
 use Rattle.desk_state.specs.State.{State, at_moment}
 use Rattle.desk_state.specs.declared.session.Session.{Session}
-use Rattle.map_asks.specs.Drain.{drain}
-use Rattle.map_asks.specs.declared.draining.DrainDecision.{DrainDecision}
+use Rattle.machine_asks.specs.Drain.{drain}
+use Rattle.machine_asks.specs.declared.draining.DrainDecision.{DrainDecision}
 use Rattle.tailnet_desk.specs.Seated.{Keeping, Point, Seated, keeping_of, point_of}
 use Rattle.tailnet_desk.specs.Step.{drain_turn, step}
 use Rattle.tailnet_desk.specs.Turns.{IsTurn}

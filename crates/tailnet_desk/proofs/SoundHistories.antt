@@ -13,11 +13,11 @@ use Rattle.desk_state.specs.declared.decision.Decision.{Decision}
 use Rattle.desk_state.specs.declared.refusal.Refusal.{Refusal}
 use Rattle.desk_state.proofs.Proper.{same_counters}
 use Rattle.policy_asks.specs.Kept.{policy_in}
-use Rattle.map_asks.specs.Attach.{attach}
-use Rattle.map_asks.specs.Detach.{detach}
-use Rattle.map_asks.specs.Drain.{drain}
-use Rattle.map_asks.specs.declared.attaching.AttachDecision.{AttachDecision}
-use Rattle.map_asks.specs.declared.draining.DrainDecision.{DrainDecision}
+use Rattle.machine_asks.specs.Attach.{attach}
+use Rattle.machine_asks.specs.Detach.{detach}
+use Rattle.machine_asks.specs.Drain.{drain}
+use Rattle.machine_asks.specs.declared.attaching.AttachDecision.{AttachDecision}
+use Rattle.machine_asks.specs.declared.draining.DrainDecision.{DrainDecision}
 use Rattle.tailnet_desk.specs.Asks.{IsPollEvent, IsShortEvent}
 use Rattle.tailnet_desk.specs.History.{Legal, replay, state_after}
 use Rattle.tailnet_desk.specs.Seated.{IsInForce}

@@ -9,8 +9,8 @@ use Rattle.row_keeper.specs.Calls.{one_more}
 use Rattle.desk_state.specs.State.{State}
 use Rattle.desk_state.specs.declared.decision.Decision.{Decision}
 use Rattle.tailnet_desk.specs.Seated.{Keeping}
-use Rattle.map_asks.specs.Attach.{attached_state}
-use Rattle.map_asks.specs.declared.attaching.AttachDecision.{AttachDecision}
+use Rattle.machine_asks.specs.Attach.{attached_state}
+use Rattle.machine_asks.specs.declared.attaching.AttachDecision.{AttachDecision}
 use Rattle.tailnet_desk.specs.Step.{attached_reply, settled}
 use Rattle.tailnet_desk.specs.declared.reply.Answer.{Answer}
 use Rattle.tailnet_desk.specs.declared.reply.Loss.TheVariants.{NoMemory, KeeperFault}

@@ -12,11 +12,11 @@ use Rattle.desk_state.specs.declared.refusal.Refusal.{Refusal}
 use Rattle.desk_state.specs.declared.session.Attachment.{Attachment}
 use Rattle.desk_state.specs.declared.session.Session.{Session}
 use Rattle.admin_asks.specs.Decision as operator
-use Rattle.map_asks.specs.Attach.{attach, attached_state}
-use Rattle.map_asks.specs.Detach.{detach, detached_state}
-use Rattle.map_asks.specs.Drain.{drain, drained_state}
-use Rattle.map_asks.specs.declared.attaching.AttachDecision.{AttachDecision}
-use Rattle.map_asks.specs.declared.draining.DrainDecision.{DrainDecision}
+use Rattle.machine_asks.specs.Attach.{attach, attached_state}
+use Rattle.machine_asks.specs.Detach.{detach, detached_state}
+use Rattle.machine_asks.specs.Drain.{drain, drained_state}
+use Rattle.machine_asks.specs.declared.attaching.AttachDecision.{AttachDecision}
+use Rattle.machine_asks.specs.declared.draining.DrainDecision.{DrainDecision}
 use Rattle.machine_asks.specs.Decision as machine
 use Rattle.machine_asks.specs.Seed.{seed}
 use Rattle.policy_asks.specs.Decision.{policy_decision}

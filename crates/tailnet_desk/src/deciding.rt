@@ -10,7 +10,7 @@ use crate::ask::Ask;
 use crate::reply::Answer;
 use admin_asks::OperatorAnswer;
 use desk_state::{Decision, Refusal, Snapshot};
-use map_asks::MachineAnswer;
+use machine_asks::MachineAnswer;
 use policy_asks::PolicyAnswer;
 use std::alloc::Global;
 use tail_base::Failure;

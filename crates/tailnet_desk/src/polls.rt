@@ -2,7 +2,7 @@
 ghost use Rattle.std.specs.Prelude.{◌≡◌, ◌≤◌, IfSome, IsSome, OnOk};
 ghost use Rattle.io_edge.specs.Edge.{IsWhereTold};
 ghost use Rattle.desk_state.specs.Sessions.{session_of};
-ghost use Rattle.map_asks.specs.Detach.{detached_state};
+ghost use Rattle.machine_asks.specs.Detach.{detached_state};
 ghost use Rattle.tailnet_desk.specs.Carried.{AttachCarried};
 ghost use Rattle.tailnet_desk.specs.Seated.{point_of};
 ghost use Rattle.tailnet_desk.specs.Step.{drain_reply, drain_turn};
@@ -15,7 +15,7 @@ use crate::reply::{Drained, Loss, Reply};
 use crate::sessions::{attach_session, put_session};
 use crate::settling::end_presence;
 use desk_state::{Attachment, MachinePresence, Presence, Sessions};
-use map_asks::{AttachDecision, DrainDecision, attach, detach, drain};
+use machine_asks::{AttachDecision, DrainDecision, attach, detach, drain};
 use moments::Moment;
 use net_rows::Shelf;
 use row_keeper::Keeper;

@@ -5,7 +5,7 @@ ghost use Rattle.tailnet_desk.specs.Turns.{IsDrainReply};
 
 use admin_asks::OperatorAnswer;
 use desk_state::Refusal;
-use map_asks::MachineAnswer;
+use machine_asks::MachineAnswer;
 use policy_asks::PolicyAnswer;
 use tail_base::{Items, Text};
 use tailcfg::Response;

@@ -3,7 +3,7 @@ ghost use Rattle.std.specs.Prelude.{◌≡◌, ◌≤◌, IsSome};
 ghost use Rattle.net_rows.specs.Shelf.{put_row};
 ghost use Rattle.desk_state.specs.Sessions.{session_of};
 ghost use Rattle.desk_state.specs.State.{forgotten, without_all};
-ghost use Rattle.map_asks.specs.Attach.{sessions_with};
+ghost use Rattle.machine_asks.specs.Attach.{sessions_with};
 
 use crate::settling::forget;
 use desk_state::{Attachment, Session, Sessions};

@@ -11,9 +11,9 @@ use Rattle.desk_state.specs.State.{State}
 use Rattle.desk_state.specs.declared.refusal.Refusal.TheVariants.{EntropyFault, Full}
 use Rattle.desk_state.specs.declared.refusal.Scarce.TheVariants as scarce
 use Rattle.desk_state.specs.declared.session.Session.{Session}
-use Rattle.map_asks.specs.Asking.{asking}
-use Rattle.map_asks.specs.Attach.{attach, attach_to, has_number, is_taken_up, session_begun, session_due, session_taken_up}
-use Rattle.map_asks.specs.declared.attaching.AttachDecision.{AttachDecision}
+use Rattle.machine_asks.specs.Asking.{asking}
+use Rattle.machine_asks.specs.Attach.{attach, attach_to, has_number, is_taken_up, session_begun, session_due, session_taken_up}
+use Rattle.machine_asks.specs.declared.attaching.AttachDecision.{AttachDecision}
 
 -- a session that goes on, or one that begins
 abbrev pub IsEither : State → AttachDecision → Type 0

@@ -11,7 +11,7 @@ use Rattle.net_rows.proofs.Members.{find_none}
 use Rattle.desk_state.specs.State.{State, at_moment}
 use Rattle.desk_state.specs.declared.decision.Decision.{Decision}
 use Rattle.desk_state.specs.declared.refusal.Refusal.{Refusal}
-use Rattle.machine_rows.proofs.RowLemmas.{machine_found}
+use Rattle.desk_state.proofs.RowLemmas.{machine_found}
 use Rattle.tailnet_desk.specs.History.{IsReply, Legal, replay, state_after}
 use Rattle.tailnet_desk.specs.Asks.{IsPollEvent}
 use Rattle.tailnet_desk.specs.Step.{decision, outcome, step}

@@ -5,7 +5,7 @@ use Rattle.tail_base.specs.Steps.{◌>>=◌, or_fault, refuse_if}
 use Rattle.desk_state.specs.declared.decision.Decision.{Decision}
 use Rattle.desk_state.specs.declared.refusal.Refusal.{Refusal}
 use Rattle.machine_asks.specs.Register.{of_row}
-use Rattle.map_asks.specs.declared.answer.MachineAnswer.{MachineAnswer}
+use Rattle.machine_asks.specs.declared.answer.MachineAnswer.{MachineAnswer}
 
 -- the decision, if there is one, is such
 abbrev pub Every : {A : Type 0} → (A → Type 0) → Result A Refusal → Type 0

@@ -34,13 +34,13 @@ use Rattle.desk_state.specs.State.{State, at_moment, is_live, live_ids}
 use Rattle.desk_state.specs.declared.decision.Decision.{Decision}
 use Rattle.desk_state.specs.declared.refusal.Refusal.{Refusal}
 use Rattle.desk_state.specs.declared.session.Session.{Session}
-use Rattle.map_asks.specs.Attach.{attach, attached_state}
-use Rattle.map_asks.specs.Detach.{detach, is_held_under}
-use Rattle.map_asks.specs.Drain.{drain, drain_machine, drain_session, drained_state, if_live, is_drained, session_at, session_drained}
-use Rattle.map_asks.specs.OneMap.{IsLiveRow, fresh_for, node_in, online_ids, world_of}
-use Rattle.map_asks.specs.declared.attaching.AttachDecision.{AttachDecision}
-use Rattle.map_asks.specs.declared.draining.DrainDecision.{DrainDecision}
-use Rattle.map_asks.proofs.Drains.{live_row}
+use Rattle.machine_asks.specs.Attach.{attach, attached_state}
+use Rattle.machine_asks.specs.Detach.{detach, is_held_under}
+use Rattle.machine_asks.specs.Drain.{drain, drain_machine, drain_session, drained_state, if_live, is_drained, session_at, session_drained}
+use Rattle.machine_asks.specs.OneMap.{IsLiveRow, fresh_for, node_in, online_ids, world_of}
+use Rattle.machine_asks.specs.declared.attaching.AttachDecision.{AttachDecision}
+use Rattle.machine_asks.specs.declared.draining.DrainDecision.{DrainDecision}
+use Rattle.machine_asks.proofs.Drains.{live_row}
 use Rattle.tailnet_desk.specs.Asks.{IsShortEvent}
 use Rattle.tailnet_desk.specs.History.{IsReply, Legal, replay, state_after}
 use Rattle.tailnet_desk.specs.Opening.{opening}

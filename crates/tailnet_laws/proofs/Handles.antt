@@ -5,11 +5,11 @@ use Rattle.desk_state.specs.State.{State, at_moment}
 use Rattle.desk_state.specs.Texts.{session_handle}
 use Rattle.desk_state.specs.declared.decision.Decision.{Decision}
 use Rattle.desk_state.specs.declared.refusal.Refusal.{Refusal}
-use Rattle.map_asks.specs.Attach.{attach}
-use Rattle.map_asks.specs.Detach.{detach}
-use Rattle.map_asks.specs.Drain.{drain}
-use Rattle.map_asks.specs.declared.attaching.AttachDecision.{AttachDecision}
-use Rattle.map_asks.specs.declared.draining.DrainDecision.{DrainDecision}
+use Rattle.machine_asks.specs.Attach.{attach}
+use Rattle.machine_asks.specs.Detach.{detach}
+use Rattle.machine_asks.specs.Drain.{drain}
+use Rattle.machine_asks.specs.declared.attaching.AttachDecision.{AttachDecision}
+use Rattle.machine_asks.specs.declared.draining.DrainDecision.{DrainDecision}
 use Rattle.tailnet_desk.specs.History.{IsReply, Legal, state_after}
 use Rattle.tailnet_desk.specs.Step.{attach_turn, decision, detach_turn, drain_turn, outcome, step}
 use Rattle.tailnet_desk.specs.declared.entry.Entry.{Entry}

@@ -24,11 +24,11 @@ use Rattle.fresh_maps.specs.Fresh.{fresh}
 use Rattle.desk_state.specs.State.{State, is_ahead, is_live, live_ids}
 use Rattle.desk_state.specs.declared.refusal.Refusal.TheVariants.{NotLive, UnknownMachine}
 use Rattle.desk_state.specs.declared.refusal.Refusal.{Refusal}
-use Rattle.machine_rows.proofs.RowLemmas.{machine_found}
-use Rattle.map_asks.specs.Asking.{asking}
+use Rattle.desk_state.proofs.RowLemmas.{machine_found}
+use Rattle.machine_asks.specs.Asking.{asking}
 use Rattle.machine_asks.specs.Decision.{decision}
-use Rattle.map_asks.specs.OneMap.{map_decision, node_in, world_of}
-use Rattle.map_asks.specs.Update.{told_row, updated}
+use Rattle.machine_asks.specs.OneMap.{map_decision, node_in, world_of}
+use Rattle.machine_asks.specs.Update.{told_row, updated}
 use Rattle.machine_asks.specs.declared.ask.MachineAsk.TheVariants as ask
 use Rattle.tailnet_laws.specs.Shown.{IsExpired}
 use Rattle.tailnet_laws.proofs.Every.{Every, every_ok, every_or, every_refuse}

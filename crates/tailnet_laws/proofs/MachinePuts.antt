@@ -19,21 +19,21 @@ use Rattle.desk_state.specs.Tags.{tags_granted}
 use Rattle.desk_state.specs.declared.decision.Decision.{Decision}
 use Rattle.desk_state.specs.declared.refusal.Refusal.TheVariants.{EntropyFault, Full, KeyExpired, KeyUnknown, KeyUsed, NodeKeyTaken, UnknownMachine}
 use Rattle.desk_state.specs.declared.refusal.Scarce.TheVariants as scarce
-use Rattle.machine_rows.specs.Rows.{is_taken, machine_row, place_for, row_change, row_replaced}
-use Rattle.machine_rows.specs.Same.{same_told}
-use Rattle.machine_rows.specs.declared.place.Place.{Place}
-use Rattle.machine_rows.proofs.RowLemmas.{machine_found}
-use Rattle.map_asks.specs.Asking.{asking}
+use Rattle.desk_state.specs.Rows.{is_taken, machine_row, place_for, row_change, row_replaced}
+use Rattle.desk_state.specs.Same.{same_told}
+use Rattle.desk_state.specs.declared.place.Place.{Place}
+use Rattle.desk_state.proofs.RowLemmas.{machine_found}
+use Rattle.machine_asks.specs.Asking.{asking}
 use Rattle.machine_asks.specs.ByKey.{admitted_by_key, by_key, changes_nothing, entrant_of_key, usable_key}
 use Rattle.machine_asks.specs.Decision.{decision}
 use Rattle.machine_asks.specs.Logout.{expired_row, is_logout, logout, logout_again, logout_now, machine_removed, node_key_replaced, rotates}
-use Rattle.map_asks.specs.OneMap.{after_change, map_decision, map_for}
+use Rattle.machine_asks.specs.OneMap.{after_change, map_decision, map_for}
 use Rattle.machine_asks.specs.Register.{register, registered_again, repeats}
 use Rattle.machine_asks.specs.Seed.{is_past_seed, seed, seed_change}
-use Rattle.map_asks.specs.Update.{told_row, updated}
+use Rattle.machine_asks.specs.Update.{told_row, updated}
 use Rattle.machine_asks.specs.Waiting.{entry_change, has_place, new_entry, wait_anew, wait_as, waiting_entered, waits, waits_on}
-use Rattle.map_asks.specs.declared.answer.MachineAnswer.{MachineAnswer}
-use Rattle.map_asks.specs.declared.answer.MachineAnswer.TheVariants.{Updated}
+use Rattle.machine_asks.specs.declared.answer.MachineAnswer.{MachineAnswer}
+use Rattle.machine_asks.specs.declared.answer.MachineAnswer.TheVariants.{Updated}
 use Rattle.machine_asks.specs.declared.ask.MachineAsk.{MachineAsk}
 use Rattle.machine_asks.specs.declared.ask.MachineAsk.TheVariants as ask
 use Rattle.tailnet_laws.specs.Entering.{IsKeyed}

@@ -20,11 +20,11 @@ use Rattle.desk_state.specs.declared.presence.Presence.TheVariants.{Online}
 use Rattle.desk_state.specs.declared.refusal.Refusal.{Refusal}
 use Rattle.desk_state.specs.declared.session.Attachment.{Attachment}
 use Rattle.desk_state.specs.declared.session.Session.{Session}
-use Rattle.map_asks.specs.Attach.{attach, new_session, sessions_with}
-use Rattle.map_asks.specs.Detach.{detach}
-use Rattle.map_asks.specs.Drain.{drain}
-use Rattle.map_asks.specs.declared.attaching.AttachDecision.{AttachDecision}
-use Rattle.map_asks.specs.declared.draining.DrainDecision.{DrainDecision}
+use Rattle.machine_asks.specs.Attach.{attach, new_session, sessions_with}
+use Rattle.machine_asks.specs.Detach.{detach}
+use Rattle.machine_asks.specs.Drain.{drain}
+use Rattle.machine_asks.specs.declared.attaching.AttachDecision.{AttachDecision}
+use Rattle.machine_asks.specs.declared.draining.DrainDecision.{DrainDecision}
 use Rattle.tailnet_desk.specs.History.{replay, state_after}
 use Rattle.tailnet_desk.specs.Opening.{opening}
 use Rattle.tailnet_desk.specs.Step.{attach_turn, decision, detach_turn, drain_turn, left_after, moment_of, outcome, settled, step}

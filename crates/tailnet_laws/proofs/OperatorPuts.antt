@@ -29,9 +29,9 @@ use Rattle.desk_state.specs.declared.decision.Decision.{Decision}
 use Rattle.desk_state.specs.declared.key_form.KeyForm.{KeyForm}
 use Rattle.desk_state.specs.declared.refusal.Refusal.TheVariants.{BadName, EntropyFault, Full, KeyUnknown, NameTaken, NodeKeyTaken, PendingUnknown, UnknownMachine, UserHasMachines}
 use Rattle.desk_state.specs.declared.refusal.Scarce.TheVariants as scarce
-use Rattle.machine_rows.specs.Rows.{is_taken, machine_row, place_for, row_change, row_replaced}
-use Rattle.machine_rows.specs.Same.{prefix_eq}
-use Rattle.machine_rows.specs.declared.place.Place.{Place}
+use Rattle.desk_state.specs.Rows.{is_taken, machine_row, place_for, row_change, row_replaced}
+use Rattle.desk_state.specs.Same.{prefix_eq}
+use Rattle.desk_state.specs.declared.place.Place.{Place}
 use Rattle.admin_asks.specs.Admit.{admission, admit, entrant_of_entry, timely_entry}
 use Rattle.admin_asks.specs.Decision.{decision}
 use Rattle.admin_asks.specs.Extras.{extras_change, extras_set, set_extras}

@@ -11,10 +11,10 @@ use Rattle.net_rows.specs.declared.machine.Machine.{Machine}
 use Rattle.net_rows.specs.declared.rows.Rows.{Rows}
 use Rattle.desk_state.specs.State.{State}
 use Rattle.desk_state.specs.declared.decision.Decision.{Decision}
-use Rattle.machine_rows.specs.Rows.{kept_place, machine_row, place_for}
-use Rattle.machine_rows.specs.declared.entrant.Entrant.{Entrant}
-use Rattle.machine_rows.specs.declared.place.Place.{Place}
-use Rattle.machine_rows.proofs.RowLemmas.{machine_found, new_place_is}
+use Rattle.desk_state.specs.Rows.{kept_place, machine_row, place_for}
+use Rattle.desk_state.specs.declared.entrant.Entrant.{Entrant}
+use Rattle.desk_state.specs.declared.place.Place.{Place}
+use Rattle.desk_state.proofs.RowLemmas.{machine_found, new_place_is}
 
 -- a key's row that is put again is reusable or not as it was, and stays used
 pub record KeepsUse (old new : AuthKey) : Type 0 where

@@ -12,15 +12,15 @@ use Rattle.admin_asks.specs.Decision as operator
 use Rattle.admin_asks.specs.declared.operator_answer.OperatorAnswer.{OperatorAnswer}
 use Rattle.machine_asks.specs.Decision as machine
 use Rattle.machine_asks.specs.Seed.{seed}
-use Rattle.map_asks.specs.declared.answer.MachineAnswer.{MachineAnswer}
-use Rattle.map_asks.specs.declared.answer.MachineAnswer.TheVariants.{Map}
+use Rattle.machine_asks.specs.declared.answer.MachineAnswer.{MachineAnswer}
+use Rattle.machine_asks.specs.declared.answer.MachineAnswer.TheVariants.{Map}
 use Rattle.policy_asks.specs.Decision.{policy_decision}
 use Rattle.policy_asks.specs.declared.answer.PolicyAnswer.{PolicyAnswer}
-use Rattle.map_asks.specs.Attach.{attach}
-use Rattle.map_asks.specs.Detach.{detach}
-use Rattle.map_asks.specs.Drain.{drain}
-use Rattle.map_asks.specs.declared.attaching.AttachDecision.{AttachDecision}
-use Rattle.map_asks.specs.declared.draining.DrainDecision.{DrainDecision}
+use Rattle.machine_asks.specs.Attach.{attach}
+use Rattle.machine_asks.specs.Detach.{detach}
+use Rattle.machine_asks.specs.Drain.{drain}
+use Rattle.machine_asks.specs.declared.attaching.AttachDecision.{AttachDecision}
+use Rattle.machine_asks.specs.declared.draining.DrainDecision.{DrainDecision}
 use Rattle.tailnet_desk.specs.Step.{attach_turn, detach_turn, drain_turn, moment_of, outcome, step}
 use Rattle.tailnet_desk.specs.declared.ask.Ask.TheVariants as ask
 use Rattle.tailnet_desk.specs.declared.entry.Event.{Event}

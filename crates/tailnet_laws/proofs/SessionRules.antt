@@ -27,8 +27,8 @@ use Rattle.desk_state.specs.State.{State, forgotten, without_all}
 use Rattle.desk_state.specs.Texts.{session_handle}
 use Rattle.desk_state.specs.declared.session.Session.{Session}
 use Rattle.desk_state.proofs.TextLemmas.{names_one, row_text_names}
-use Rattle.map_asks.specs.Attach.{attached_state, new_session, session_begun, session_taken_up}
-use Rattle.map_asks.specs.Drain.{drained_state, session_at}
+use Rattle.machine_asks.specs.Attach.{attached_state, new_session, session_begun, session_taken_up}
+use Rattle.machine_asks.specs.Drain.{drained_state, session_at}
 use Rattle.tailnet_desk.specs.Step.{left_after, sessions_after, settled}
 use Rattle.tailnet_laws.specs.Sessions.{AreHeld, AreSoundSessions, IsGiven, sent_to}
 

@@ -14,9 +14,9 @@ use Rattle.desk_state.specs.Decisions.{answered, rows_after}
 use Rattle.desk_state.specs.State.{State, at_moment}
 use Rattle.desk_state.specs.declared.decision.Decision.{Decision}
 use Rattle.desk_state.specs.declared.refusal.Refusal.{Refusal}
-use Rattle.machine_rows.specs.Rows.{row_change}
+use Rattle.desk_state.specs.Rows.{row_change}
 use Rattle.machine_asks.specs.Decision as machine
-use Rattle.map_asks.specs.declared.answer.MachineAnswer.{MachineAnswer}
+use Rattle.machine_asks.specs.declared.answer.MachineAnswer.{MachineAnswer}
 use Rattle.machine_asks.specs.declared.ask.MachineAsk.{MachineAsk}
 use Rattle.tailnet_desk.specs.Asks.{IsShortEvent}
 use Rattle.tailnet_desk.specs.History.{Legal, replay, state_after}

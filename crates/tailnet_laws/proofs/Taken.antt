@@ -12,12 +12,12 @@ use Rattle.desk_state.specs.Tags.{tags_granted}
 use Rattle.desk_state.specs.declared.decision.Decision.{Decision}
 use Rattle.desk_state.specs.declared.refusal.Refusal.{Refusal}
 use Rattle.desk_state.specs.declared.refusal.Refusal.TheVariants.{NodeKeyTaken, UnknownMachine}
-use Rattle.machine_rows.specs.Rows.{is_taken, machine_row, place_for}
+use Rattle.desk_state.specs.Rows.{is_taken, machine_row, place_for}
 use Rattle.machine_asks.specs.ByKey.{admitted_by_key, by_key, entrant_of_key, usable_key}
 use Rattle.machine_asks.specs.Decision.{decision}
 use Rattle.machine_asks.specs.Logout.{is_logout}
 use Rattle.machine_asks.specs.Register.{register_as}
-use Rattle.map_asks.specs.declared.answer.MachineAnswer.{MachineAnswer}
+use Rattle.machine_asks.specs.declared.answer.MachineAnswer.{MachineAnswer}
 use Rattle.machine_asks.specs.declared.ask.MachineAsk.TheVariants as ask
 use Rattle.tailnet_laws.specs.Entering.{IsKeyed}
 use Rattle.tailnet_laws.specs.Entrances.{HasMachine}

@@ -9,7 +9,7 @@ use Rattle.fresh_maps.specs.Granted.{MeetsPolicy}
 use Rattle.fresh_maps.specs.declared.view.View.{View}
 use Rattle.map_delta.specs.Fold.{fold_all}
 use Rattle.desk_state.specs.State.{State, is_live}
-use Rattle.map_asks.specs.OneMap.{fresh_for, node_in, world_of}
+use Rattle.machine_asks.specs.OneMap.{fresh_for, node_in, world_of}
 use Rattle.tailnet_desk.specs.History.{state_after}
 use Rattle.tailnet_desk.specs.declared.entry.Entry.{Entry}
 use Rattle.tailnet_desk.specs.declared.entry.Event.{Event}

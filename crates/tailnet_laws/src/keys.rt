@@ -12,7 +12,7 @@ ghost use Rattle.desk_state.specs.declared.decision.Decision.{Decision};
 ghost use Rattle.desk_state.specs.declared.refusal.Refusal.TheVariants.{KeyExpired, KeyUsed};
 ghost use Rattle.machine_asks.specs.ByKey.{by_key, usable_key};
 ghost use Rattle.machine_asks.specs.Decision.{decision};
-ghost use Rattle.map_asks.specs.declared.answer.MachineAnswer.{MachineAnswer};
+ghost use Rattle.machine_asks.specs.declared.answer.MachineAnswer.{MachineAnswer};
 ghost use Rattle.machine_asks.specs.declared.ask.MachineAsk.TheVariants.{Register};
 ghost use Rattle.tailnet_desk.specs.History.{Legal, replay};
 ghost use Rattle.tailnet_desk.specs.declared.entry.Entry.{Entry};

@@ -4,3 +4,4 @@ pub mod Works
 pub mod Crews
 pub mod Service
 pub mod Serve
+pub mod Top

@@ -1,4 +1,5 @@
-//! Many connections over one desk: the command `serve`, with a worker for each door.
+//! The top call: the whole program over its outside; and the command `serve`, many connections over one desk, with a worker for
+//! each door.
 #![tactic(auto)]
 
 mod crew;
@@ -10,10 +11,14 @@ mod running;
 mod seat_serving;
 mod serve_end;
 mod serving;
+mod top;
+mod wordless;
 mod worker;
 mod working;
 
 pub use seat_serving::serve_seat;
 pub use serve_end::ServeEnd;
 pub use serving::serve_command;
+pub use top::tailnetd;
+pub use wordless::end_wordless;
 pub use worker::{Report, Stop, WorkLimits, Worker};

@@ -6,7 +6,7 @@ use keeper_sqlite::HostOpener;
 use std::io::ErrorKind;
 use std::process::ExitCode;
 use std::{env, io};
-use tailnet_top::{end_wordless, tailnetd};
+use tailnet_serve::{end_wordless, tailnetd};
 use tcp_edge::{HostPause, TcpDoors, TcpLink};
 
 /// The words after the program's name.

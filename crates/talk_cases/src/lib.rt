@@ -6,6 +6,8 @@ mod edges;
 #[cfg(test)]
 mod faults;
 #[cfg(test)]
+mod held;
+#[cfg(test)]
 mod limits;
 #[cfg(test)]
 mod lives;
@@ -19,6 +21,3 @@ mod registrations;
 mod rows;
 #[cfg(test)]
 mod settings_refused;
-mod tables;
-
-pub use tables::{POLLS, WORKED};

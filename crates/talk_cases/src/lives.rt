@@ -1,6 +1,6 @@
 //! How machines come, are renewed, wait, and go, with the time.
+use crate::held::assert_held;
 use std::test::Fail;
-use talk_runs::first_not_held;
 
 const LIVES: &str = r#"= sweep-at-the-end
 @ 1000000000 1000000000 1000000000 1000001799 1000001800 1000001800
@@ -149,6 +149,6 @@ const LIVES: &str = r#"= sweep-at-the-end
 
 #[test]
 fn lives_of_machines(rt: HostRuntime) -> Result<(), Fail> {
-    assert_eq!(rt; first_not_held(rt.alloc(), LIVES)?, None);
+    assert_held(&rt, rt.alloc(), LIVES)?;
     Ok(())
 }

@@ -1,11 +1,11 @@
 //! Polls: what their streams hold, and when a session goes on.
-use crate::tables::POLLS;
+use crate::held::assert_held;
 use std::test::Fail;
-use talk_runs::first_not_held;
+use talk_runs::POLLS;
 
 #[test]
 fn polls(rt: HostRuntime) -> Result<(), Fail> {
-    assert_eq!(rt; first_not_held(rt.alloc(), POLLS)?, None);
+    assert_held(&rt, rt.alloc(), POLLS)?;
     Ok(())
 }
 
@@ -62,6 +62,6 @@ x"#;
 
 #[test]
 fn each_write_of_a_poll_fails_in_turn(rt: HostRuntime) -> Result<(), Fail> {
-    assert_eq!(rt; first_not_held(rt.alloc(), FAULTS)?, None);
+    assert_held(&rt, rt.alloc(), FAULTS)?;
     Ok(())
 }

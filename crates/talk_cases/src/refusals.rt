@@ -1,6 +1,6 @@
 //! Every refusal, and what stands in the tables after it; the first fault of every body.
+use crate::held::assert_held;
 use std::test::Fail;
-use talk_runs::first_not_held;
 
 /// What the desk refuses, and that it changes nothing.
 const REFUSALS: &str = r#"= logins
@@ -498,12 +498,12 @@ const BODIES: &str = r#"= no-machine-key
 
 #[test]
 fn refusals_of_the_desk(rt: HostRuntime) -> Result<(), Fail> {
-    assert_eq!(rt; first_not_held(rt.alloc(), REFUSALS)?, None);
+    assert_held(&rt, rt.alloc(), REFUSALS)?;
     Ok(())
 }
 
 #[test]
 fn faults_of_bodies(rt: HostRuntime) -> Result<(), Fail> {
-    assert_eq!(rt; first_not_held(rt.alloc(), BODIES)?, None);
+    assert_held(&rt, rt.alloc(), BODIES)?;
     Ok(())
 }

@@ -1,10 +1,10 @@
 //! Worked conversations, byte for byte.
-use crate::tables::WORKED;
+use crate::held::assert_held;
 use std::test::Fail;
-use talk_runs::first_not_held;
+use talk_runs::WORKED;
 
 #[test]
 fn worked_conversations(rt: HostRuntime) -> Result<(), Fail> {
-    assert_eq!(rt; first_not_held(rt.alloc(), WORKED)?, None);
+    assert_held(&rt, rt.alloc(), WORKED)?;
     Ok(())
 }

@@ -1,17 +1,18 @@
 //! What the top call is given in memory, and the call over it.
 use crate::FIRST;
 use io_edge::{
-    MemoryClock, MemoryEntropy, MemoryFiles, MemorySink, MemorySource, NoDoors, NoPause,
+    Clock, Entropy, Files, Link, MemoryClock, MemoryEntropy, MemoryFiles, MemorySink, MemorySource,
+    NoDoors, NoPause, Sink, Source,
 };
 use memory_edge::MemoryLink;
 use net_rows::Tables;
-use row_keeper::MemoryOpener;
+use row_keeper::{MemoryOpener, Opener};
 use run_ends::Status;
 use std::alloc::Global;
 use std::sync::Wait;
 use std::thread::Threads;
 use tail_base::{Bytes, Items, NoMemory};
-use tailnet_top::tailnetd;
+use tailnet_serve::tailnetd;
 
 /// What the top call is given.
 #[derive(Drop)]
@@ -66,6 +67,48 @@ pub(crate) fn new_outside(alloc: Global, answer: &[u8], call: u32) -> Result<Out
     })
 }
 
+/// The top call. The tests look at what it leaves and ask for none of its clauses, so that they aren't
+/// proved beside what these say.
+pub(crate) fn run_over<
+    R: Threads + Wait + Sync,
+    I: Source,
+    O: Sink,
+    E: Sink,
+    F: Files,
+    P: Opener,
+    C: Clock + Send + Drop,
+    N: Entropy + Send,
+    L: Link,
+>(
+    rt: &R,
+    alloc: Global,
+    words: &[String],
+    input: &mut I,
+    output: &mut O,
+    errors: &mut E,
+    files: &mut F,
+    opener: &mut P,
+    clock: &mut C,
+    entropy: &mut N,
+    link: &mut L,
+) -> Status {
+    tailnetd(
+        rt,
+        alloc,
+        words,
+        input,
+        output,
+        errors,
+        files,
+        opener,
+        clock,
+        entropy,
+        &mut NoDoors::new(),
+        &NoPause,
+        link,
+    )
+}
+
 /// What the top call comes to.
 pub(crate) fn status_of<R: Threads + Wait + Sync>(
     rt: &R,
@@ -73,7 +116,7 @@ pub(crate) fn status_of<R: Threads + Wait + Sync>(
     words: &[String],
     given: &mut Outside,
 ) -> Status {
-    tailnetd(
+    run_over(
         rt,
         alloc,
         words,
@@ -84,8 +127,6 @@ pub(crate) fn status_of<R: Threads + Wait + Sync>(
         &mut given.opener,
         &mut given.clock,
         &mut given.entropy,
-        &mut NoDoors::new(),
-        &NoPause,
         &mut given.link,
     )
 }

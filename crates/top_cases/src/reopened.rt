@@ -1,8 +1,8 @@
 //! Runs over a database in a file, one behind the other.
 use crate::FIRST;
+use crate::outside::run_over;
 use io_edge::{
-    MemoryClock, MemoryEntropy, MemoryFiles, MemorySink, MemorySource, NamedBytes, NoDoors, NoLink,
-    NoPause,
+    MemoryClock, MemoryEntropy, MemoryFiles, MemorySink, MemorySource, NamedBytes, NoLink,
 };
 use keeper_sqlite::HostOpener;
 use run_ends::Status;
@@ -12,7 +12,6 @@ use std::sync::Wait;
 use std::test::Fail;
 use std::thread::Threads;
 use tail_base::{Bytes, Items, NoMemory, Text};
-use tailnet_top::tailnetd;
 
 const FOLDER: &str = "tailnetd_reopened";
 
@@ -73,7 +72,7 @@ fn run<R: Threads + Wait + Sync>(
     words: &[String],
     given: &mut Outside,
 ) -> Status {
-    tailnetd(
+    run_over(
         threads,
         rt.alloc(),
         words,
@@ -84,8 +83,6 @@ fn run<R: Threads + Wait + Sync>(
         &mut HostOpener::new(rt),
         &mut given.clock,
         &mut given.entropy,
-        &mut NoDoors::new(),
-        &NoPause,
         &mut NoLink::new(),
     )
 }

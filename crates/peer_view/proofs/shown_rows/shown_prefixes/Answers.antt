@@ -1,6 +1,6 @@
 use Rattle.std.proofs.Common.{◌++◌, ◌∙◌, List, ap}
 use Rattle.net_addr.specs.Bits.{Block}
-use Rattle.route_rules.specs.Serving.{exits_if}
+use Rattle.policy_sites.specs.Serving.{exits_if}
 use Rattle.peer_view.specs.Nodes.{own_addresses}
 use Rattle.peer_view.proofs.RouterLaws.{prefixes_by_routers, seen_inside}
 use Rattle.peer_view.proofs.shown_rows.shown_prefixes.Goals as goal

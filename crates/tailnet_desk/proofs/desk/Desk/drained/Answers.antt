@@ -1,6 +1,6 @@
 use Rattle.std.proofs.Common.{◌≡◌, ◌∙◌, ap, subst}
 use Rattle.desk_state.specs.State.{State}
-use Rattle.map_asks.specs.Drain.{drain}
+use Rattle.machine_asks.specs.Drain.{drain}
 use Rattle.tailnet_desk.specs.Seated.{Seated}
 use Rattle.tailnet_desk.specs.Step.{drain_reply}
 use Rattle.tailnet_desk.proofs.SessionLemmas.{drained_at}

@@ -1,4 +1,0 @@
-pub mod RowLemmas
-pub mod Rests
-pub mod Sameness
-pub mod SoundChanges

@@ -1,5 +1,0 @@
-use Rattle.machine_rows.proofs.Sameness.{row_kept, told_kept}
-use Rattle.machine_rows.proofs.laws.rows_that_stay_are_kept.Goals as goal
-
-pub returns : goal.returns
-returns c = record { told = told_kept; renewed = row_kept }

@@ -1,3 +1,0 @@
-pub mod Drains
-mod Lives
-pub mod Updates

@@ -1,5 +1,0 @@
-use Rattle.map_asks.proofs.Updates.{told_place, told_registration}
-use Rattle.map_asks.proofs.laws.told_rows_keep_the_rest.Goals as goal
-
-pub returns : goal.returns
-returns c = record { place = told_place; registration = told_registration }

@@ -1,7 +1,0 @@
-use Rattle.route_rules.proofs.LawLemmas.{addresses_outside, internet_outside, outside, own_alone}
-use Rattle.route_rules.proofs.laws.approved_routes_leave_tailnets.Goals as goal
-
-pub returns : goal.returns
-returns c =
-    let kept = c.sorted_routes_rise.ensures.same in
-    record { routes = outside kept; addresses = addresses_outside kept; internet = internet_outside; own = own_alone kept }
