@@ -5,7 +5,7 @@ use crate::asks::ask_of;
 use crate::parts::{cut, machine_key, node_key};
 use crate::replies::tell_reply;
 use moments::Moment;
-use row_keeper::MemoryKeeper;
+use row_keeper::Keeper;
 use std::alloc::Global;
 use std::test::Fail;
 use tail_base::{MachineKey, Text};
@@ -14,28 +14,30 @@ use tailnet_desk::{Ask, Desk, Reply};
 /// The random words of each draw.
 const WORDS: [u64; 4] = [1, 2, 3, 4];
 
-fn tell(alloc: Global, told: &mut String, reply: &Reply) -> Result<(), Fail> {
-    tell_reply(alloc, told, reply)?;
-    Ok(())
+/// Tells of a reply, and lets it go: here alone, since a reply that a function has at its end costs it a long proof.
+fn tell(alloc: Global, told: &mut String, reply: Reply) -> Result<(), Fail> {
+    match tell_reply(alloc, told, &reply) {
+        Ok(()) => Ok(()),
+        Err(error) => Err(error.into()),
+    }
 }
 
-fn ask(
+fn ask<K: Keeper>(
     alloc: Global,
-    desk: &mut Desk<MemoryKeeper>,
+    desk: &mut Desk<K>,
     moment: Moment,
     ask: &Ask,
     told: &mut String,
 ) -> Result<(), Fail>
     requires short { IsShort ask.now }
 {
-    let reply = desk.ask(alloc, ask, moment, None);
-    tell(alloc, told, &reply)
+    tell(alloc, told, desk.ask(alloc, ask, moment, None))
 }
 
 /// A poll begins: the machine's key, its node key, the handle (`-` is nobody's), and the last number.
-fn attach(
+fn attach<K: Keeper>(
     alloc: Global,
-    desk: &mut Desk<MemoryKeeper>,
+    desk: &mut Desk<K>,
     moment: Moment,
     line: &str,
     told: &mut String,
@@ -50,13 +52,13 @@ fn attach(
         return Err(Fail::from("no number of a response"));
     };
     let reply = desk.attach(alloc, &machine, &node, &handle, seq, moment, Some(WORDS));
-    tell(alloc, told, &reply)
+    tell(alloc, told, reply)
 }
 
 /// A poll fetches what is new: the machine's key and the handle.
-fn drain(
+fn drain<K: Keeper>(
     alloc: Global,
-    desk: &mut Desk<MemoryKeeper>,
+    desk: &mut Desk<K>,
     moment: Moment,
     line: &str,
     told: &mut String,
@@ -65,13 +67,13 @@ fn drain(
     let machine = machine_key(machine)?;
     let handle = Text::from_str(alloc, handle)?;
     let reply = desk.drain(alloc, &machine, &handle, moment).into_reply();
-    tell(alloc, told, &reply)
+    tell(alloc, told, reply)
 }
 
 /// A poll ends: the machine's key and the handle.
-fn detach(
+fn detach<K: Keeper>(
     alloc: Global,
-    desk: &mut Desk<MemoryKeeper>,
+    desk: &mut Desk<K>,
     moment: Moment,
     line: &str,
     told: &mut String,
@@ -80,12 +82,12 @@ fn detach(
     let machine = machine_key(machine)?;
     let handle = Text::from_str(alloc, handle)?;
     desk.detach(&machine, &handle, moment);
-    tell(alloc, told, &Reply::Detached)
+    tell(alloc, told, Reply::Detached)
 }
 
-fn ask_line(
+fn ask_line<K: Keeper>(
     alloc: Global,
-    desk: &mut Desk<MemoryKeeper>,
+    desk: &mut Desk<K>,
     moment: Moment,
     line: &str,
     told: &mut String,
@@ -95,9 +97,9 @@ fn ask_line(
 }
 
 /// The event of a line, and what the desk replies.
-pub(crate) fn event(
+pub(crate) fn event<K: Keeper>(
     alloc: Global,
-    desk: &mut Desk<MemoryKeeper>,
+    desk: &mut Desk<K>,
     moment: Moment,
     line: &str,
     told: &mut String,

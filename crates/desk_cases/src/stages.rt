@@ -6,7 +6,7 @@ use crate::events::event;
 use crate::parts::{cut, wide};
 use moments::Moment;
 use net_rows::Tables;
-use row_keeper::MemoryKeeper;
+use row_keeper::{Keeper, MemoryKeeper};
 use settings::Settings;
 use std::alloc::Global;
 use std::test::Fail;
@@ -62,9 +62,9 @@ fn wanted(alloc: Global, row: &str) -> Result<String, Fail> {
 }
 
 /// One line of a row at its desk.
-fn play_line(
+fn play_line<K: Keeper>(
     alloc: Global,
-    desk: &mut Desk<MemoryKeeper>,
+    desk: &mut Desk<K>,
     moment: &mut Moment,
     line: &str,
     told: &mut String,
@@ -84,7 +84,7 @@ fn play_line(
 }
 
 /// What a desk replies to the events of a row.
-fn played(alloc: Global, desk: &mut Desk<MemoryKeeper>, row: &str) -> Result<String, Fail> {
+fn played<K: Keeper>(alloc: Global, desk: &mut Desk<K>, row: &str) -> Result<String, Fail> {
     let mut told = String::new(alloc);
     let mut moment = Moment::clamp(1_000_000_000);
     for line in row.lines() {
@@ -94,7 +94,7 @@ fn played(alloc: Global, desk: &mut Desk<MemoryKeeper>, row: &str) -> Result<Str
 }
 
 /// Whether the desk replies as the row wants it.
-fn replies_so(alloc: Global, desk: &mut Desk<MemoryKeeper>, row: &str) -> Result<bool, Fail> {
+fn replies_so<K: Keeper>(alloc: Global, desk: &mut Desk<K>, row: &str) -> Result<bool, Fail> {
     let told = played(alloc, desk, row)?;
     let wanted = wanted(alloc, row)?;
     Ok(told == wanted)

@@ -1,6 +1,6 @@
 //! Listeners: what comes at them, and what fails.
 use crate::runs::{NOTHING, ServeFails, ServeRun, door_with, served};
-use memory_edge::DoorPlan;
+use memory_edge::{DoorPlan, MemoryDoors};
 use run_ends::Status;
 use std::alloc::Global;
 use std::sync::Wait;
@@ -36,112 +36,188 @@ fn both(alloc: Global, accept: u32) -> Result<Items<DoorPlan>, NoMemory> {
     Ok(plans)
 }
 
-/// Whether so many connections were given back at the first door, each with its answers.
-fn answered(alloc: Global, ran: &ServeRun, count: usize) -> Result<bool, NoMemory> {
+/// How many connections were given back at the first door, if each has its answers.
+fn answered(alloc: Global, doors: &MemoryDoors) -> Result<Option<usize>, NoMemory> {
     let (_first, added) = talk_bytes(alloc, ADDED)?;
     let (_second, listed) = talk_bytes(alloc, LISTED)?;
-    let finished = ran.doors.finished_at(0);
-    let mut all = finished.len() == count;
-    if let Some((_input, output)) = finished.get(0) {
-        all = all && output.bytes() == added.as_slice();
+    let finished = doors.finished_at(0);
+    let wanted = [added.as_slice(), listed.as_slice()];
+    for ((_input, output), answer) in finished.iter().zip(&wanted) {
+        if output.bytes() != *answer {
+            return Ok(None);
+        }
     }
-    if let Some((_input, output)) = finished.get(1) {
-        all = all && output.bytes() == listed.as_slice();
-    }
-    Ok(all)
+    Ok(Some(finished.len()))
 }
 
-fn run_both<R: Threads + Wait + Sync>(
+/// What a run leaves.
+#[derive(Clone, Copy, PartialEq, Eq)]
+struct Left<'a> {
+    status: Status,
+    errors: &'a [u8],
+    /// How many users there are.
+    users: usize,
+    /// How often the doors were asked to open.
+    asked: usize,
+    /// How many connections were given back with their answers.
+    answered: Option<usize>,
+}
+
+fn left_by(alloc: Global, ran: &ServeRun) -> Result<Left<'_>, NoMemory> {
+    let answered = answered(alloc, &ran.doors)?;
+    Ok(Left {
+        status: ran.status,
+        errors: ran.given.errors(),
+        users: ran.given.tables().users().len(),
+        asked: ran.doors.asked().len(),
+        answered,
+    })
+}
+
+/// Further lines in the settings, what fails, and what the run then leaves: what one connection adds the next lists; a
+/// worker takes as many connections as it may; doors don't open, or fail at an accept; the random source isn't split.
+const ROWS: [(&[u8], ServeFails, Left<'static>); 5] = [
+    (
+        b"workers = 1\n",
+        NOTHING,
+        Left {
+            status: Status::Ok,
+            errors: NO_LINE,
+            users: 1,
+            asked: 1,
+            answered: Some(2),
+        },
+    ),
+    (
+        b"workers = 1\nconnections = 1\n",
+        NOTHING,
+        Left {
+            status: Status::Ok,
+            errors: NO_LINE,
+            users: 1,
+            asked: 1,
+            answered: Some(1),
+        },
+    ),
+    (
+        b"workers = 1\n",
+        ServeFails {
+            open: 1,
+            accept: 0,
+            word: 0,
+        },
+        Left {
+            status: Status::DoorFault,
+            errors: DOOR_FAULT,
+            users: 0,
+            asked: 1,
+            answered: Some(0),
+        },
+    ),
+    (
+        b"workers = 1\n",
+        ServeFails {
+            open: 0,
+            accept: 2,
+            word: 0,
+        },
+        Left {
+            status: Status::DoorFault,
+            errors: DOOR_FAULT,
+            users: 1,
+            asked: 1,
+            answered: Some(1),
+        },
+    ),
+    (
+        b"workers = 1\n",
+        ServeFails {
+            open: 0,
+            accept: 0,
+            word: 1,
+        },
+        Left {
+            status: Status::EntropyFault,
+            errors: ENTROPY_FAULT,
+            users: 0,
+            asked: 0,
+            answered: Some(0),
+        },
+    ),
+];
+
+/// Whether a run with these lines, of which that fails, leaves this.
+fn leaves<R: Threads + Wait + Sync>(
     rt: &R,
     alloc: Global,
     lines: &[u8],
     fails: &ServeFails,
-) -> Result<ServeRun, NoMemory> {
-    served(rt, alloc, lines, both(alloc, fails.accept)?, fails)
+    wanted: &Left<'_>,
+) -> Result<bool, NoMemory> {
+    let plans = both(alloc, fails.accept)?;
+    let ran = served(rt, alloc, lines, plans, fails)?;
+    Ok(left_by(alloc, &ran)? == *wanted)
+}
+
+#[test]
+fn runs_leave_this(rt: HostRuntime) -> Result<(), Fail> {
+    for (row, (lines, fails, wanted)) in ROWS.iter().enumerate() {
+        assert!(rt; leaves(&rt, rt.alloc(), lines, fails, wanted)?, "row {row}");
+    }
+    Ok(())
+}
+
+/// Whether doors at which nothing comes were asked for once, as the defaults have it, and the tables stay empty.
+fn is_idle(ran: &ServeRun) -> bool {
+    let tables = ran.given.tables();
+    match ran.doors.asked() {
+        [asked] => ran.status == Status::Ok
+            && ran.given.errors() == NO_LINE
+            && tables.users().is_empty()
+            && tables.next().user == 1
+            && asked.address.as_slice() == LISTEN
+            && asked.count == 4,
+        _ => false,
+    }
+}
+
+fn idles<R: Threads + Wait + Sync>(rt: &R, alloc: Global) -> Result<bool, NoMemory> {
+    let ran = served(rt, alloc, b"", Items::new(alloc), &NOTHING)?;
+    Ok(is_idle(&ran))
 }
 
 #[test]
 fn doors_without_connections(rt: HostRuntime) -> Result<(), Fail> {
-    let ran = served(&rt, rt.alloc(), b"", Items::new(rt.alloc()), &NOTHING)?;
-    assert!(rt; ran.status == Status::Ok);
-    assert!(rt; ran.given.errors() == NO_LINE);
-    assert!(rt; ran.given.tables().users().is_empty() && ran.given.tables().next().user == 1);
-    let asked = ran.doors.asked();
-    assert!(rt; asked.len() == 1);
-    assert!(rt; asked[0].address.as_slice() == LISTEN && asked[0].count == 4);
+    assert!(rt; idles(&rt, rt.alloc())?);
     Ok(())
 }
 
-#[test]
-fn what_one_connection_adds_the_next_lists(rt: HostRuntime) -> Result<(), Fail> {
-    let ran = run_both(&rt, rt.alloc(), b"workers = 1\n", &NOTHING)?;
-    assert!(rt; ran.status == Status::Ok);
-    assert!(rt; answered(rt.alloc(), &ran, 2)?);
-    assert!(rt; ran.given.tables().users().len() == 1);
-    Ok(())
+/// One door: at it comes a connection that is cut, and then a whole one.
+fn cut_and_whole(alloc: Global) -> Result<Items<DoorPlan>, NoMemory> {
+    let (whole, _answer) = talk_bytes(alloc, ADDED)?;
+    let head: &[u8] = b"GET / HTTP/1.1\r\n";
+    let mut plans = Items::new(alloc);
+    plans.push(door_with(alloc, &[head, whole.as_slice()], 0)?)?;
+    Ok(plans)
 }
 
-#[test]
-fn a_worker_takes_as_many_as_it_may(rt: HostRuntime) -> Result<(), Fail> {
-    let ran = run_both(&rt, rt.alloc(), b"workers = 1\nconnections = 1\n", &NOTHING)?;
-    assert!(rt; ran.status == Status::Ok);
-    assert!(rt; answered(rt.alloc(), &ran, 1)?);
-    Ok(())
+/// Whether the first of two connections has no answer, and the second its own.
+fn is_second_answered(alloc: Global, doors: &MemoryDoors) -> Result<bool, NoMemory> {
+    let (_whole, answer) = talk_bytes(alloc, ADDED)?;
+    match doors.finished_at(0) {
+        [(_, cut), (_, whole)] => Ok(cut.bytes() == NO_LINE && whole.bytes() == answer.as_slice()),
+        _ => Ok(false),
+    }
 }
 
-#[test]
-fn doors_that_do_not_open(rt: HostRuntime) -> Result<(), Fail> {
-    let fails = ServeFails {
-        open: 1,
-        accept: 0,
-        word: 0,
-    };
-    let ran = run_both(&rt, rt.alloc(), b"workers = 1\n", &fails)?;
-    assert!(rt; ran.status == Status::DoorFault);
-    assert!(rt; ran.given.errors() == DOOR_FAULT);
-    assert!(rt; ran.given.tables().users().is_empty());
-    Ok(())
-}
-
-#[test]
-fn a_door_that_fails_at_an_accept(rt: HostRuntime) -> Result<(), Fail> {
-    let fails = ServeFails {
-        open: 0,
-        accept: 2,
-        word: 0,
-    };
-    let ran = run_both(&rt, rt.alloc(), b"workers = 1\n", &fails)?;
-    assert!(rt; ran.status == Status::DoorFault);
-    assert!(rt; ran.given.errors() == DOOR_FAULT);
-    assert!(rt; answered(rt.alloc(), &ran, 1)?);
-    Ok(())
-}
-
-#[test]
-fn a_random_source_that_is_not_split(rt: HostRuntime) -> Result<(), Fail> {
-    let fails = ServeFails {
-        open: 0,
-        accept: 0,
-        word: 1,
-    };
-    let ran = run_both(&rt, rt.alloc(), b"workers = 1\n", &fails)?;
-    assert!(rt; ran.status == Status::EntropyFault);
-    assert!(rt; ran.given.errors() == ENTROPY_FAULT);
-    assert!(rt; ran.doors.asked().is_empty());
-    Ok(())
+fn goes_on_behind_a_cut<R: Threads + Wait + Sync>(rt: &R, alloc: Global) -> Result<bool, NoMemory> {
+    let plans = cut_and_whole(alloc)?;
+    let ran = served(rt, alloc, b"workers = 1\n", plans, &NOTHING)?;
+    Ok(ran.status == Status::Ok && is_second_answered(alloc, &ran.doors)?)
 }
 
 #[test]
 fn a_connection_that_is_cut_ends_alone(rt: HostRuntime) -> Result<(), Fail> {
-    let alloc = rt.alloc();
-    let (whole, answer) = talk_bytes(alloc, ADDED)?;
-    let head: &[u8] = b"GET / HTTP/1.1\r\n";
-    let mut plans = Items::new(alloc);
-    plans.push(door_with(alloc, &[head, whole.as_slice()], 0)?)?;
-    let ran = served(&rt, alloc, b"workers = 1\n", plans, &NOTHING)?;
-    assert!(rt; ran.status == Status::Ok);
-    let finished = ran.doors.finished_at(0);
-    assert!(rt; finished.len() == 2);
-    assert!(rt; finished[0].1.bytes() == NO_LINE && finished[1].1.bytes() == answer.as_slice());
+    assert!(rt; goes_on_behind_a_cut(&rt, rt.alloc())?);
     Ok(())
 }

@@ -111,20 +111,36 @@ fn asked<R: Net<Listener = TcpListener, Stream = TcpStream> + Wait + Clock>(
     Some(answers)
 }
 
-#[test]
-fn a_machine_registers_and_polls_over_loopback(rt: HostRuntime) -> Result<(), Fail> {
-    let alloc: Global = rt.alloc();
+/// What the requests of a machine that registers and polls are answered, once the server has ended well.
+fn answers<
+    R: Net<Listener = TcpListener, Stream = TcpStream>
+        + Threads
+        + Wait
+        + Clock
+        + Copy
+        + Send
+        + Sync,
+>(rt: R, alloc: Global, request: &[u8]) -> Result<Vec<u8>, Fail> {
     let at: Arc<Listening, Global> = Arc::new(alloc, Mutex::new(None))?;
     let given = Arc::try_clone(&at)?;
-    let (request, _answers) = talk_bytes(alloc, POLLING)?;
     let (status, answers) = thread::join(
         &rt,
         || serve_once(rt, alloc, given),
-        || asked(&rt, alloc, &at, request.as_slice()),
+        || asked(&rt, alloc, &at, request),
     );
-    assert!(rt; status? == Status::Ok);
-    let answers = answers.ok_or("no answers")?;
-    assert!(rt; has_bytes(&answers, b"\"MachineAuthorized\":true"));
-    assert!(rt; has_bytes(&answers, b"\"MapSessionHandle\":\"s1-0000000000000001\""));
+    match (status, answers) {
+        (Ok(Status::Ok), Some(answers)) => Ok(answers),
+        _ => Err(Fail::from("no answers")),
+    }
+}
+
+#[test]
+fn a_machine_registers_and_polls_over_loopback(rt: HostRuntime) -> Result<(), Fail> {
+    let (request, _answers) = talk_bytes(rt.alloc(), POLLING)?;
+    let answers = answers(rt, rt.alloc(), &request)?;
+    let is_registered = has_bytes(&answers, b"\"MachineAuthorized\":true");
+    assert!(rt;
+        is_registered && has_bytes(&answers, b"\"MapSessionHandle\":\"s1-0000000000000001\"")
+    );
     Ok(())
 }

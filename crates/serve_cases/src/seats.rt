@@ -1,5 +1,6 @@
 //! Seats of one hub, in threads of their own.
-ghost use Rattle.std.specs.Prelude.{◌≡◌};
+ghost use Rattle.std.specs.Prelude.{◌≡◌, IfOk};
+ghost use Rattle.tailnet_desk.specs.Asks.{IsShort};
 
 use admin_asks::{OperatorAnswer, OperatorAsk};
 use moments::Moment;
@@ -33,6 +34,55 @@ fn desk(alloc: Global) -> Result<Desk<MemoryKeeper>, NoMemory> {
     }
 }
 
+/// What a seat replies.
+#[derive(Clone, Copy, PartialEq, Eq, Drop)]
+enum Heard {
+    /// The list of the two users that two seats have added.
+    Both,
+    /// Anything else that is done.
+    Done,
+    Otherwise,
+}
+
+/// Which of these a reply is.
+fn heard_of(reply: &Reply) -> Heard {
+    match reply {
+        Reply::Done(Answer::Operator(OperatorAnswer::Users(users))) if are_both(users.as_slice()) =>
+            Heard::Both,
+        Reply::Done(_) => Heard::Done,
+        Reply::Refused(_)
+        | Reply::Lost(_)
+        | Reply::Attached { .. }
+        | Reply::Frames(_)
+        | Reply::Ended
+        | Reply::Detached => Heard::Otherwise,
+    }
+}
+
+/// What a seat replies to an ask.
+fn hears<K: Keeper, R: Wait>(
+    rt: &R,
+    alloc: Global,
+    hub: &Hub<K>,
+    seat: &mut Seat<K>,
+    ask: &Ask,
+) -> Heard
+    requires hub { seat.old.hub ≡ hub.now }
+    requires short { IsShort ask.now }
+    ensures hub { seat.new.hub ≡ hub.now }
+{
+    let reply = seat.ask(rt, alloc, hub, ask, Moment::clamp(NOON), None);
+    heard_of(&reply)
+}
+
+/// The ask that adds a user of this name.
+fn adding(alloc: Global, name: &str) -> Result<Ask, NoMemory>
+    ensures short { IfOk result IsShort }
+{
+    let name = Text::from_str(alloc, name)?;
+    Ok(Ask::Operator(OperatorAsk::AddUser { name }))
+}
+
 /// Adds a user at a seat, and says whether it was added.
 fn add_user<K: Keeper, R: Wait>(
     rt: &R,
@@ -44,12 +94,10 @@ fn add_user<K: Keeper, R: Wait>(
     requires hub { seat.old.hub ≡ hub.now }
     ensures hub { seat.new.hub ≡ hub.now }
 {
-    let Ok(name) = Text::from_str(alloc, name) else {
-        return false;
-    };
-    let ask = Ask::Operator(OperatorAsk::AddUser { name });
-    let reply = seat.ask(rt, alloc, hub, &ask, Moment::clamp(NOON), None);
-    matches!(reply, Reply::Done(_))
+    match adding(alloc, name) {
+        Ok(ask) => hears(rt, alloc, hub, seat, &ask) == Heard::Done,
+        Err(_) => false,
+    }
 }
 
 /// Adds users with names of this letter at a seat, and gives it back with their number.
@@ -120,14 +168,25 @@ fn all_differ(tables: &Tables) -> bool {
     true
 }
 
+/// Whether two threads add a hundred users, whose ids are all different.
+fn are_added_by_two<K: Keeper + Send, R: Threads + Wait + Sync>(
+    rt: &R,
+    alloc: Global,
+    desk: Desk<K>,
+) -> bool {
+    match added_by_two(rt, alloc, desk) {
+        Ok((added, desk)) => added == 100
+            && desk.tables().users().len() == 100
+            && all_differ(desk.tables()),
+        Err(_) => false,
+    }
+}
+
 #[test]
 fn users_from_two_threads(rt: HostRuntime) -> Result<(), Fail> {
     let alloc: Global = rt.alloc();
-    let Ok((added, desk)) = added_by_two(&rt, alloc, desk(alloc)?) else {
-        return Err(Fail::from("no memory"));
-    };
-    assert!(rt; added == 100);
-    assert!(rt; desk.tables().users().len() == 100 && all_differ(desk.tables()));
+    let are_added = are_added_by_two(&rt, alloc, desk(alloc)?);
+    assert!(rt; are_added);
     Ok(())
 }
 
@@ -140,13 +199,23 @@ fn are_both(users: &[User]) -> bool {
     users.len() == 2 && is_user(&users[0], 1, "ann@") && is_user(&users[1], 2, "bob@")
 }
 
-/// Whether a reply lists them.
-fn lists_both(reply: &Reply) -> bool {
-    if let Reply::Done(Answer::Operator(OperatorAnswer::Users(users))) = reply {
-        are_both(users.as_slice())
-    } else {
-        false
-    }
+/// Whether each of two seats adds a user, and the one finds taken what the other has added.
+fn add_at_both<K: Keeper, R: Wait>(
+    rt: &R,
+    alloc: Global,
+    hub: &Hub<K>,
+    first: &mut Seat<K>,
+    second: &mut Seat<K>,
+) -> bool
+    requires first { first.old.hub ≡ hub.now }
+    requires second { second.old.hub ≡ hub.now }
+    ensures first { first.new.hub ≡ hub.now }
+    ensures second { second.new.hub ≡ hub.now }
+{
+    let ann = add_user(rt, alloc, hub, first, "ann");
+    let bob = add_user(rt, alloc, hub, second, "bob");
+    let again = add_user(rt, alloc, hub, first, "bob");
+    ann && bob && !again
 }
 
 /// Whether a seat is answered the list of both.
@@ -155,13 +224,38 @@ fn sees_both<K: Keeper, R: Wait>(rt: &R, alloc: Global, hub: &Hub<K>, seat: &mut
     ensures hub { seat.new.hub ≡ hub.now }
 {
     let ask = Ask::Operator(OperatorAsk::Users);
-    lists_both(&seat.ask(rt, alloc, hub, &ask, Moment::clamp(NOON), None))
+    hears(rt, alloc, hub, seat, &ask) == Heard::Both
 }
 
-/// Whether a keeper keeps both.
-fn keeps_both<K: Keeper>(alloc: Global, keeper: &mut K) -> bool {
-    match keeper.load(alloc) {
+/// Whether two seats over this desk have one list of users; and the desk afterwards.
+fn shared_by_two<K: Keeper, R: Wait>(
+    rt: &R,
+    alloc: Global,
+    desk: Desk<K>,
+) -> Result<(bool, Desk<K>), Desk<K>> {
+    let (hub, mut first) = match Hub::new(alloc, desk) {
+        Ok(made) => made,
+        Err((_, desk)) => return Err(desk),
+    };
+    let mut second = first.split(rt, &hub);
+    let are_added = add_at_both(rt, alloc, &hub, &mut first, &mut second);
+    first.join(&hub, second);
+    let are_seen = sees_both(rt, alloc, &hub, &mut first);
+    Ok((are_added && are_seen, hub.close(rt, first)))
+}
+
+/// Whether the keeper of a desk keeps both.
+fn keeps_both<K: Keeper>(alloc: Global, desk: Desk<K>) -> bool {
+    match desk.close().load(alloc) {
         Ok(tables) => are_both(tables.users()),
+        Err(_) => false,
+    }
+}
+
+/// Whether two seats have one list of users, which the keeper keeps.
+fn is_kept_by_two<K: Keeper, R: Wait>(rt: &R, alloc: Global, desk: Desk<K>) -> bool {
+    match shared_by_two(rt, alloc, desk) {
+        Ok((is_shared, desk)) => is_shared && keeps_both(alloc, desk),
         Err(_) => false,
     }
 }
@@ -169,17 +263,7 @@ fn keeps_both<K: Keeper>(alloc: Global, keeper: &mut K) -> bool {
 #[test]
 fn two_seats(rt: HostRuntime) -> Result<(), Fail> {
     let alloc: Global = rt.alloc();
-    let Ok((hub, mut first)) = Hub::new(alloc, desk(alloc)?) else {
-        return Err(Fail::from("no memory"));
-    };
-    let mut second = first.split(&rt, &hub);
-    assert!(rt; add_user(&rt, alloc, &hub, &mut first, "ann"));
-    assert!(rt; add_user(&rt, alloc, &hub, &mut second, "bob"));
-    // (what the one has added, the other finds taken)
-    assert!(rt; !add_user(&rt, alloc, &hub, &mut first, "bob"));
-    first.join(&hub, second);
-    assert!(rt; sees_both(&rt, alloc, &hub, &mut first));
-    let mut keeper = hub.close(&rt, first).close();
-    assert!(rt; keeps_both(alloc, &mut keeper));
+    let is_kept = is_kept_by_two(&rt, alloc, desk(alloc)?);
+    assert!(rt; is_kept);
     Ok(())
 }

@@ -13,7 +13,7 @@ use std::sync::Wait;
 use std::test::Fail;
 use std::thread::Threads;
 use tail_base::{Bytes, Duplicate, Items, NoMemory};
-use talk_runs::{CALM, POLLS, Talk, WORKED, entropy_of, failing, files_of, piped_at, talks_of};
+use talk_runs::{POLLS, Talk, WORKED, entropy_of, failing, files_of, tables_at, talks_of};
 
 /// Whether `serve` can hold it: nothing fails but commits behind the seed's, and no write is cut off.
 fn is_served_alike(talk: &Talk) -> bool {
@@ -60,7 +60,8 @@ fn clock_behind_seed(alloc: Global, talk: &Talk) -> Result<MemoryClock, NoMemory
 fn seeded(alloc: Global, talk: &Talk) -> Result<Tables, NoMemory> {
     let clock = MemoryClock::new(moments_of(alloc, talk)?);
     let tables = talk.tables.copy(alloc)?;
-    Ok(piped_at(alloc, clock, tables, &talk.settings, b"", &CALM)?.tables)
+    let (_status, tables) = tables_at(alloc, clock, tables, &talk.settings, b"")?;
+    Ok(tables)
 }
 
 /// An opener of these, whose keeper fails at the call of the conversation, one sooner without a seed.

@@ -250,14 +250,34 @@ const AGAIN: &str = r#"> POST /machine/map mkey:%1 {"NodeKey":"nodekey:%a","Stre
 /// The new session begins with the policy that was saved.
 const ANEW: &[u8] = b"\"PacketFilter\":[],\"Seq\":1";
 
+/// The bytes of the requests in these lines.
+fn requests_of(alloc: Global, lines: &str) -> Result<Vec<u8>, NoMemory> {
+    let (requests, _answers) = talk_bytes(alloc, lines)?;
+    Ok(requests)
+}
+
+/// What the machine sends: it registers and polls, and polls anew once its poll has ended.
+fn polls(alloc: Global) -> Result<Vec<u8>, NoMemory> {
+    let mut polls = requests_of(alloc, POLLING)?;
+    let again = requests_of(alloc, AGAIN)?;
+    polls.extend_from_slice(&again)?;
+    Ok(polls)
+}
+
+fn source_of(alloc: Global, bytes: &[u8]) -> Result<MemorySource, NoMemory> {
+    let bytes = Bytes::from_slice(alloc, bytes)?;
+    Ok(MemorySource::new(bytes, Items::new(alloc)))
+}
+
+/// A door at which these bytes come, once the gate has opened, if there is one, and whose write with that number opens
+/// another.
 fn door_of<R: Wait + Clock + Drop>(
     alloc: Global,
-    bytes: &[u8],
+    bytes: MemorySource,
     gate: Option<Arc<Gate<R>, Global>>,
     opens: Arc<Gate<R>, Global>,
     at: u32,
-) -> Result<OneDoor<R>, NoMemory> {
-    let bytes = MemorySource::new(Bytes::from_slice(alloc, bytes)?, Items::new(alloc));
+) -> OneDoor<R> {
     let input = GatedSource {
         bytes,
         gate,
@@ -269,10 +289,34 @@ fn door_of<R: Wait + Clock + Drop>(
         at,
         failed: 0,
     };
-    Ok(OneDoor {
+    OneDoor {
         coming: Some((input, output)),
         finished: None,
-    })
+    }
+}
+
+/// The door of the poll, whose fifth write is its first frame.
+fn polling_door<R: Wait + Clock + Drop>(
+    alloc: Global,
+    polled: &Arc<Gate<R>, Global>,
+) -> Result<OneDoor<R>, Fail> {
+    let bytes = polls(alloc)?;
+    let bytes = source_of(alloc, &bytes)?;
+    let opens = Arc::try_clone(polled)?;
+    Ok(door_of(alloc, bytes, None, opens, 5))
+}
+
+/// The door of the save, whose first write is its answer.
+fn saving_door<R: Wait + Clock + Drop>(
+    alloc: Global,
+    polled: &Arc<Gate<R>, Global>,
+    saved: &Arc<Gate<R>, Global>,
+) -> Result<OneDoor<R>, Fail> {
+    let bytes = requests_of(alloc, SAVING)?;
+    let bytes = source_of(alloc, &bytes)?;
+    let gate = Arc::try_clone(polled)?;
+    let opens = Arc::try_clone(saved)?;
+    Ok(door_of(alloc, bytes, Some(gate), opens, 1))
 }
 
 /// Two doors: the save comes once the poll has its first frame, and `saved` opens when it is answered.
@@ -281,19 +325,9 @@ fn two_doors<R: Wait + Clock + Drop>(
     polled: &Arc<Gate<R>, Global>,
     saved: &Arc<Gate<R>, Global>,
 ) -> Result<ReadyDoors<R>, Fail> {
-    let (mut polling, _answers) = talk_bytes(alloc, POLLING)?;
-    let (again, _frames) = talk_bytes(alloc, AGAIN)?;
-    polling.extend_from_slice(&again)?;
-    let (saving, _answer) = talk_bytes(alloc, SAVING)?;
     let mut ready = Vec::new(alloc);
-    ready.push(door_of(alloc, &polling, None, Arc::try_clone(polled)?, 5)?)?;
-    ready.push(door_of(
-        alloc,
-        &saving,
-        Some(Arc::try_clone(polled)?),
-        Arc::try_clone(saved)?,
-        1,
-    )?)?;
+    ready.push(polling_door(alloc, polled)?)?;
+    ready.push(saving_door(alloc, polled, saved)?)?;
     Ok(ReadyDoors {
         alloc,
         ready,
@@ -350,16 +384,41 @@ fn bytes_at<R>(doors: &ReadyDoors<R>, place: usize) -> &[u8] {
     }
 }
 
-#[test]
-fn poll_waits_while_a_save_is_answered(rt: HostRuntime) -> Result<(), Fail> {
-    let alloc: Global = rt.alloc();
+/// Whether the save has its answer, and the poll a frame of what was saved, before it begins anew.
+fn is_written<R>(alloc: Global, doors: &ReadyDoors<R>) -> Result<bool, Fail> {
+    let (_save, answer) = talk_bytes(alloc, SAVING)?;
+    let polled = bytes_at(doors, 0);
+    Ok(
+        bytes_at(doors, 1) == answer.as_slice()
+            && has_bytes(polled, FRAME)
+            && has_bytes(polled, ANEW),
+    )
+}
+
+/// Whether a server of two workers writes this.
+fn writes_so<R: Threads + Wait + Clock + Copy + Send + Sync + Drop>(
+    rt: R,
+    alloc: Global,
+    polled: &Arc<Gate<R>, Global>,
+    saved: &Arc<Gate<R>, Global>,
+) -> Result<bool, Fail> {
+    let mut doors = two_doors(alloc, polled, saved)?;
+    let status = run_two(rt, alloc, &mut doors, saved)?;
+    Ok(status == Status::Ok && is_written(alloc, &doors)?)
+}
+
+/// Whether it does, with gates of its own.
+fn is_told_while_it_waits<R: Threads + Wait + Clock + Copy + Send + Sync + Drop>(
+    rt: R,
+    alloc: Global,
+) -> Result<bool, Fail> {
     let polled = Arc::new(alloc, Gate::new(rt))?;
     let saved = Arc::new(alloc, Gate::new(rt))?;
-    let mut doors = two_doors(alloc, &polled, &saved)?;
-    let status = run_two(rt, alloc, &mut doors, &saved)?;
-    assert!(rt; status == Status::Ok);
-    let (_save, answer) = talk_bytes(alloc, SAVING)?;
-    assert!(rt; bytes_at(&doors, 1) == answer.as_slice());
-    assert!(rt; has_bytes(bytes_at(&doors, 0), FRAME) && has_bytes(bytes_at(&doors, 0), ANEW));
+    writes_so(rt, alloc, &polled, &saved)
+}
+
+#[test]
+fn poll_waits_while_a_save_is_answered(rt: HostRuntime) -> Result<(), Fail> {
+    assert!(rt; is_told_while_it_waits(rt, rt.alloc())?);
     Ok(())
 }

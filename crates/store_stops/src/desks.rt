@@ -87,15 +87,16 @@ fn answer<K: Keeper>(alloc: Global, front: &Front, desk: &mut Desk<K>, line: &st
     }
 }
 
-/// How many of the asks the desk does, one behind the other, until its keeper fails. None if one of them
+/// How many of these asks the desk does, one behind the other, until its keeper fails. None if one of them
 /// isn't done and the keeper doesn't fail.
 pub(crate) fn count_done<K: Keeper>(
     alloc: Global,
     front: &Front,
     desk: &mut Desk<K>,
+    asks: &str,
 ) -> Option<usize> {
     let mut done = 0usize;
-    for line in ASKS.lines() {
+    for line in asks.lines() {
         match answer(alloc, front, desk, line) {
             Answered::Done => done = done.saturating_add(1),
             Answered::Lost => return Some(done),

@@ -1,7 +1,6 @@
 //! A desk over a database on two disks.
 ghost use Rattle.std.specs.Prelude.{IsTrue};
 
-use crate::asks::ASKS;
 use crate::desks::{count_done, opened};
 use crate::shown::text_of;
 use desk_front::Front;
@@ -27,6 +26,24 @@ pub(crate) enum Ending {
     Broken,
 }
 
+/// What a run found and what it came to.
+#[derive(Drop)]
+pub(crate) struct Seen {
+    /// The tables that its desk began with, as a text.
+    pub(crate) found: Option<String>,
+    pub(crate) ending: Ending,
+}
+
+impl Seen {
+    /// Nothing was found.
+    fn nothing(ending: Ending) -> Seen {
+        Seen {
+            found: None,
+            ending,
+        }
+    }
+}
+
 /// The log is copied into the file after so few frames that a run does it several times.
 fn options() -> Options {
     let mut options = Options::new(1);
@@ -34,10 +51,10 @@ fn options() -> Options {
     options
 }
 
-/// What a desk came to that did so many asks.
-fn ending_of_asks(done: Option<usize>) -> Ending {
+/// What a desk came to that did so many of these asks.
+fn ending_of_asks(done: Option<usize>, asks: &str) -> Ending {
     match done {
-        Some(done) if done < ASKS.lines().count() => Ending::Stopped(done),
+        Some(done) if done < asks.lines().count() => Ending::Stopped(done),
         Some(_) => Ending::Closed,
         None => Ending::Broken,
     }
@@ -51,14 +68,33 @@ fn ending_of_fault(fault: &OpenFault) -> Ending {
     }
 }
 
+/// What is seen of a desk that is asked these lines.
+fn seen_at<K: Keeper>(alloc: Global, front: &Front, desk: &mut Desk<K>, asks: &str) -> Seen {
+    let found = text_of(alloc, desk.tables()).ok();
+    let done = count_done(alloc, front, desk, asks);
+    Seen {
+        found,
+        ending: ending_of_asks(done, asks),
+    }
+}
+
+/// The asks at a desk, which is then closed.
+fn asked_at<K: Keeper>(alloc: Global, front: &Front, mut desk: Desk<K>, asks: &str) -> (Seen, K) {
+    let seen = seen_at(alloc, front, &mut desk, asks);
+    (seen, desk.close())
+}
+
 /// The asks at a desk over this keeper.
-fn asked<K: Keeper>(alloc: Global, front: &Front, settings: Settings, keeper: K) -> (Ending, K) {
+fn asked<K: Keeper>(
+    alloc: Global,
+    front: &Front,
+    settings: Settings,
+    keeper: K,
+    asks: &str,
+) -> (Seen, K) {
     match opened(alloc, settings, keeper) {
-        Ok(mut desk) => {
-            let done = count_done(alloc, front, &mut desk);
-            (ending_of_asks(done), desk.close())
-        }
-        Err((fault, keeper)) => (ending_of_fault(&fault), keeper),
+        Ok(desk) => asked_at(alloc, front, desk, asks),
+        Err((fault, keeper)) => (Seen::nothing(ending_of_fault(&fault)), keeper),
     }
 }
 
@@ -68,83 +104,51 @@ fn asked_in<S: Alter + Drop>(
     front: &Front,
     settings: Settings,
     conn: Connection<S>,
-) -> (Ending, Connection<S>) {
-    let (ending, keeper) = asked(alloc, front, settings, SqliteKeeper::adopt(conn));
-    (ending, keeper.give_back())
+    asks: &str,
+) -> (Seen, Connection<S>) {
+    let (seen, keeper) = asked(alloc, front, settings, SqliteKeeper::adopt(conn), asks);
+    (seen, keeper.give_back())
 }
 
-/// Closes the database. The files come back in any case.
-fn closed<D: Disk + Drop>(conn: Connection<FileStore<D>>) -> (Ending, Files<D>) {
+/// Closes a database after a run. The log is copied into the file where all was acknowledged, and the
+/// files come back in any case.
+fn closed<D: Disk + Drop>(conn: Connection<FileStore<D>>, ending: Ending) -> (Ending, Files<D>) {
+    if ending != Ending::Closed {
+        return (ending, conn.into_store().close());
+    }
     match conn.close_files() {
         Ok(files) => (Ending::Closed, files),
         Err((_, store)) => (Ending::Unclosed, store.close()),
     }
 }
 
-/// Asks over the database of the connection, and closes it where all was acknowledged.
+/// Asks over the database of the connection, and closes it.
 fn asked_over<D: Disk + Drop>(
     alloc: Global,
     front: &Front,
     settings: Settings,
     conn: Connection<FileStore<D>>,
-) -> (Ending, Files<D>) {
-    let (ending, conn) = asked_in(alloc, front, settings, conn);
-    if ending == Ending::Closed {
-        closed(conn)
-    } else {
-        (ending, conn.into_store().close())
-    }
+    asks: &str,
+) -> (Seen, Files<D>) {
+    let (Seen { found, ending }, conn) = asked_in(alloc, front, settings, conn, asks);
+    let (ending, files) = closed(conn, ending);
+    (Seen { found, ending }, files)
 }
 
-/// One run of a program over these files: what it came to, and the files as it left them.
+/// One run of a program over these files, which is asked these lines: what was seen of it, and the files
+/// as it left them.
 pub(crate) fn run<D: Disk + Drop>(
     alloc: Global,
     front: &Front,
     settings: Settings,
     files: Files<D>,
-) -> (Ending, Files<D>)
+    asks: &str,
+) -> (Seen, Files<D>)
     requires log { IsTrue (D.Disk.is_usable files.log) }
     requires db { IsTrue (D.Disk.is_usable files.db) }
 {
     match Connection::open_files(alloc, files, options()) {
-        Ok(conn) => asked_over(alloc, front, settings, conn),
-        Err((_, left)) => (Ending::Unopened, left.into_files()),
-    }
-}
-
-/// The tables of a desk as a text.
-fn text_at<K: Keeper>(alloc: Global, desk: &Desk<K>) -> Option<String> {
-    text_of(alloc, desk.tables()).ok()
-}
-
-/// The tables that a desk over this keeper begins with, as a text, if it opens.
-fn text_at_start<K: Keeper>(alloc: Global, settings: Settings, keeper: K) -> Option<String> {
-    match opened(alloc, settings, keeper) {
-        Ok(desk) => text_at(alloc, &desk),
-        Err(_) => None,
-    }
-}
-
-/// The same over a database.
-fn text_in<S: Alter + Drop>(
-    alloc: Global,
-    settings: Settings,
-    conn: Connection<S>,
-) -> Option<String> {
-    text_at_start(alloc, settings, SqliteKeeper::adopt(conn))
-}
-
-/// The tables that a new start over these files finds, as a text, if it finds any.
-pub(crate) fn found<D: Disk + Drop>(
-    alloc: Global,
-    settings: Settings,
-    files: Files<D>,
-) -> Option<String>
-    requires log { IsTrue (D.Disk.is_usable files.log) }
-    requires db { IsTrue (D.Disk.is_usable files.db) }
-{
-    match Connection::open_files(alloc, files, options()) {
-        Ok(conn) => text_in(alloc, settings, conn),
-        Err(_) => None,
+        Ok(conn) => asked_over(alloc, front, settings, conn, asks),
+        Err((_, left)) => (Seen::nothing(Ending::Unopened), left.into_files()),
     }
 }

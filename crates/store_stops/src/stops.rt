@@ -1,8 +1,9 @@
 //! Runs that stop at a call of a disk, and what a new start finds then.
 ghost use Rattle.std.specs.Prelude.{IfOk, IsTrue};
 
+use crate::asks::ASKS;
 use crate::desks::{front_of, settings_of, texts_in_memory};
-use crate::disks::{Ending, found, run};
+use crate::disks::{Ending, Seen, run};
 use desk_front::Front;
 use sqlite::Files;
 use sqlite_disk::{Crash, Disk, Fuse, Memory};
@@ -85,6 +86,7 @@ fn may_be_found(ending: Ending, texts: &[String], text: &String) -> bool {
 /// Whether a new start over these disks finds what it may.
 fn is_found(
     alloc: Global,
+    front: &Front,
     ending: Ending,
     texts: &[String],
     files: Files<Fuse<Memory>>,
@@ -93,7 +95,8 @@ fn is_found(
     requires db { IsTrue (⟦<Fuse<Memory> as Disk>⟧.is_usable files.db) }
 {
     let settings = settings_of(alloc)?;
-    match found(alloc, settings, files) {
+    let (seen, _left) = run(alloc, front, settings, files, "");
+    match seen.found {
         Some(text) => Ok(may_be_found(ending, texts, &text)),
         None => Ok(false),
     }
@@ -103,13 +106,14 @@ fn is_found(
 /// there, and where the machine stopped, so that what wasn't synced is lost.
 fn are_found(
     alloc: Global,
+    front: &Front,
     ending: Ending,
     texts: &[String],
     files: Files<Fuse<Memory>>,
 ) -> Result<bool, Fail> {
     let written = copies_of(alloc, &files)?;
-    let by_program = is_found(alloc, ending, texts, written)?;
-    let by_machine = is_found(alloc, ending, texts, after_a_crash(files))?;
+    let by_program = is_found(alloc, front, ending, texts, written)?;
+    let by_machine = is_found(alloc, front, ending, texts, after_a_crash(files))?;
     Ok(by_program && by_machine)
 }
 
@@ -122,8 +126,9 @@ fn ending_of(
     texts: &[String],
 ) -> Result<Ending, Fail> {
     let settings = settings_of(alloc)?;
-    let (ending, files) = run(alloc, front, settings, new_files(alloc, stopping, calls));
-    if are_found(alloc, ending, texts, files)? {
+    let files = new_files(alloc, stopping, calls);
+    let (Seen { ending, .. }, files) = run(alloc, front, settings, files, ASKS);
+    if are_found(alloc, front, ending, texts, files)? {
         Ok(ending)
     } else {
         Err(Fail::new(format_args!("{calls} calls, then {ending:?}: other tables are found")))

@@ -66,43 +66,56 @@ fn cut(line: &str) -> Result<(usize, &str), Fail> {
     Ok((number.parse::<usize>().ok().ok_or("no number")?, rest))
 }
 
+/// The bytes that a line stands for behind its status.
+fn bytes_of(alloc: Global, line: &str) -> Result<Vec<u8>, Fail> {
+    let (fields, rest) = cut(line)?;
+    let (length, rest) = cut(rest)?;
+    let (body, head) = cut(rest)?;
+    let mut bytes = head_of(alloc, head, fields, length)?;
+    fill(&mut bytes, body)?;
+    Ok(bytes)
+}
+
+/// Whether these bytes are answered with this status, and end the connection unless it is 404.
+fn is_answered(alloc: Global, bytes: &[u8], status: usize) -> Result<bool, Fail> {
+    let answer = format!(in alloc; "HTTP/1.1 {status} ")?;
+    let ran = piped(alloc, SETTINGS, bytes, &CALM)?;
+    let is_early = ran.status == Status::Early;
+    Ok(ran.output.bytes().starts_with(answer.as_bytes()) && is_early == (status != 404))
+}
+
+/// Whether a line holds.
+fn is_read_so(alloc: Global, line: &str) -> Result<bool, Fail> {
+    let (status, rest) = cut(line)?;
+    let bytes = bytes_of(alloc, rest)?;
+    is_answered(alloc, &bytes, status)
+}
+
 #[test]
 fn rules_of_reading_at_their_edges(rt: HostRuntime) -> Result<(), Fail> {
-    let alloc = rt.alloc();
     for line in EDGES.lines() {
-        let (status, rest) = cut(line)?;
-        let (fields, rest) = cut(rest)?;
-        let (length, rest) = cut(rest)?;
-        let (body, head) = cut(rest)?;
-        let mut bytes = head_of(alloc, head, fields, length)?;
-        fill(&mut bytes, body)?;
-        let ran = piped(alloc, SETTINGS, &bytes, &CALM)?;
-        let answer = format!(in alloc; "HTTP/1.1 {status} ")?;
-        assert!(rt; ran.output.bytes().starts_with(answer.as_bytes()), "{line}");
-        assert_eq!(rt; ran.status == Status::Early, status != 404, "{line}");
+        assert!(rt; is_read_so(rt.alloc(), line)?, "{line}");
     }
     Ok(())
 }
 
+/// Whether the first bytes of two requests, so many, are answered as far as they are whole.
+fn is_cut_so(alloc: Global, count: usize) -> Result<bool, Fail> {
+    let whole = count / FIRST.len();
+    let answered = whole.min(2) * (REGISTERED_TWICE.len() / 2);
+    let status = if count % FIRST.len() == 0 {
+        Status::Ok
+    } else {
+        Status::Early
+    };
+    let ran = piped(alloc, SETTINGS, &TWICE[..count], &CALM)?;
+    Ok(ran.status == status && ran.output.bytes() == &REGISTERED_TWICE[..answered])
+}
+
 #[test]
 fn every_cut_of_two_requests(rt: HostRuntime) -> Result<(), Fail> {
-    let answer = REGISTERED_TWICE.len() / 2;
-    for n in 0..=TWICE.len() {
-        let Ok(ran) = piped(rt.alloc(), SETTINGS, &TWICE[..n], &CALM) else {
-            assert!(rt; false);
-            return Ok(());
-        };
-        let whole = n / FIRST.len();
-        let status = if n % FIRST.len() == 0 {
-            Status::Ok
-        } else {
-            Status::Early
-        };
-        assert!(rt; ran.status == status, "{n}");
-        assert!(rt;
-            ran.output.bytes() == &REGISTERED_TWICE[..whole.min(2) * answer],
-            "{n}"
-        );
+    for count in 0..=TWICE.len() {
+        assert!(rt; is_cut_so(rt.alloc(), count)?, "{count}");
     }
     Ok(())
 }

@@ -61,29 +61,54 @@ fn ended_line(alloc: Global, text: &str) -> Result<String, NoMemory> {
     }
 }
 
+/// What fails, the status, the output and the line on errors.
+fn parts_of(line: &str) -> Option<(Plan, Status, &'static [u8], &str)> {
+    let (plan, rest) = line.split_once(", ")?;
+    let (status, rest) = rest.split_once(", ")?;
+    let (output, errors) = rest.split_once(",")?;
+    Some((plan_of(plan)?, status_of(status), output_of(output), errors))
+}
+
+/// Whether a run comes to this where that fails.
+fn comes_to(
+    alloc: Global,
+    plan: &Plan,
+    status: Status,
+    output: &[u8],
+    errors: &str,
+) -> Result<bool, NoMemory> {
+    let line = ended_line(alloc, errors)?;
+    let ran = piped(alloc, SETTINGS, TWICE, plan)?;
+    Ok(
+        ran.status == status
+            && ran.output.bytes() == output
+            && ran.errors.bytes() == line.as_bytes(),
+    )
+}
+
 #[test]
 fn each_call_fails_in_turn(rt: HostRuntime) -> Result<(), Fail> {
     for line in FAULTS.lines() {
-        let (plan, rest) = line.split_once(", ").ok_or("no plan")?;
-        let (status, rest) = rest.split_once(", ").ok_or("no status")?;
-        let (output, errors) = rest.split_once(",").ok_or("no output")?;
-        let plan = plan_of(plan).ok_or("no plan")?;
-        let ran = piped(rt.alloc(), SETTINGS, TWICE, &plan)?;
-        assert!(rt; ran.status == status_of(status), "{line}");
-        assert!(rt; ran.output.bytes() == output_of(output), "{line}");
-        let errors = ended_line(rt.alloc(), errors)?;
-        assert!(rt; ran.errors.bytes() == errors.as_bytes(), "{line}");
+        let (plan, status, output, errors) = parts_of(line).ok_or("no line")?;
+        assert!(rt;
+            comes_to(rt.alloc(), &plan, status, output, errors)?,
+            "{line}"
+        );
     }
     Ok(())
 }
 
 const TOO_LARGE: &[u8] = b"tailnetd: file too large\n";
 
+/// Whether a settings file of so many bytes is too large.
+fn is_too_large(alloc: Global, length: usize) -> Result<bool, Fail> {
+    let text = Vec::from_elem(alloc, b'\n', length)?;
+    let ran = piped(alloc, &text, TWICE, &CALM)?;
+    Ok(ran.status == Status::Settings && ran.errors.bytes() == TOO_LARGE)
+}
+
 #[test]
 fn a_settings_file_may_be_too_large(rt: HostRuntime) -> Result<(), Fail> {
-    let text = Vec::from_elem(rt.alloc(), b'\n', 1_048_577)?;
-    let ran = piped(rt.alloc(), &text, TWICE, &CALM)?;
-    assert!(rt; ran.status == Status::Settings);
-    assert!(rt; ran.errors.bytes() == TOO_LARGE);
+    assert!(rt; is_too_large(rt.alloc(), 1_048_577)?);
     Ok(())
 }

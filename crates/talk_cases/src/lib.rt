@@ -1,10 +1,14 @@
-//! Tests of whole runs of `pipe`: conversations, byte for byte, over memory objects.
+//! Tests of whole runs of `pipe`: conversations, byte for byte, over memory objects, and what operators save in them.
 #![tactic(auto)]
 
 #[cfg(test)]
 mod edges;
 #[cfg(test)]
+mod extras;
+#[cfg(test)]
 mod faults;
+#[cfg(test)]
+mod filters;
 #[cfg(test)]
 mod held;
 #[cfg(test)]
@@ -12,12 +16,18 @@ mod limits;
 #[cfg(test)]
 mod lives;
 #[cfg(test)]
+mod office;
+#[cfg(test)]
+mod policies;
+#[cfg(test)]
 mod polls;
 #[cfg(test)]
 mod refusals;
 #[cfg(test)]
 mod registrations;
 #[cfg(test)]
-mod rows;
+mod requests;
+#[cfg(test)]
+mod routes;
 #[cfg(test)]
 mod settings_refused;

@@ -1,8 +1,6 @@
 //! How machines come, are renewed, wait, and go, with the time.
-use crate::held::assert_held;
-use std::test::Fail;
 
-const LIVES: &str = r#"= sweep-at-the-end
+pub(crate) const LIVES: &str = r#"= sweep-at-the-end
 @ 1000000000 1000000000 1000000000 1000001799 1000001800 1000001800
 > POST /machine/register mkey:%1 {"Auth":{"AuthKey":"k1"},"Ephemeral":true,"NodeKey":"nodekey:%a"}
 < registered
@@ -146,9 +144,3 @@ const LIVES: &str = r#"= sweep-at-the-end
 < 200 {"pending":[]}
 > POST /machine/map mkey:%1 {"NodeKey":"nodekey:%b"}
 < 200 #{"DNSConfig":{"Domains":["tail.example"],"ExtraRecords":[],"Proxied":true,"Resolvers":[],"Routes":{}},"Domain":"tail.example","Node":{"Addresses":["100.64.0.1/32","fd7a:115c:a1e0::1/128"],"AllowedIPs":["100.64.0.1/32","fd7a:115c:a1e0::1/128"],"Created":"2001-09-09T01:46:40Z","DiscoKey":"discokey:%0","Endpoints":[],"HomeDERP":0,"Hostinfo":{"Hostname":"two"},"ID":1,"Key":"nodekey:%b","KeyExpiry":"2001-09-09T01:48:20Z","Machine":"mkey:%1","MachineAuthorized":true,"Name":"one.tail.example.","Online":false,"StableID":"n1","Tags":[],"User":2},"PacketFilter":[{"DstPorts":[{"IP":"100.64.0.1","Ports":{"First":0,"Last":65535}},{"IP":"fd7a:115c:a1e0::1","Ports":{"First":0,"Last":65535}}],"IPProto":[1,6,17,58],"SrcIPs":["*"]}],"UserProfiles":[{"DisplayName":"ann","ID":2,"LoginName":"ann@"}]}"#;
-
-#[test]
-fn lives_of_machines(rt: HostRuntime) -> Result<(), Fail> {
-    assert_held(&rt, rt.alloc(), LIVES)?;
-    Ok(())
-}

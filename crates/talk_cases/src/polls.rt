@@ -1,16 +1,7 @@
 //! Polls: what their streams hold, and when a session goes on.
-use crate::held::assert_held;
-use std::test::Fail;
-use talk_runs::POLLS;
-
-#[test]
-fn polls(rt: HostRuntime) -> Result<(), Fail> {
-    assert_held(&rt, rt.alloc(), POLLS)?;
-    Ok(())
-}
 
 /// Each write of a poll fails in turn.
-const FAULTS: &str = r#"= head
+pub(crate) const FAULTED_POLLS: &str = r#"= head
 ! write 2
 > POST /machine/register mkey:%1 {"Auth":{"AuthKey":"k1"},"NodeKey":"nodekey:%a"}
 < registered
@@ -59,9 +50,3 @@ x
 < registered
 > POST /machine/map mkey:%2 {"NodeKey":"nodekey:%b","Stream":true}
 x"#;
-
-#[test]
-fn each_write_of_a_poll_fails_in_turn(rt: HostRuntime) -> Result<(), Fail> {
-    assert_held(&rt, rt.alloc(), FAULTS)?;
-    Ok(())
-}

@@ -1,9 +1,7 @@
 //! Every refusal, and what stands in the tables after it; the first fault of every body.
-use crate::held::assert_held;
-use std::test::Fail;
 
 /// What the desk refuses, and that it changes nothing.
-const REFUSALS: &str = r#"= logins
+pub(crate) const REFUSALS: &str = r#"= logins
 > POST /api/v1/user Bearer/secret {"name":"Ann"}
 < 200 {"id":2,"login":"ann@"}
 > POST /api/v1/user Bearer/secret {"name":"ANN@"}
@@ -259,7 +257,7 @@ const REFUSALS: &str = r#"= logins
 < 400 {"error":"NotJson"}"#;
 
 /// One body each, with its first fault.
-const BODIES: &str = r#"= no-machine-key
+pub(crate) const FAULTY_BODIES: &str = r#"= no-machine-key
 > POST /machine/register - {
 < 400 {"error":"Missing","field":"Ts-Machine-Key"}
 = zero-machine-key
@@ -495,15 +493,3 @@ const BODIES: &str = r#"= no-machine-key
 < 200 {"AuthURL":"http://tail.example/register/reg-1-00000000000000010000000000000002","Error":"","Login":{"ID":0,"LoginName":""},"MachineAuthorized":false,"NodeKeyExpired":false,"User":{"DisplayName":"","ID":0}}
 > GET /api/v1/register Bearer/secret
 < 200 {"pending":[{"host":"a \"quoted\" host","id":"reg-1-00000000000000010000000000000002","machine":"mkey:%4","node":"nodekey:%d"}]}"#;
-
-#[test]
-fn refusals_of_the_desk(rt: HostRuntime) -> Result<(), Fail> {
-    assert_held(&rt, rt.alloc(), REFUSALS)?;
-    Ok(())
-}
-
-#[test]
-fn faults_of_bodies(rt: HostRuntime) -> Result<(), Fail> {
-    assert_held(&rt, rt.alloc(), BODIES)?;
-    Ok(())
-}

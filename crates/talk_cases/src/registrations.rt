@@ -1,7 +1,6 @@
 //! Registrations and other requests, byte for byte.
 use run_ends::Status;
 use std::alloc::Global;
-use std::process::Abort;
 use std::test::Fail;
 use tail_base::NoMemory;
 use talk_runs::{CALM, SETTINGS, piped};
@@ -30,57 +29,61 @@ const THEN_TAKEN: &[u8] =
 const REGISTERED_THEN_TAKEN: &[u8] =
     b"HTTP/1.1 200 OK\r\nContent-Type: application/json\r\nContent-Length: 147\r\n\r\n{\"AuthURL\":\"\",\"Error\":\"\",\"Login\":{\"ID\":1,\"LoginName\":\"seed@\"},\"MachineAuthorized\":true,\"NodeKeyExpired\":false,\"User\":{\"DisplayName\":\"seed\",\"ID\":1}}HTTP/1.1 409 Conflict\r\nContent-Type: application/json\r\nContent-Length: 24\r\n\r\n{\"error\":\"NodeKeyTaken\"}";
 
-/// Asserts that a run over the input comes to this, with so many machines.
-fn assert_run(
-    rt: &impl Abort,
+const CUT: &[u8] =
+    b"POST /machine/register HTTP/1.1\r\nHost: x\r\nContent-Length: 100\r\n\r\nxxxxxxxxxxxxxxxxxxxxxxxxxxxxxxxxxxxxxxxx";
+
+const NO_PATH: &[u8] =
+    b"HTTP/1.1 404 Not Found\r\nContent-Type: application/json\r\nContent-Length: 18\r\n\r\n{\"error\":\"NoPath\"}";
+
+const BAD_HEAD: &[u8] =
+    b"HTTP/1.1 400 Bad Request\r\nContent-Type: application/json\r\nContent-Length: 19\r\nConnection: close\r\n\r\n{\"error\":\"BadHead\"}";
+
+/// An input, the status of the run over it, its output, and how many machines there are then.
+const ROWS: [(&[u8], Status, &[u8], usize); 8] = [
+    (b"", Status::Ok, b"", 0),
+    (FIRST, Status::Ok, REGISTERED, 1),
+    (TWICE, Status::Ok, REGISTERED_TWICE, 1),
+    (THEN_TAKEN, Status::Ok, REGISTERED_THEN_TAKEN, 1),
+    (UNKNOWN_KEY, Status::Ok, KEY_UNKNOWN, 0),
+    (CUT, Status::Early, b"", 0),
+    (
+        b"GET /x HTTP/1.1\r\nHost: x\r\n\r\n",
+        Status::Ok,
+        NO_PATH,
+        0,
+    ),
+    (b"x\r\n\r\n", Status::Early, BAD_HEAD, 0),
+];
+
+/// Whether a run over the input comes to this.
+fn comes_to(
     alloc: Global,
     input: &[u8],
     status: Status,
     output: &[u8],
     machines: usize,
-) -> Result<(), NoMemory> {
+) -> Result<bool, NoMemory> {
     let line = if status == Status::Ok {
         b"".as_slice()
     } else {
         b"tailnetd: closed early\n".as_slice()
     };
     let ran = piped(alloc, SETTINGS, input, &CALM)?;
-    assert!(rt; ran.status == status);
-    assert!(rt; ran.output.bytes() == output);
-    assert!(rt; ran.errors.bytes() == line);
-    assert_eq!(rt; ran.tables.machines().len(), machines);
-    Ok(())
+    Ok(
+        ran.status == status
+            && ran.output.bytes() == output
+            && ran.errors.bytes() == line
+            && ran.machines == machines,
+    )
 }
 
 #[test]
 fn rows_of_registrations(rt: HostRuntime) -> Result<(), Fail> {
-    let alloc = rt.alloc();
-    assert_run(&rt, alloc, b"", Status::Ok, b"", 0)?;
-    assert_run(&rt, alloc, FIRST, Status::Ok, REGISTERED, 1)?;
-    assert_run(&rt, alloc, TWICE, Status::Ok, REGISTERED_TWICE, 1)?;
-    assert_run(&rt, alloc, THEN_TAKEN, Status::Ok, REGISTERED_THEN_TAKEN, 1)?;
-    assert_run(&rt, alloc, UNKNOWN_KEY, Status::Ok, KEY_UNKNOWN, 0)?;
-    Ok(())
-}
-
-#[test]
-fn rows_of_other_requests(rt: HostRuntime) -> Result<(), Fail> {
-    let alloc = rt.alloc();
-    let cut =
-        b"POST /machine/register HTTP/1.1\r\nHost: x\r\nContent-Length: 100\r\n\r\nxxxxxxxxxxxxxxxxxxxxxxxxxxxxxxxxxxxxxxxx";
-    assert_run(&rt, alloc, cut, Status::Early, b"", 0)?;
-    let no_path =
-        b"HTTP/1.1 404 Not Found\r\nContent-Type: application/json\r\nContent-Length: 18\r\n\r\n{\"error\":\"NoPath\"}";
-    assert_run(
-        &rt,
-        alloc,
-        b"GET /x HTTP/1.1\r\nHost: x\r\n\r\n",
-        Status::Ok,
-        no_path,
-        0,
-    )?;
-    let bad_head =
-        b"HTTP/1.1 400 Bad Request\r\nContent-Type: application/json\r\nContent-Length: 19\r\nConnection: close\r\n\r\n{\"error\":\"BadHead\"}";
-    assert_run(&rt, alloc, b"x\r\n\r\n", Status::Early, bad_head, 0)?;
+    for (row, (input, status, output, machines)) in ROWS.iter().enumerate() {
+        assert!(rt;
+            comes_to(rt.alloc(), input, *status, output, *machines)?,
+            "row {row}"
+        );
+    }
     Ok(())
 }

@@ -2,31 +2,33 @@
 use crate::registrations::FIRST;
 use run_ends::Status;
 use std::alloc::Global;
-use std::process::Abort;
 use std::test::Fail;
 use tail_base::NoMemory;
-use talk_runs::{CALM, SETTINGS, piped};
+use talk_runs::{CALM, piped};
 
-/// Asserts that settings are refused with this line, and nothing else is written.
-fn assert_refused(
-    rt: &impl Abort,
-    alloc: Global,
-    settings: &[u8],
-    line: &[u8],
-) -> Result<(), NoMemory> {
+/// Settings, and the line by which they are refused.
+const REFUSED: [(&[u8], &[u8]); 2] = [
+    (
+        b"base_domain = \"tail.example\"\nserver_url = \"http://tail.example\"\ntoken = \"secret\"\nworkers = 0\n",
+        b"tailnetd: settings S4 workers\n",
+    ),
+    (b"token = 7\n", b"tailnetd: settings S3 token\n"),
+];
+
+/// Whether settings are refused with this line, and nothing else is written.
+fn are_refused(alloc: Global, settings: &[u8], line: &[u8]) -> Result<bool, NoMemory> {
     let ran = piped(alloc, settings, FIRST, &CALM)?;
-    assert!(rt; ran.status == Status::Settings);
-    assert!(rt; ran.errors.bytes() == line);
-    assert!(rt; ran.output.bytes().is_empty());
-    Ok(())
+    Ok(
+        ran.status == Status::Settings
+            && ran.errors.bytes() == line
+            && ran.output.bytes().is_empty(),
+    )
 }
 
 #[test]
 fn settings_that_are_refused(rt: HostRuntime) -> Result<(), Fail> {
-    let alloc = rt.alloc();
-    let mut settings = Vec::from_slice(alloc, SETTINGS)?;
-    settings.extend_from_slice(b"workers = 0\n")?;
-    assert_refused(&rt, alloc, &settings, b"tailnetd: settings S4 workers\n")?;
-    assert_refused(&rt, alloc, b"token = 7\n", b"tailnetd: settings S3 token\n")?;
+    for (row, (settings, line)) in REFUSED.iter().enumerate() {
+        assert!(rt; are_refused(rt.alloc(), settings, line)?, "row {row}");
+    }
     Ok(())
 }

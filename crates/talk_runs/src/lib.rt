@@ -6,8 +6,8 @@ mod tables;
 mod talks;
 
 pub use runs::{
-    CALM, PipeRun, Plan, SETTINGS, entropy_of, failing, files_of, piped, piped_at, piped_over,
-    tables_with,
+    CALM, PipeRun, Plan, SETTINGS, entropy_of, failing, files_of, piped, piped_behind, piped_over,
+    tables_at, tables_with,
 };
 pub use tables::{POLLS, WORKED};
 pub use talks::{Talk, cut, first_not_held, talk_bytes, talks_of};

@@ -1,7 +1,10 @@
 //! Runs of `pipe` over memory objects.
-use io_edge::{MemoryClock, MemoryEntropy, MemoryFiles, MemorySink, MemorySource, NamedBytes};
+use io_edge::{
+    Clock, Entropy, Files, MemoryClock, MemoryEntropy, MemoryFiles, MemorySink, MemorySource,
+    NamedBytes, Sink, Source,
+};
 use net_rows::{Counters, Rows, Tables};
-use row_keeper::MemoryOpener;
+use row_keeper::{MemoryOpener, Opener};
 use run_ends::Status;
 use std::alloc::Global;
 use tail_base::{Bytes, Items, NoMemory, Text};
@@ -69,8 +72,8 @@ pub struct PipeRun {
     pub output: MemorySink,
     /// What it wrote on errors.
     pub errors: MemorySink,
-    /// Its tables.
-    pub tables: Tables,
+    /// How many machines its tables have.
+    pub machines: usize,
 }
 
 /// The list of the call with this number, or of none with 0.
@@ -106,97 +109,116 @@ fn opener_of(alloc: Global, tables: Tables, plan: &Plan) -> Result<MemoryOpener,
     Ok(MemoryOpener::new(alloc, tables, opens, keeps))
 }
 
-/// Runs `pipe tailnet.toml --seed k1` over the bytes, with this text in the file, at 2001-09-09T01:46:40Z.
-pub fn piped(
-    alloc: Global,
-    settings: &[u8],
-    input: &[u8],
-    plan: &Plan,
-) -> Result<PipeRun, NoMemory> {
-    let mut moments = Items::new(alloc);
-    moments.push(1_000_000_000)?;
-    let tables = Tables::empty(alloc);
-    piped_at(
-        alloc,
-        MemoryClock::new(moments),
-        tables,
-        settings,
-        input,
-        plan,
-    )
+fn source_of(alloc: Global, input: &[u8], read: u32) -> Result<MemorySource, NoMemory> {
+    let reads = failing(alloc, read)?;
+    let bytes = Bytes::from_slice(alloc, input)?;
+    Ok(MemorySource::new(bytes, reads))
 }
 
-/// The streams of a run.
+fn sink_of(alloc: Global, write: u32) -> Result<MemorySink, NoMemory> {
+    let writes = failing(alloc, write)?;
+    Ok(MemorySink::new(alloc, writes))
+}
+
+/// What a run is given.
 #[derive(Drop)]
-struct Streams {
+struct Given {
     input: MemorySource,
     output: MemorySink,
     errors: MemorySink,
-}
-
-fn streams_of(alloc: Global, input: &[u8], plan: &Plan) -> Result<Streams, NoMemory> {
-    let reads = failing(alloc, plan.read)?;
-    let writes = failing(alloc, plan.write)?;
-    let errors = failing(alloc, plan.error)?;
-    let bytes = Bytes::from_slice(alloc, input)?;
-    Ok(Streams {
-        input: MemorySource::new(bytes, reads),
-        output: MemorySink::new(alloc, writes),
-        errors: MemorySink::new(alloc, errors),
-    })
-}
-
-/// What else a run is given.
-#[derive(Drop)]
-struct Stores {
     files: MemoryFiles,
     opener: MemoryOpener,
     clock: MemoryClock,
     entropy: MemoryEntropy,
 }
 
-fn stores_of(
+impl Given {
+    /// Nothing to read, and no file.
+    fn new(alloc: Global, opener: MemoryOpener, clock: MemoryClock) -> Given {
+        Given {
+            input: MemorySource::new(Bytes::new(alloc), Items::new(alloc)),
+            output: MemorySink::new(alloc, Items::new(alloc)),
+            errors: MemorySink::new(alloc, Items::new(alloc)),
+            files: MemoryFiles::new(Items::new(alloc), Items::new(alloc)),
+            opener,
+            clock,
+            entropy: MemoryEntropy::new(Items::new(alloc), Items::new(alloc)),
+        }
+    }
+
+    /// The bytes to read, the settings file, and what fails.
+    fn fill(
+        &mut self,
+        alloc: Global,
+        settings: &[u8],
+        input: &[u8],
+        plan: &Plan,
+    ) -> Result<(), NoMemory> {
+        self.input = source_of(alloc, input, plan.read)?;
+        self.output = sink_of(alloc, plan.write)?;
+        self.errors = sink_of(alloc, plan.error)?;
+        self.files = files_of(alloc, settings, plan.file)?;
+        self.entropy = entropy_of(alloc, plan.word)?;
+        Ok(())
+    }
+
+    /// Runs `pipe tailnet.toml --seed k1`.
+    fn status(&mut self, alloc: Global) -> Status {
+        pipe_over(
+            alloc,
+            &mut self.input,
+            &mut self.output,
+            &mut self.errors,
+            &mut self.files,
+            &mut self.opener,
+            &mut self.clock,
+            &mut self.entropy,
+        )
+    }
+}
+
+/// The command. The tests look at what it leaves and ask for none of its clauses, so that they aren't
+/// proved beside what these say.
+fn pipe_over<I: Source, O: Sink, E: Sink, F: Files, P: Opener, C: Clock, N: Entropy>(
     alloc: Global,
-    clock: MemoryClock,
-    tables: Tables,
-    settings: &[u8],
-    plan: &Plan,
-) -> Result<Stores, NoMemory> {
-    let entropy = entropy_of(alloc, plan.word)?;
-    let files = files_of(alloc, settings, plan.file)?;
-    let opener = opener_of(alloc, tables, plan)?;
-    Ok(Stores {
+    input: &mut I,
+    output: &mut O,
+    errors: &mut E,
+    files: &mut F,
+    opener: &mut P,
+    clock: &mut C,
+    entropy: &mut N,
+) -> Status {
+    pipe_command(
+        alloc,
+        "tailnet.toml",
+        Some("k1"),
+        input,
+        output,
+        errors,
         files,
         opener,
         clock,
         entropy,
-    })
+    )
 }
 
-/// The command, over these objects.
-fn run(alloc: Global, mut streams: Streams, mut stores: Stores) -> Result<PipeRun, NoMemory> {
-    let status = pipe_command(
-        alloc,
-        "tailnet.toml",
-        Some("k1"),
-        &mut streams.input,
-        &mut streams.output,
-        &mut streams.errors,
-        &mut stores.files,
-        &mut stores.opener,
-        &mut stores.clock,
-        &mut stores.entropy,
-    );
-    let tables = stores.opener.tables().copy(alloc)?;
-    Ok(PipeRun {
-        status,
-        output: streams.output,
-        errors: streams.errors,
-        tables,
-    })
+fn given_of(
+    alloc: Global,
+    clock: MemoryClock,
+    tables: Tables,
+    settings: &[u8],
+    input: &[u8],
+    plan: &Plan,
+) -> Result<Given, NoMemory> {
+    let opener = opener_of(alloc, tables, plan)?;
+    let mut given = Given::new(alloc, opener, clock);
+    given.fill(alloc, settings, input, plan)?;
+    Ok(given)
 }
 
-/// The same with this clock.
+/// Runs `pipe tailnet.toml --seed k1` over the bytes, with this text in the file, over these tables and
+/// by this clock.
 pub fn piped_at(
     alloc: Global,
     clock: MemoryClock,
@@ -205,23 +227,67 @@ pub fn piped_at(
     input: &[u8],
     plan: &Plan,
 ) -> Result<PipeRun, NoMemory> {
-    let stores = stores_of(alloc, clock, tables, settings, plan)?;
-    let streams = streams_of(alloc, input, plan)?;
-    run(alloc, streams, stores)
+    let mut given = given_of(alloc, clock, tables, settings, input, plan)?;
+    let status = given.status(alloc);
+    let machines = given.opener.tables().machines().len();
+    let Given { output, errors, .. } = given;
+    Ok(PipeRun {
+        status,
+        output,
+        errors,
+        machines,
+    })
+}
+
+/// The status of such a run, and the tables that it leaves.
+pub fn tables_at(
+    alloc: Global,
+    clock: MemoryClock,
+    tables: Tables,
+    settings: &[u8],
+    input: &[u8],
+) -> Result<(Status, Tables), NoMemory> {
+    let mut given = given_of(alloc, clock, tables, settings, input, &CALM)?;
+    let status = given.status(alloc);
+    Ok((status, given.opener.tables().copy(alloc)?))
+}
+
+/// 2001-09-09T01:46:40Z, again and again.
+fn noon(alloc: Global) -> Result<MemoryClock, NoMemory> {
+    let mut moments = Items::new(alloc);
+    moments.push(1_000_000_000)?;
+    Ok(MemoryClock::new(moments))
+}
+
+/// The same over empty tables, at 2001-09-09T01:46:40Z.
+pub fn piped(
+    alloc: Global,
+    settings: &[u8],
+    input: &[u8],
+    plan: &Plan,
+) -> Result<PipeRun, NoMemory> {
+    let clock = noon(alloc)?;
+    piped_at(alloc, clock, Tables::empty(alloc), settings, input, plan)
 }
 
 /// The same over kept tables, at 2001-09-09T01:46:40Z.
 pub fn piped_over(alloc: Global, tables: Tables, input: &[u8]) -> Result<PipeRun, NoMemory> {
-    let mut moments = Items::new(alloc);
-    moments.push(1_000_000_000)?;
-    piped_at(
-        alloc,
-        MemoryClock::new(moments),
-        tables,
-        SETTINGS,
-        input,
-        &CALM,
-    )
+    let clock = noon(alloc)?;
+    piped_at(alloc, clock, tables, SETTINGS, input, &CALM)
+}
+
+/// What a second run leaves, over the tables that a first one left; None if the first didn't end well.
+pub fn piped_behind(
+    alloc: Global,
+    first: &[u8],
+    second: &[u8],
+) -> Result<Option<PipeRun>, NoMemory> {
+    let clock = noon(alloc)?;
+    let (status, tables) = tables_at(alloc, clock, Tables::empty(alloc), SETTINGS, first)?;
+    if status != Status::Ok {
+        return Ok(None);
+    }
+    Ok(Some(piped_over(alloc, tables, second)?))
 }
 
 /// Tables that keep nothing but this policy.

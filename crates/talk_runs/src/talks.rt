@@ -10,12 +10,12 @@
 //!
 //! The answer to a poll is `< stream`, the head of a stream, then a line `+ TEXT` for each chunk with the frame of a text,
 //! and `.`, the last chunk. A line `x` behind any of these says that the next write fails, which ends the run.
-use crate::runs::{CALM, Plan, SETTINGS, piped_at, tables_with};
+use crate::runs::{CALM, PipeRun, Plan, SETTINGS, piped_at, tables_with};
 use io_edge::MemoryClock;
 use net_rows::Tables;
 use run_ends::Status;
 use std::alloc::Global;
-use tail_base::{Items, NoMemory};
+use tail_base::{Duplicate, Items, NoMemory};
 
 /// What the program is given, and what it has to answer.
 #[derive(Drop)]
@@ -101,26 +101,35 @@ fn add_length(alloc: Global, input: &mut Vec<u8>, length: &str) -> Result<(), No
     Ok(())
 }
 
-/// The bytes of a request.
-fn add_request(alloc: Global, input: &mut Vec<u8>, line: &str) -> Result<(), NoMemory> {
-    let (method, rest) = cut(line);
-    let (path, rest) = cut(rest);
-    let (caller, body) = cut(rest);
-    let head = format!(in alloc; "{method} {path} HTTP/1.1\r\nHost: tail\r\n")?;
-    input.extend_from_slice(head.as_bytes())?;
-    add_caller(alloc, input, caller)?;
-    if let Some(length) = body.strip_prefix("*") {
-        return add_length(alloc, input, length);
-    }
-    if method != "POST" && method != "PUT" {
-        input.extend_from_slice(b"\r\n")?;
-        return Ok(());
-    }
+/// The beginning of a request's head.
+fn request_line(alloc: Global, method: &str, path: &str) -> Result<String, NoMemory> {
+    Ok(format!(in alloc; "{method} {path} HTTP/1.1\r\nHost: tail\r\n")?)
+}
+
+/// A body and its length.
+fn add_body(alloc: Global, input: &mut Vec<u8>, body: &str) -> Result<(), NoMemory> {
     let bytes = wide(alloc, body)?;
     let length = format!(in alloc; "{}", bytes.len())?;
     add_length(alloc, input, length.as_str())?;
     input.extend_from_slice(&bytes)?;
     Ok(())
+}
+
+/// The bytes of a request.
+fn add_request(alloc: Global, input: &mut Vec<u8>, line: &str) -> Result<(), NoMemory> {
+    let (method, rest) = cut(line);
+    let (path, rest) = cut(rest);
+    let (caller, body) = cut(rest);
+    input.extend_from_slice(request_line(alloc, method, path)?.as_bytes())?;
+    add_caller(alloc, input, caller)?;
+    if let Some(length) = body.strip_prefix("*") {
+        add_length(alloc, input, length)
+    } else if method == "POST" || method == "PUT" {
+        add_body(alloc, input, body)
+    } else {
+        input.extend_from_slice(b"\r\n")?;
+        Ok(())
+    }
 }
 
 /// The phrase of a status.
@@ -174,6 +183,15 @@ fn add_chunk(alloc: Global, output: &mut Vec<u8>, text: &str) -> Result<(), NoMe
     Ok(())
 }
 
+/// The head of an answer whose body is so long, and which ends the connection or doesn't.
+fn answer_head(alloc: Global, status: &str, length: usize, ends: bool) -> Result<String, NoMemory> {
+    let close = if ends { "Connection: close\r\n" } else { "" };
+    let phrase = phrase(status);
+    Ok(format!(in alloc;
+        "HTTP/1.1 {status} {phrase}\r\nContent-Type: application/json\r\nContent-Length: {length}\r\n{close}\r\n"
+    )?)
+}
+
 /// The bytes of an answer, or of the head of a stream, and whether the answer ends the connection.
 fn add_answer(alloc: Global, output: &mut Vec<u8>, line: &str) -> Result<bool, NoMemory> {
     if line == "stream" {
@@ -185,15 +203,9 @@ fn add_answer(alloc: Global, output: &mut Vec<u8>, line: &str) -> Result<bool, N
     } else {
         line
     });
-    let body = answer_body(alloc, text)?;
     let ends = status == "400" || status == "413";
-    let close = if ends { "Connection: close\r\n" } else { "" };
-    let head = format!(in alloc;
-        "HTTP/1.1 {status} {}\r\nContent-Type: application/json\r\nContent-Length: {}\r\n{close}\r\n",
-        phrase(status),
-        body.len()
-    )?;
-    output.extend_from_slice(head.as_bytes())?;
+    let body = answer_body(alloc, text)?;
+    output.extend_from_slice(answer_head(alloc, status, body.len(), ends)?.as_bytes())?;
     output.extend_from_slice(&body)?;
     Ok(ends)
 }
@@ -249,21 +261,33 @@ fn end_of(talk: &Talk) -> (Status, &'static [u8]) {
     }
 }
 
-/// Whether `pipe tailnet.toml --seed k1` holds the conversation.
-fn is_held(alloc: Global, mut talk: Talk) -> Result<bool, NoMemory> {
-    if talk.moments.is_empty() {
-        talk.moments.push(1_000_000_000)?;
+/// A clock that answers the moments of a conversation, or one.
+fn clock_of(alloc: Global, talk: &Talk) -> Result<MemoryClock, NoMemory> {
+    let mut moments = talk.moments.copy(alloc)?;
+    if moments.is_empty() {
+        moments.push(1_000_000_000)?;
     }
-    let (status, line) = end_of(&talk);
-    let clock = MemoryClock::new(talk.moments);
-    let ran = piped_at(
+    Ok(MemoryClock::new(moments))
+}
+
+/// The run of `pipe tailnet.toml --seed k1` over the requests of a conversation.
+fn run_of(alloc: Global, talk: &Talk) -> Result<PipeRun, NoMemory> {
+    let tables = talk.tables.copy(alloc)?;
+    let clock = clock_of(alloc, talk)?;
+    piped_at(
         alloc,
         clock,
-        talk.tables,
+        tables,
         &talk.settings,
         &talk.input,
         &talk.plan,
-    )?;
+    )
+}
+
+/// Whether that run holds the conversation.
+fn is_held(alloc: Global, talk: &Talk) -> Result<bool, NoMemory> {
+    let (status, line) = end_of(talk);
+    let ran = run_of(alloc, talk)?;
     Ok(
         ran.status == status
             && ran.errors.bytes() == line
@@ -292,9 +316,10 @@ pub fn talks_of(alloc: Global, table: &str) -> Result<Vec<(String, Talk)>, NoMem
 
 /// The name of the first conversation of the table that isn't held; None if all are.
 pub fn first_not_held(alloc: Global, table: &str) -> Result<Option<String>, NoMemory> {
-    for (name, talk) in talks_of(alloc, table)? {
+    let talks = talks_of(alloc, table)?;
+    for (name, talk) in talks.iter() {
         if !is_held(alloc, talk)? {
-            return Ok(Some(name));
+            return Ok(Some(String::from_str(alloc, name)?));
         }
     }
     Ok(None)

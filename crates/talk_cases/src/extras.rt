@@ -4,9 +4,9 @@ use run_ends::Status;
 use std::alloc::Global;
 use std::test::Fail;
 use tail_base::NoMemory;
-use talk_runs::{CALM, SETTINGS, piped, piped_over, talk_bytes};
+use talk_runs::{piped_behind, talk_bytes};
 
-const RECORDS: &str = r#"= extra-record
+pub(crate) const RECORDS: &str = r#"= extra-record
 > POST /machine/register mkey:%1 {"Auth":{"AuthKey":"k1"},"NodeKey":"nodekey:%a"}
 < registered
 > POST /machine/map mkey:%1 {"MapSessionHandle":"","MapSessionSeq":0,"NodeKey":"nodekey:%a","OmitPeers":false,"Stream":true}
@@ -90,7 +90,7 @@ const RECORDS: &str = r#"= extra-record
 < 405 {"error":"BadMethod"}"#;
 
 /// One body each, with its first fault.
-const FAULTS: &str = r#"= no-list
+pub(crate) const FAULTY_RECORDS: &str = r#"= no-list
 > PUT /api/v1/dns Bearer/secret {}
 < 400 {"error":"NotJson"}
 = null
@@ -175,18 +175,6 @@ const FAULTS: &str = r#"= no-list
 > PUT /api/v1/dns Bearer/secret [{"Name":"nas","Value":"192.168.5.9"},{}]
 < 400 {"error":"Missing","field":"Name"}"#;
 
-#[test]
-fn records_are_put(rt: HostRuntime) -> Result<(), Fail> {
-    assert_held(&rt, rt.alloc(), RECORDS)?;
-    Ok(())
-}
-
-#[test]
-fn faults_of_records(rt: HostRuntime) -> Result<(), Fail> {
-    assert_held(&rt, rt.alloc(), FAULTS)?;
-    Ok(())
-}
-
 /// A list of so many records.
 fn records(alloc: Global, count: u32) -> Result<String, NoMemory> {
     let mut text = String::new(alloc);
@@ -201,23 +189,26 @@ fn records(alloc: Global, count: u32) -> Result<String, NoMemory> {
     Ok(text)
 }
 
-#[test]
-fn as_many_records_as_there_may_be(rt: HostRuntime) -> Result<(), Fail> {
-    let alloc = rt.alloc();
+/// As many records as there may be, put and shown.
+fn all_records(alloc: Global) -> Result<String, NoMemory> {
     let list = records(alloc, 256)?;
-    let talk = format!(in alloc; "= all\n> PUT /api/v1/dns Bearer/secret {list}\n< 200 {list}")?;
-    assert_held(&rt, alloc, talk.as_str())?;
-    Ok(())
+    Ok(format!(in alloc; "= all\n> PUT /api/v1/dns Bearer/secret {list}\n< 200 {list}")?)
+}
+
+/// One record more.
+fn too_many_records(alloc: Global) -> Result<String, NoMemory> {
+    let list = records(alloc, 257)?;
+    Ok(format!(in alloc;
+        "= more\n> PUT /api/v1/dns Bearer/secret {list}\n< 400 {{\"error\":\"BadField\",\"field\":\"Name\"}}"
+    )?)
 }
 
 #[test]
-fn one_record_more_than_there_may_be(rt: HostRuntime) -> Result<(), Fail> {
-    let alloc = rt.alloc();
-    let list = records(alloc, 257)?;
-    let talk = format!(in alloc;
-        "= more\n> PUT /api/v1/dns Bearer/secret {list}\n< 400 {{\"error\":\"BadField\",\"field\":\"Name\"}}"
-    )?;
-    assert_held(&rt, alloc, talk.as_str())?;
+fn records_at_their_limit(rt: HostRuntime) -> Result<(), Fail> {
+    let talk = all_records(rt.alloc())?;
+    assert_held(&rt, rt.alloc(), talk.as_str())?;
+    let talk = too_many_records(rt.alloc())?;
+    assert_held(&rt, rt.alloc(), talk.as_str())?;
     Ok(())
 }
 
@@ -227,13 +218,18 @@ const PUT: &str =
 const SHOW: &str = r#"> GET /api/v1/dns Bearer/secret
 < 200 [{"Name":"nas.tail.example","Type":"A","Value":"192.168.5.9"}]"#;
 
+/// Whether the records that one run puts are those that the next shows.
+fn are_opened(alloc: Global) -> Result<bool, NoMemory> {
+    let (put, _answers) = talk_bytes(alloc, PUT)?;
+    let (show, answers) = talk_bytes(alloc, SHOW)?;
+    match piped_behind(alloc, &put, &show)? {
+        Some(ran) => Ok(ran.status == Status::Ok && ran.output.bytes() == answers.as_slice()),
+        None => Ok(false),
+    }
+}
+
 #[test]
 fn kept_records_are_opened(rt: HostRuntime) -> Result<(), Fail> {
-    let (put, _answers) = talk_bytes(rt.alloc(), PUT)?;
-    let (show, answers) = talk_bytes(rt.alloc(), SHOW)?;
-    let first = piped(rt.alloc(), SETTINGS, &put, &CALM)?;
-    let second = piped_over(rt.alloc(), first.tables.copy(rt.alloc())?, &show)?;
-    assert!(rt; second.status == Status::Ok);
-    assert!(rt; second.output.bytes() == answers.as_slice());
+    assert!(rt; are_opened(rt.alloc())?);
     Ok(())
 }

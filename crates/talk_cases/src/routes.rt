@@ -8,10 +8,10 @@ use run_ends::Status;
 use std::alloc::Global;
 use std::test::Fail;
 use tail_base::NoMemory;
-use talk_runs::{CALM, SETTINGS, piped, piped_over};
+use talk_runs::piped_behind;
 
 /// What an operator approves, and what becomes of it.
-const ROWS: &str = r##"= half-exit
+pub(crate) const ROUTE_ROWS: &str = r##"= half-exit
 > POST /machine/register mkey:%1 {"Auth":{"AuthKey":"k1"},"NodeKey":"nodekey:%a","Hostinfo":{"RoutableIPs":["0.0.0.0/0"]}}
 < registered
 > POST /api/v1/node/1/routes Bearer/secret {"routes":["0.0.0.0/0"]}
@@ -115,7 +115,7 @@ const ROWS: &str = r##"= half-exit
 < 500 {"error":"KeeperFault"}"##;
 
 /// Of two routers each machine is shown the route at the first that it sees.
-const FIRST_ROUTER: &str = r##"= first-router
+pub(crate) const FIRST_ROUTER: &str = r##"= first-router
 > POST /machine/register mkey:%1 {"Auth":{"AuthKey":"k1"},"NodeKey":"nodekey:%a"}
 < registered
 > POST /machine/register mkey:%2 {"Auth":{"AuthKey":"k1"},"NodeKey":"nodekey:%b","Hostinfo":{"RoutableIPs":["10.1.0.0/16"]}}
@@ -136,7 +136,7 @@ const FIRST_ROUTER: &str = r##"= first-router
 < 200 #{"DNSConfig":{"Domains":["tail.example"],"ExtraRecords":[],"Proxied":true,"Resolvers":[],"Routes":{}},"Domain":"tail.example","Node":{"Addresses":["100.64.0.1/32","fd7a:115c:a1e0::1/128"],"AllowedIPs":["100.64.0.1/32","fd7a:115c:a1e0::1/128"],"Created":"2001-09-09T01:46:40Z","DiscoKey":"discokey:%0","Endpoints":[],"HomeDERP":0,"Hostinfo":{"Hostname":""},"ID":1,"Key":"nodekey:%a","KeyExpiry":"0001-01-01T00:00:00Z","Machine":"mkey:%1","MachineAuthorized":true,"Name":"node.tail.example.","Online":false,"StableID":"n1","Tags":[],"User":1},"PacketFilter":[{"DstPorts":[{"IP":"100.64.0.1","Ports":{"First":0,"Last":65535}},{"IP":"fd7a:115c:a1e0::1","Ports":{"First":0,"Last":65535}}],"IPProto":[1,6,17,58],"SrcIPs":["*"]}],"Peers":[{"Addresses":["100.64.0.3/32","fd7a:115c:a1e0::3/128"],"AllowedIPs":["100.64.0.3/32","fd7a:115c:a1e0::3/128","10.1.0.0/16"],"Created":"2001-09-09T01:46:40Z","DiscoKey":"discokey:%0","Endpoints":[],"HomeDERP":0,"Hostinfo":{"Hostname":""},"ID":3,"Key":"nodekey:%c","KeyExpiry":"0001-01-01T00:00:00Z","Machine":"mkey:%3","MachineAuthorized":true,"Name":"node-2.tail.example.","Online":false,"StableID":"n3","Tags":[],"User":1}],"UserProfiles":[{"DisplayName":"seed","ID":1,"LoginName":"seed@"}]}"##;
 
 /// What the path takes.
-const BODIES: &str = r##"= routes-bodies
+pub(crate) const ROUTE_BODIES: &str = r##"= routes-bodies
 > POST /machine/register mkey:%1 {"Auth":{"AuthKey":"k1"},"NodeKey":"nodekey:%a"}
 < registered
 > GET /api/v1/node/1/routes Bearer/secret
@@ -312,24 +312,6 @@ fn approvals(alloc: Global) -> Result<String, NoMemory> {
 }
 
 #[test]
-fn operators_approve_routes(rt: HostRuntime) -> Result<(), Fail> {
-    assert_held(&rt, rt.alloc(), ROWS)?;
-    Ok(())
-}
-
-#[test]
-fn maps_show_a_route_at_its_first_router(rt: HostRuntime) -> Result<(), Fail> {
-    assert_held(&rt, rt.alloc(), FIRST_ROUTER)?;
-    Ok(())
-}
-
-#[test]
-fn bodies_with_routes_are_read(rt: HostRuntime) -> Result<(), Fail> {
-    assert_held(&rt, rt.alloc(), BODIES)?;
-    Ok(())
-}
-
-#[test]
 fn routes_are_served_where_they_are_approved(rt: HostRuntime) -> Result<(), Fail> {
     let talks = approvals(rt.alloc())?;
     assert_held(&rt, rt.alloc(), talks.as_str())?;
@@ -343,15 +325,23 @@ const LISTING: &[u8] =
     b"GET /api/v1/node HTTP/1.1\r\nHost: tail\r\nAuthorization: Bearer secret\r\n\r\n";
 
 /// Approvals are kept: a program that begins over the tables serves the routes.
+/// The list of the machine whose route is approved and served.
+fn listed(alloc: Global) -> Result<String, NoMemory> {
+    let node = node(alloc, "-", "10.1.0.0/16", "10.1.0.0/16", "10.1.0.0/16")?;
+    Ok(format!(in alloc; "{{\"nodes\":[{node}]}}")?)
+}
+
+/// Whether the approvals of one run are those of the next.
+fn are_opened(alloc: Global) -> Result<bool, NoMemory> {
+    let nodes = listed(alloc)?;
+    match piped_behind(alloc, APPROVING, LISTING)? {
+        Some(ran) => Ok(ran.status == Status::Ok && ran.output.bytes().ends_with(nodes.as_bytes())),
+        None => Ok(false),
+    }
+}
+
 #[test]
 fn kept_approvals_are_opened(rt: HostRuntime) -> Result<(), Fail> {
-    let alloc = rt.alloc();
-    let first = piped(alloc, SETTINGS, APPROVING, &CALM)?;
-    assert!(rt; first.status == Status::Ok);
-    let then = piped_over(alloc, first.tables, LISTING)?;
-    assert!(rt; then.status == Status::Ok);
-    let node = node(alloc, "-", "10.1.0.0/16", "10.1.0.0/16", "10.1.0.0/16")?;
-    let nodes = format!(in alloc; "{{\"nodes\":[{node}]}}")?;
-    assert!(rt; then.output.bytes().ends_with(nodes.as_bytes()));
+    assert!(rt; are_opened(rt.alloc())?);
     Ok(())
 }

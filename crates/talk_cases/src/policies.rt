@@ -1,5 +1,4 @@
 //! Policies saved, refused and opened, and the tags that they let machines have.
-use crate::held::assert_held;
 use crate::requests::add_head;
 use run_ends::Status;
 use std::alloc::Global;
@@ -8,7 +7,7 @@ use tail_base::NoMemory;
 use talk_runs::{CALM, SETTINGS, piped, piped_over, tables_with};
 
 /// What is kept of each save.
-const SAVES: &str = r#"= policy-none
+pub(crate) const SAVES: &str = r#"= policy-none
 > GET /api/v1/policy Bearer/secret
 < 200 {}
 = policy-kept
@@ -81,7 +80,7 @@ const SAVES: &str = r#"= policy-none
 < 500 {"error":"KeeperFault"}"#;
 
 /// The tags that a policy defines, and whose machines may have them.
-const TAGS: &str = r#"= tags-of-a-policy
+pub(crate) const TAGS: &str = r#"= tags-of-a-policy
 > POST /api/v1/user Bearer/secret {"name":"bob"}
 < 200 {"id":2,"login":"bob@"}
 > PUT /api/v1/policy Bearer/secret {"groups":{"group:g":["seed@"]},"tagOwners":{"tag:a":["seed@"],"tag:b":["group:g"],"tag:c":["bob@"]}}
@@ -122,7 +121,7 @@ const TAGS: &str = r#"= tags-of-a-policy
 < registered"#;
 
 /// Tests of policies, over the machines that are live.
-const TESTS: &str = r#"= tests-with-phantoms
+pub(crate) const TESTS: &str = r#"= tests-with-phantoms
 > PUT /api/v1/policy Bearer/secret {"tagOwners":{"tag:web":[]},"acls":[{"action":"accept","src":["bob@"],"dst":["tag:web:443"]}],"tests":[{"src":"eve@","accept":["tag:web:443"]}]}
 < 422 {"code":"P21","place":"tests[0].accept[0]"}
 > PUT /api/v1/policy Bearer/secret {"tagOwners":{"tag:web":[]},"groups":{"group:e":["eve@"]},"acls":[{"action":"accept","src":["group:e"],"dst":["tag:web:443"]}],"tests":[{"src":"eve@","accept":["tag:web:443"]}]}
@@ -182,7 +181,7 @@ const TESTS: &str = r#"= tests-with-phantoms
 < 422 {"code":"P21","place":"tests[0].deny[0]"}"#;
 
 /// Policies that are kept when the program begins. The first that is saved afterwards is another text.
-const KEPT: &str = r#"= kept-policy-closes
+pub(crate) const KEPT: &str = r#"= kept-policy-closes
 ~ {"acls":[]}
 > POST /machine/register mkey:%1 {"Auth":{"AuthKey":"k1"},"NodeKey":"nodekey:%a"}
 < registered
@@ -240,24 +239,6 @@ fn is_answered(alloc: Global, body: &[u8], end: &[u8]) -> Result<bool, NoMemory>
 }
 
 #[test]
-fn policies_are_saved(rt: HostRuntime) -> Result<(), Fail> {
-    assert_held(&rt, rt.alloc(), SAVES)?;
-    Ok(())
-}
-
-#[test]
-fn policies_grant_tags(rt: HostRuntime) -> Result<(), Fail> {
-    assert_held(&rt, rt.alloc(), TAGS)?;
-    Ok(())
-}
-
-#[test]
-fn kept_policies_are_in_force(rt: HostRuntime) -> Result<(), Fail> {
-    assert_held(&rt, rt.alloc(), KEPT)?;
-    Ok(())
-}
-
-#[test]
 fn a_policy_is_text(rt: HostRuntime) -> Result<(), Fail> {
     assert!(rt; is_answered(rt.alloc(), b"{}\xff", b"{\"error\":\"NotJson\"}")?);
     Ok(())
@@ -288,12 +269,6 @@ fn kept_policies_with_faults_are_damage(rt: HostRuntime) -> Result<(), Fail> {
     for policy in FAULTY {
         assert!(rt; is_damaged(rt.alloc(), policy)?, "{policy}");
     }
-    Ok(())
-}
-
-#[test]
-fn policies_are_tested(rt: HostRuntime) -> Result<(), Fail> {
-    assert_held(&rt, rt.alloc(), TESTS)?;
     Ok(())
 }
 
