@@ -13,7 +13,8 @@ use std::sync::Wait;
 use std::test::Fail;
 use std::thread::Threads;
 use tail_base::{Bytes, Duplicate, Items, NoMemory};
-use talk_runs::{POLLS, Talk, WORKED, entropy_of, failing, files_of, tables_at, talks_of};
+use talk_runs::{Talk, entropy_of, failing, files_of, tables_at, talks_of};
+use talk_tables::{POLLS, WORKED};
 
 /// Whether `serve` can hold it: nothing fails but commits behind the seed's, and no write is cut off.
 fn is_served_alike(talk: &Talk) -> bool {

@@ -1,15 +1,13 @@
 //! Tables of conversations, each of which `pipe` holds, byte for byte.
-use crate::extras::{FAULTY_RECORDS, RECORDS};
-use crate::lives::LIVES;
-use crate::policies::{KEPT, SAVES, TAGS, TESTS};
-use crate::polls::FAULTED_POLLS;
-use crate::refusals::{FAULTY_BODIES, REFUSALS};
-use crate::routes::{FIRST_ROUTER, ROUTE_BODIES, ROUTE_ROWS};
 use std::alloc::Global;
 use std::process::Abort;
 use std::test::Fail;
 use tail_base::NoMemory;
-use talk_runs::{POLLS, WORKED, first_not_held};
+use talk_runs::first_not_held;
+use talk_tables::{
+    FAULTED_POLLS, FAULTY_BODIES, FAULTY_RECORDS, FIRST_ROUTER, KEPT, LIVES, POLLS, RECORDS,
+    REFUSALS, ROUTE_BODIES, ROUTE_ROWS, SAVES, TAGS, TESTS, WORKED,
+};
 
 /// All tables that stand as they are: each conversation of them has a name.
 const TABLES: [&str; 15] = [

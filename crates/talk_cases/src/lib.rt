@@ -14,15 +14,9 @@ mod held;
 #[cfg(test)]
 mod limits;
 #[cfg(test)]
-mod lives;
-#[cfg(test)]
 mod office;
 #[cfg(test)]
 mod policies;
-#[cfg(test)]
-mod polls;
-#[cfg(test)]
-mod refusals;
 #[cfg(test)]
 mod registrations;
 #[cfg(test)]

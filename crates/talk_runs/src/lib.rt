@@ -2,12 +2,10 @@
 #![tactic(auto)]
 
 mod runs;
-mod tables;
 mod talks;
 
 pub use runs::{
     CALM, PipeRun, Plan, SETTINGS, entropy_of, failing, files_of, piped, piped_behind, piped_over,
     tables_at, tables_with,
 };
-pub use tables::{POLLS, WORKED};
 pub use talks::{Talk, cut, first_not_held, talk_bytes, talks_of};

@@ -1,7 +1,7 @@
 //! Every refusal, and what stands in the tables after it; the first fault of every body.
 
 /// What the desk refuses, and that it changes nothing.
-pub(crate) const REFUSALS: &str = r#"= logins
+pub const REFUSALS: &str = r#"= logins
 > POST /api/v1/user Bearer/secret {"name":"Ann"}
 < 200 {"id":2,"login":"ann@"}
 > POST /api/v1/user Bearer/secret {"name":"ANN@"}
@@ -257,7 +257,7 @@ pub(crate) const REFUSALS: &str = r#"= logins
 < 400 {"error":"NotJson"}"#;
 
 /// One body each, with its first fault.
-pub(crate) const FAULTY_BODIES: &str = r#"= no-machine-key
+pub const FAULTY_BODIES: &str = r#"= no-machine-key
 > POST /machine/register - {
 < 400 {"error":"Missing","field":"Ts-Machine-Key"}
 = zero-machine-key

@@ -1,7 +1,7 @@
-//! Polls: what their streams hold, and when a session goes on.
+//! Polls: what their streams hold, when a session goes on, and what a fault of a write comes to.
 
 /// Each write of a poll fails in turn.
-pub(crate) const FAULTED_POLLS: &str = r#"= head
+pub const FAULTED_POLLS: &str = r#"= head
 ! write 2
 > POST /machine/register mkey:%1 {"Auth":{"AuthKey":"k1"},"NodeKey":"nodekey:%a"}
 < registered

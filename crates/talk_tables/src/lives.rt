@@ -1,6 +1,7 @@
 //! How machines come, are renewed, wait, and go, with the time.
 
-pub(crate) const LIVES: &str = r#"= sweep-at-the-end
+/// Lives of machines.
+pub const LIVES: &str = r#"= sweep-at-the-end
 @ 1000000000 1000000000 1000000000 1000001799 1000001800 1000001800
 > POST /machine/register mkey:%1 {"Auth":{"AuthKey":"k1"},"Ephemeral":true,"NodeKey":"nodekey:%a"}
 < registered

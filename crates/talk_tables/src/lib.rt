@@ -1,0 +1,18 @@
+//! Conversations as lines of a text (`talk_runs` says how they are written), for tests.
+#![tactic(auto)]
+
+mod extras;
+mod lives;
+mod policies;
+mod polls;
+mod refusals;
+mod routes;
+mod worked;
+
+pub use extras::{FAULTY_RECORDS, RECORDS};
+pub use lives::LIVES;
+pub use policies::{KEPT, SAVES, TAGS, TESTS};
+pub use polls::FAULTED_POLLS;
+pub use refusals::{FAULTY_BODIES, REFUSALS};
+pub use routes::{FIRST_ROUTER, ROUTE_BODIES, ROUTE_ROWS};
+pub use worked::{POLLS, WORKED};
