@@ -1,102 +1,82 @@
 //! Policy files.
-use io_edge::{MemoryFiles, MemorySink, NamedBytes};
+use io_edge::{Files, MemoryFiles, MemorySink, NamedBytes, Sink};
 use run_ends::Status;
 use std::alloc::Global;
-use std::process::Abort;
 use std::test::Fail;
 use tail_base::{Bytes, Items, NoMemory, Text};
 use tailnet_commands::policy_check;
 
-fn checked(alloc: Global, text: &[u8]) -> Result<(Status, MemorySink), NoMemory> {
+/// The command. The tests look at what it leaves and ask for none of its clauses.
+fn check_over<O: Sink, E: Sink, F: Files>(
+    alloc: Global,
+    output: &mut O,
+    errors: &mut E,
+    files: &mut F,
+) -> Status {
+    policy_check(alloc, "policy.hujson", output, errors, files)
+}
+
+fn file_with(alloc: Global, text: &[u8]) -> Result<MemoryFiles, NoMemory> {
+    let name = Text::from_str(alloc, "policy.hujson")?;
+    let bytes = Bytes::from_slice(alloc, text)?;
     let mut list = Items::new(alloc);
-    list.push(NamedBytes {
-        name: Text::from_str(alloc, "policy.hujson")?,
-        bytes: Bytes::from_slice(alloc, text)?,
-    })?;
-    let mut files = MemoryFiles::new(list, Items::new(alloc));
+    list.push(NamedBytes { name, bytes })?;
+    Ok(MemoryFiles::new(list, Items::new(alloc)))
+}
+
+fn checked(alloc: Global, text: &[u8]) -> Result<(Status, MemorySink), NoMemory> {
+    let mut files = file_with(alloc, text)?;
     let mut output = MemorySink::new(alloc, Items::new(alloc));
     let mut errors = MemorySink::new(alloc, Items::new(alloc));
-    let status = policy_check(alloc, "policy.hujson", &mut output, &mut errors, &mut files);
+    let status = check_over(alloc, &mut output, &mut errors, &mut files);
     Ok((status, output))
 }
 
-/// Asserts what a policy's text comes to.
-fn assert_checked(
-    rt: &impl Abort,
-    alloc: Global,
-    text: &[u8],
-    status: Status,
-    output: &[u8],
-) -> Result<(), NoMemory> {
-    let (ended, wrote) = checked(alloc, text)?;
-    assert!(rt; ended == status);
-    assert!(rt; wrote.bytes() == output);
-    Ok(())
-}
-
-#[test]
-fn sound_policies(rt: HostRuntime) -> Result<(), Fail> {
-    let alloc = rt.alloc();
-    assert_checked(
-        &rt,
-        alloc,
-        b"{/* none */ \"acls\": [],} // end",
-        Status::Ok,
-        b"ok\n",
-    )?;
-    assert_checked(&rt, alloc, OFFICE, Status::Ok, b"ok\n")?;
-    Ok(())
-}
-
-#[test]
-fn policies_with_faults(rt: HostRuntime) -> Result<(), Fail> {
-    let alloc = rt.alloc();
-    assert_checked(
-        &rt,
-        alloc,
-        b"{\"acls\":[],\"ACLs\":[]}",
-        Status::Refused,
-        b"P3 acls\n",
-    )?;
-    assert_checked(
-        &rt,
-        alloc,
-        b"{\"groups\":{\"group:a\":[\"b\"]}}",
-        Status::Refused,
-        b"P6 groups.group:a[0]\n",
-    )?;
-    assert_checked(
-        &rt,
-        alloc,
-        b"{\"tagOwners\":{\"tag:web\":[]},\"acls\":[{\"action\":\"accept\",\"proto\":\"icmp\",\"src\":[\"*\"],\"dst\":[\"tag:web:22\",\"x\"]}]}",
-        Status::Refused,
-        b"P17 acls[0].dst[0]\n",
-    )?;
-    Ok(())
-}
-
-/// Asserts a line of the table: a policy, and what `policy-check` writes.
-fn assert_verdict(rt: &impl Abort, alloc: Global, line: &str) -> Result<(), NoMemory> {
-    let Some((policy, verdict)) = line.split_once(" => ") else {
-        return Ok(());
-    };
-    let (ended, wrote) = checked(alloc, policy.as_bytes())?;
-    let wanted = if verdict == "ok" {
+/// Whether `policy-check` writes this of a policy's text, with the status that goes with it.
+fn is_judged(alloc: Global, text: &[u8], verdict: &[u8]) -> Result<bool, NoMemory> {
+    let wanted = if verdict == b"ok\n".as_slice() {
         Status::Ok
     } else {
         Status::Refused
     };
-    let output = format!(in alloc; "{verdict}\n")?;
-    assert!(rt; ended == wanted, "{policy}");
-    assert!(rt; wrote.bytes() == output.as_bytes(), "{policy}");
+    let (status, output) = checked(alloc, text)?;
+    Ok(status == wanted && output.bytes() == verdict)
+}
+
+/// Policies without tests but the last, and what is written of each.
+const JUDGED: [(&[u8], &[u8]); 5] = [
+    (b"{/* none */ \"acls\": [],} // end", b"ok\n"),
+    (b"{\"acls\":[],\"ACLs\":[]}", b"P3 acls\n"),
+    (
+        b"{\"groups\":{\"group:a\":[\"b\"]}}",
+        b"P6 groups.group:a[0]\n",
+    ),
+    (
+        b"{\"tagOwners\":{\"tag:web\":[]},\"acls\":[{\"action\":\"accept\",\"proto\":\"icmp\",\"src\":[\"*\"],\"dst\":[\"tag:web:22\",\"x\"]}]}",
+        b"P17 acls[0].dst[0]\n",
+    ),
+    (OFFICE, b"ok\n"),
+];
+
+#[test]
+fn policies_are_judged(rt: HostRuntime) -> Result<(), Fail> {
+    for (row, (text, verdict)) in JUDGED.iter().enumerate() {
+        assert!(rt; is_judged(rt.alloc(), text, verdict)?, "row {row}");
+    }
     Ok(())
+}
+
+/// Whether a line of the table holds: a policy, and what `policy-check` writes.
+fn is_tested_so(alloc: Global, line: &str) -> Result<bool, Fail> {
+    let (policy, verdict) = line.split_once(" => ").ok_or("no line")?;
+    let verdict = format!(in alloc; "{verdict}\n")?;
+    Ok(is_judged(alloc, policy.as_bytes(), verdict.as_bytes())?)
 }
 
 #[test]
 fn policies_with_tests(rt: HostRuntime) -> Result<(), Fail> {
-    let alloc = rt.alloc();
     for line in TESTED.lines() {
-        assert_verdict(&rt, alloc, line)?;
+        assert!(rt; is_tested_so(rt.alloc(), line)?, "{line}");
     }
     Ok(())
 }
@@ -104,7 +84,7 @@ fn policies_with_tests(rt: HostRuntime) -> Result<(), Fail> {
 #[test]
 fn a_policy_may_be_too_long(rt: HostRuntime) -> Result<(), Fail> {
     let text = Vec::from_elem(rt.alloc(), b' ', 262_145)?;
-    assert_checked(&rt, rt.alloc(), &text, Status::Refused, b"P19 text\n")?;
+    assert!(rt; is_judged(rt.alloc(), &text, b"P19 text\n")?);
     Ok(())
 }
 

@@ -102,16 +102,29 @@ fn answers<R: Threads + Wait + Sync>(
     }
 }
 
+/// A registration, and then the list of machines.
+fn registered_and_listed(alloc: Global) -> Result<Vec<u8>, NoMemory> {
+    let mut both = Vec::from_slice(alloc, FIRST)?;
+    both.extend_from_slice(NODES)?;
+    Ok(both)
+}
+
+/// Whether a second run lists what the first one registered.
+fn is_listed_again<R: Threads + Wait + Sync>(threads: &R, rt: HostRuntime) -> Result<bool, Fail> {
+    let both = registered_and_listed(rt.alloc())?;
+    let first = answers(threads, rt, &both)?;
+    let second = answers(threads, rt, NODES)?;
+    Ok(
+        second.bytes().ends_with(b",\"user\":\"seed@\"}]}")
+            && first.bytes().ends_with(second.bytes()),
+    )
+}
+
 #[test]
 fn what_was_registered_is_listed_by_another_run(rt: HostRuntime) -> Result<(), Fail> {
     let _ = fs::remove_dir_all(&rt, FOLDER);
     fs::create_dir(&rt, FOLDER)?;
-    let mut both = Vec::from_slice(rt.alloc(), FIRST)?;
-    both.extend_from_slice(NODES)?;
-    let first = answers(&rt, rt, &both)?;
-    let second = answers(&rt, rt, NODES)?;
-    assert!(rt; second.bytes().ends_with(b",\"user\":\"seed@\"}]}"));
-    assert!(rt; first.bytes().ends_with(second.bytes()));
+    assert!(rt; is_listed_again(&rt, rt)?);
     fs::remove_dir_all(&rt, FOLDER)?;
     Ok(())
 }
