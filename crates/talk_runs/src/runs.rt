@@ -134,7 +134,12 @@ struct Given {
 
 impl Given {
     /// Nothing to read, and no file.
-    fn new(alloc: Global, opener: MemoryOpener, clock: MemoryClock) -> Given {
+    fn new(
+        alloc: Global,
+        opener: MemoryOpener,
+        clock: MemoryClock,
+        entropy: MemoryEntropy,
+    ) -> Given {
         Given {
             input: MemorySource::new(Bytes::new(alloc), Items::new(alloc)),
             output: MemorySink::new(alloc, Items::new(alloc)),
@@ -142,7 +147,7 @@ impl Given {
             files: MemoryFiles::new(Items::new(alloc), Items::new(alloc)),
             opener,
             clock,
-            entropy: MemoryEntropy::new(Items::new(alloc), Items::new(alloc)),
+            entropy,
         }
     }
 
@@ -158,7 +163,6 @@ impl Given {
         self.output = sink_of(alloc, plan.write)?;
         self.errors = sink_of(alloc, plan.error)?;
         self.files = files_of(alloc, settings, plan.file)?;
-        self.entropy = entropy_of(alloc, plan.word)?;
         Ok(())
     }
 
@@ -211,8 +215,9 @@ fn given_of(
     input: &[u8],
     plan: &Plan,
 ) -> Result<Given, NoMemory> {
+    let entropy = entropy_of(alloc, plan.word)?;
     let opener = opener_of(alloc, tables, plan)?;
-    let mut given = Given::new(alloc, opener, clock);
+    let mut given = Given::new(alloc, opener, clock, entropy);
     given.fill(alloc, settings, input, plan)?;
     Ok(given)
 }
