@@ -99,23 +99,23 @@ fn rules_of_reading_at_their_edges(rt: HostRuntime) -> Result<(), Fail> {
     Ok(())
 }
 
-/// Whether the first bytes of two requests, so many, are answered as far as they are whole.
-fn is_cut_so(alloc: Global, count: usize) -> Result<bool, Fail> {
-    let whole = count / FIRST.len();
-    let answered = whole.min(2) * (REGISTERED_TWICE.len() / 2);
-    let status = if count % FIRST.len() == 0 {
+/// Whether the first bytes of two requests are answered as far as they are whole.
+fn is_cut_so(alloc: Global, cut: &[u8]) -> Result<bool, Fail> {
+    let whole = cut.len() / FIRST.len();
+    let answer = REGISTERED_TWICE.len() / 2;
+    let status = if cut.len() % FIRST.len() == 0 {
         Status::Ok
     } else {
         Status::Early
     };
-    let ran = piped(alloc, SETTINGS, &TWICE[..count], &CALM)?;
-    Ok(ran.status == status && ran.output.bytes() == &REGISTERED_TWICE[..answered])
+    let ran = piped(alloc, SETTINGS, cut, &CALM)?;
+    Ok(ran.status == status && ran.output.bytes() == &REGISTERED_TWICE[..whole.min(2) * answer])
 }
 
 #[test]
 fn every_cut_of_two_requests(rt: HostRuntime) -> Result<(), Fail> {
     for count in 0..=TWICE.len() {
-        assert!(rt; is_cut_so(rt.alloc(), count)?, "{count}");
+        assert!(rt; is_cut_so(rt.alloc(), &TWICE[..count])?, "{count}");
     }
     Ok(())
 }
