@@ -128,9 +128,10 @@ fn answers<
         || serve_once(rt, alloc, given),
         || asked(&rt, alloc, &at, request),
     );
-    match (status, answers) {
-        (Ok(Status::Ok), Some(answers)) => Ok(answers),
-        _ => Err(Fail::from("no answers")),
+    if status? == Status::Ok {
+        Ok(answers.ok_or("no answers")?)
+    } else {
+        Err(Fail::from("the server doesn't end well"))
     }
 }
 
