@@ -54,6 +54,7 @@ READING = {
     "paths": documents.paths,
     "provenance": documents.provenance,
     "words": documents.words,
+    "wrong-bodies": sources.wrong_bodies,
     **LISTS,
 }
 RUNNING = {"ends": ends, "transcripts": transcripts.transcripts, "model": model}

@@ -129,3 +129,49 @@ def wide_clauses(repository):
         if has_wide_clause(source)
     }
     return unlisted(repository, found, "wide-clauses", f"has a clause over {WIDTH} columns")
+
+
+# Wrong bodies
+
+TOLD = re.compile(r"# Told by (\w+)::(\w+)::(\w+)(?:, row ([\w-]+))?\.")
+
+
+def test_fault(repository, line):
+    """Why a line names no test of the repository, and no row of it; none if it does."""
+    found = TOLD.fullmatch(line)
+    if not found:
+        return "doesn't begin with the test that tells of it"
+    crate, module, test, row = found.groups()
+    sources = repository.crates[crate].sources if crate in repository.crates else {}
+    if f"fn {test}(" not in sources.get(f"src/{module}.rt", ""):
+        return f"there is no test {crate}::{module}::{test}"
+    tables = [*sources.values(), *repository.crates["talk_tables"].sources.values()]
+    if row and not any(f"= {row}\n" in text or f'("{row}", ' in text for text in tables):
+        return f"there is no row {row}"
+    return None
+
+
+def place_fault(crate, path, old):
+    """Why a text can't be exchanged in a file; none if it stands there once."""
+    count = crate.read(path).get(path, "").count(old)
+    return None if count == 1 else f"its old text stands {count} times in {path}"
+
+
+def wrong_body_faults(repository, crate, text):
+    """Why a wrong body can't be made any more, or isn't told by a test."""
+    lines = text.rstrip("\n").split("\n")
+    values = [line.split(": ", 1) for line in lines[1:]]
+    if [value[0] for value in values] != ["file", "old", "new"] * (len(values) // 3) or not values:
+        return ["isn't lines of a file, an old text and a new one"]
+    places = [place_fault(crate, values[at][1], values[at + 1][1]) for at in range(0, len(values), 3)]
+    return [fault for fault in [test_fault(repository, lines[0]), *places] if fault]
+
+
+def wrong_bodies(repository):
+    """Each wrong body that the gate leaves to a test can be made, and names that test."""
+    return [
+        f"crates/{crate.name}/{path}: {fault}"
+        for crate in repository.crates.values()
+        for path, text in crate.read("must-fail/*.md").items()
+        for fault in wrong_body_faults(repository, crate, text)
+    ]

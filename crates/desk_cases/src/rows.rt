@@ -106,6 +106,21 @@ const UNKNOWN_HANDLE: &str = r#"> seed k1
 < ended
 "#;
 
+/// A second poll of a machine begins a session of its own, whatever it names, and the older handle is nobody's any more.
+const SECOND_POLL: &str = r#"> seed k1
+< done
+> register mkey:%1 nodekey:%a
+< done
+> attach mkey:%1 nodekey:%a - 0
+< s1-0000000000000001 begins behind 0, may wait
+> drain mkey:%1 s1-0000000000000001
+< {"DNSConfig":{"Domains":["tail.example"],"ExtraRecords":[],"Proxied":true,"Resolvers":[],"Routes":{}},"Domain":"tail.example","MapSessionHandle":"s1-0000000000000001","Node":{"Addresses":["100.64.0.1/32","fd7a:115c:a1e0::1/128"],"AllowedIPs":["100.64.0.1/32","fd7a:115c:a1e0::1/128"],"Created":"2001-09-09T01:46:40Z","DiscoKey":"discokey:%0","Endpoints":[],"HomeDERP":0,"Hostinfo":{"Hostname":""},"ID":1,"Key":"nodekey:%a","KeyExpiry":"0001-01-01T00:00:00Z","Machine":"mkey:%1","MachineAuthorized":true,"Name":"node.tail.example.","Online":true,"StableID":"n1","Tags":[],"User":1},"PacketFilter":[{"DstPorts":[{"IP":"100.64.0.1","Ports":{"First":0,"Last":65535}},{"IP":"fd7a:115c:a1e0::1","Ports":{"First":0,"Last":65535}}],"IPProto":[1,6,17,58],"SrcIPs":["*"]}],"Seq":1,"UserProfiles":[{"DisplayName":"seed","ID":1,"LoginName":"seed@"}]}
+> attach mkey:%1 nodekey:%a s1-0000000000000001 1
+< s2-0000000000000001 begins behind 0, may wait
+> drain mkey:%1 s1-0000000000000001
+< ended
+"#;
+
 /// One worker is left for those that don't wait.
 const ONE_WORKER: &str = r#": workers = 1
 > seed k1
@@ -139,6 +154,7 @@ fn polls_on_a_desk(rt: HostRuntime) -> Result<(), Fail> {
         ("expiry-seen", EXPIRY_SEEN),
         ("disco-patch", DISCO_PATCH),
         ("unknown-handle", UNKNOWN_HANDLE),
+        ("second-poll", SECOND_POLL),
         ("one-worker", ONE_WORKER),
         ("two-workers", TWO_WORKERS),
     ];

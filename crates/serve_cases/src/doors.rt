@@ -212,10 +212,16 @@ fn is_second_answered(alloc: Global, doors: &MemoryDoors) -> Result<bool, NoMemo
     }
 }
 
+/// Whether a run ends well with only the second of two connections answered.
+fn ends_well(alloc: Global, ran: &ServeRun) -> Result<bool, NoMemory> {
+    let is_answered = is_second_answered(alloc, &ran.doors)?;
+    Ok(is_answered && ran.status == Status::Ok)
+}
+
 fn goes_on_behind_a_cut<R: Threads + Wait + Sync>(rt: &R, alloc: Global) -> Result<bool, NoMemory> {
     let plans = cut_and_whole(alloc)?;
     let ran = served(rt, alloc, b"workers = 1\n", plans, &NOTHING)?;
-    Ok(ran.status == Status::Ok && is_second_answered(alloc, &ran.doors)?)
+    ends_well(alloc, &ran)
 }
 
 #[test]

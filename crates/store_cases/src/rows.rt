@@ -2,12 +2,11 @@
 ghost use Rattle.io_edge.specs.Edge.{IsWhereTold};
 
 use crate::made::{made, run};
-use crate::sound::{commit, commit_over, load, try_commit};
-use io_edge::EdgeFault;
+use crate::sound::{commit, commit_over, load};
 use keeper_sqlite::SqliteKeeper;
-use net_rows::{Change, Counters, Row, RowKey, Tables};
+use net_rows::{Change, Row, Tables};
 use row_keeper::Keeper;
-use sqlite::{Alter, Connection, MemStore};
+use sqlite::{Connection, MemStore};
 use std::alloc::Global;
 use std::test::Fail;
 use tail_base::{Duplicate, Items, NoMemory};
@@ -182,96 +181,5 @@ fn what_is_read_is_written_the_same(rt: HostRuntime) -> Result<(), Fail> {
     let first = first_text(rt.alloc())?;
     let copied = copied_text(rt.alloc())?;
     assert_eq!(rt; copied.as_str(), first.as_str());
-    Ok(())
-}
-
-/// The change that removes the key, the waiting machine and the machine.
-fn removal(alloc: Global, next: Counters) -> Result<Change, NoMemory> {
-    let mut gone = Items::new(alloc);
-    gone.push(RowKey::Key(2))?;
-    gone.push(RowKey::Pending(3))?;
-    gone.push(RowKey::Machine(4))?;
-    let puts = Items::new(alloc);
-    Ok(Change { puts, gone, next })
-}
-
-/// How many users, keys, waiting machines and machines there are.
-fn counts(tables: &Tables) -> [usize; 4] {
-    [
-        tables.users().len(),
-        tables.keys().len(),
-        tables.pending().len(),
-        tables.machines().len(),
-    ]
-}
-
-/// Loads, and counts the rows.
-fn counted<K: Keeper>(alloc: Global, keeper: &mut K) -> Result<[usize; 4], Fail> {
-    let tables = load(alloc, keeper)?;
-    Ok(counts(&tables))
-}
-
-/// What the removal of these tables comes to.
-fn try_removal<K: Keeper>(
-    alloc: Global,
-    keeper: &mut K,
-    tables: &Tables,
-) -> Result<Result<(), EdgeFault>, Fail>
-    requires told { IsWhereTold tables.now.rows (K.told keeper.old) }
-{
-    let change = removal(alloc, tables.next())?;
-    match try_commit(alloc, keeper, tables, &change)? {
-        Ok(_) => Ok(Ok(())),
-        Err(fault) => Ok(Err(fault)),
-    }
-}
-
-/// Loads, and removes the rows. It counts those before.
-fn remove<K: Keeper>(alloc: Global, keeper: &mut K) -> Result<[usize; 4], Fail> {
-    let tables = load(alloc, keeper)?;
-    match try_removal(alloc, keeper, &tables)? {
-        Ok(()) => Ok(counts(&tables)),
-        Err(_) => Err(Fail::from("the rows aren't removed")),
-    }
-}
-
-/// The counts before and after the removal.
-fn counts_by<K: Keeper>(alloc: Global, keeper: &mut K) -> Result<([usize; 4], [usize; 4]), Fail> {
-    let before = remove(alloc, keeper)?;
-    let after = counted(alloc, keeper)?;
-    Ok((before, after))
-}
-
-fn counts_around_the_removal(alloc: Global) -> Result<([usize; 4], [usize; 4]), Fail> {
-    counts_by(alloc, &mut SqliteKeeper::adopt(with_rows(alloc)?))
-}
-
-#[test]
-fn gone_rows_go(rt: HostRuntime) -> Result<(), Fail> {
-    let (before, after) = counts_around_the_removal(rt.alloc())?;
-    assert!(rt; before == [1, 1, 1, 1]);
-    assert!(rt; after == [1, 0, 0, 0]);
-    Ok(())
-}
-
-/// What the removal comes to before any load by its keeper. Another has loaded the tables.
-fn remove_early<S: Alter + Drop>(
-    alloc: Global,
-    conn: Connection<S>,
-) -> Result<Result<(), EdgeFault>, Fail> {
-    let mut first = SqliteKeeper::adopt(conn);
-    let tables = load(alloc, &mut first)?;
-    let mut keeper = SqliteKeeper::adopt(first.give_back());
-    try_removal(alloc, &mut keeper, &tables)
-}
-
-fn early_commit(alloc: Global) -> Result<Result<(), EdgeFault>, Fail> {
-    remove_early(alloc, with_rows(alloc)?)
-}
-
-#[test]
-fn a_change_before_a_load_fails(rt: HostRuntime) -> Result<(), Fail> {
-    let kept = early_commit(rt.alloc())?;
-    assert!(rt; kept == Err(EdgeFault::Failed));
     Ok(())
 }

@@ -5,7 +5,6 @@ ghost use Rattle.io_edge.specs.Edge.{IsWhereTold};
 ghost use Rattle.net_rows.specs.Damage.{damage};
 ghost use Rattle.net_rows.specs.Rows.{after};
 
-use io_edge::EdgeFault;
 use net_rows::{AuthKey, Change, Counters, Lists, Machine, Pending, Rows, Tables, User};
 use row_keeper::Keeper;
 use std::alloc::Global;
@@ -127,24 +126,6 @@ fn tables_after(alloc: Global, tables: &Tables, change: &Change) -> Result<Table
 }
 
 /// Commits a change of these tables, and gives those after it.
-pub(crate) fn try_commit<K: Keeper>(
-    alloc: Global,
-    keeper: &mut K,
-    tables: &Tables,
-    change: &Change,
-) -> Result<Result<Tables, EdgeFault>, Fail>
-    requires told { IsWhereTold tables.now.rows (K.told keeper.old) }
-    ensures told { IfOk result (λ kept.
-        IfOk kept (λ left. IsWhereTold left.rows (K.told keeper.new))) }
-{
-    let left = tables_after(alloc, tables, change)?;
-    match keeper.commit(alloc, change) {
-        Ok(()) => Ok(Ok(left)),
-        Err(fault) => Ok(Err(fault)),
-    }
-}
-
-/// The same of a change that is to be kept.
 pub(crate) fn commit<K: Keeper>(
     alloc: Global,
     keeper: &mut K,
@@ -154,8 +135,9 @@ pub(crate) fn commit<K: Keeper>(
     requires told { IsWhereTold tables.now.rows (K.told keeper.old) }
     ensures told { IfOk result (λ left. IsWhereTold left.rows (K.told keeper.new)) }
 {
-    match try_commit(alloc, keeper, tables, change)? {
-        Ok(left) => Ok(left),
+    let left = tables_after(alloc, tables, change)?;
+    match keeper.commit(alloc, change) {
+        Ok(()) => Ok(left),
         Err(_) => Err(Fail::from("the change isn't kept")),
     }
 }

@@ -1,3 +1,4 @@
+pub mod Faults
 pub mod Gone
 pub mod Kept
 pub mod Pending

@@ -1,6 +1,8 @@
 //! Why the store did nothing.
-use io_edge::EdgeFault;
-use row_keeper::LoadFault;
+ghost use Rattle.std.specs.Prelude.{◌≡◌};
+ghost use Rattle.store_commits.specs.declared.fault.Fault.TheVariants.{NoMemory};
+ghost use Rattle.store_commits.specs.Faults.{meaning_of};
+
 use sqlite::{Error, ErrorCode};
 use std::alloc::{AllocError, AllocFailed};
 use tail_base::NoMemory;
@@ -15,6 +17,8 @@ pub enum Fault {
 }
 
 impl From<Error> for Fault {
+    ghost from_gives = { λ error fault. fault ≡ meaning_of error };
+
     fn from(error: Error) -> Self {
         match error {
             Error::SqliteFailure(ErrorCode::OutOfMemory) => Fault::NoMemory,
@@ -24,37 +28,25 @@ impl From<Error> for Fault {
 }
 
 impl From<NoMemory> for Fault {
+    ghost from_gives = { λ _ fault. fault ≡ NoMemory };
+
     fn from(_: NoMemory) -> Self {
         Fault::NoMemory
     }
 }
 
 impl From<AllocError> for Fault {
+    ghost from_gives = { λ _ fault. fault ≡ NoMemory };
+
     fn from(_: AllocError) -> Self {
         Fault::NoMemory
     }
 }
 
 impl<T: Drop> From<AllocFailed<T>> for Fault {
+    ghost from_gives = { λ _ fault. fault ≡ NoMemory };
+
     fn from(_: AllocFailed<T>) -> Self {
         Fault::NoMemory
-    }
-}
-
-impl From<Fault> for EdgeFault {
-    fn from(fault: Fault) -> Self {
-        match fault {
-            Fault::Failed => EdgeFault::Failed,
-            Fault::NoMemory => EdgeFault::NoMemory,
-        }
-    }
-}
-
-impl From<Fault> for LoadFault {
-    fn from(fault: Fault) -> Self {
-        match fault {
-            Fault::Failed => LoadFault::Failed,
-            Fault::NoMemory => LoadFault::NoMemory,
-        }
     }
 }

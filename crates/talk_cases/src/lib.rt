@@ -1,4 +1,4 @@
-//! Tests of whole runs of `pipe`: conversations, byte for byte, over memory objects, and what operators save in them.
+//! Tests of whole runs over memory objects: conversations of `pipe`, byte for byte, what operators save in them, and loads.
 #![tactic(auto)]
 
 #[cfg(test)]
@@ -15,6 +15,8 @@ mod held;
 mod limits;
 #[cfg(test)]
 mod office;
+#[cfg(test)]
+mod loads;
 #[cfg(test)]
 mod policies;
 #[cfg(test)]

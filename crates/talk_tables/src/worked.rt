@@ -266,6 +266,27 @@ pub const POLLS: &str = r#"= first-poll
 + {"MapSessionHandle":"s1-0000000000000001"}
 + {"PeersChangedPatch":[{"Endpoints":["192.0.2.7:41641"],"NodeID":2}],"Seq":3}
 .
+= clock-of-a-poll
+: key_seconds = 100
+@ 1000000000 1000000000 1000000000 1000000000 1000000000 1000000000 1000000099 1000000100
+> POST /machine/register mkey:%1 {"Auth":{"AuthKey":"k1"},"NodeKey":"nodekey:%a"}
+< registered
+> POST /machine/map mkey:%1 {"NodeKey":"nodekey:%a","Stream":true}
+< stream
++ {"DNSConfig":{"Domains":["tail.example"],"ExtraRecords":[],"Proxied":true,"Resolvers":[],"Routes":{}},"Domain":"tail.example","MapSessionHandle":"s1-0000000000000001","Node":{"Addresses":["100.64.0.1/32","fd7a:115c:a1e0::1/128"],"AllowedIPs":["100.64.0.1/32","fd7a:115c:a1e0::1/128"],"Created":"2001-09-09T01:46:40Z","DiscoKey":"discokey:%0","Endpoints":[],"HomeDERP":0,"Hostinfo":{"Hostname":""},"ID":1,"Key":"nodekey:%a","KeyExpiry":"2001-09-09T01:48:20Z","Machine":"mkey:%1","MachineAuthorized":true,"Name":"node.tail.example.","Online":true,"StableID":"n1","Tags":[],"User":1},"PacketFilter":[{"DstPorts":[{"IP":"100.64.0.1","Ports":{"First":0,"Last":65535}},{"IP":"fd7a:115c:a1e0::1","Ports":{"First":0,"Last":65535}}],"IPProto":[1,6,17,58],"SrcIPs":["*"]}],"Seq":1,"UserProfiles":[{"DisplayName":"seed","ID":1,"LoginName":"seed@"}]}
+.
+> GET /api/v1/node Bearer/secret
+< 200 {"nodes":[{"addresses":["100.64.0.1","fd7a:115c:a1e0::1"],"advertised":[],"approved":[],"expiry":"2001-09-09T01:48:20Z","id":1,"live":true,"name":"node","online":false,"served":[],"tags":[],"user":"seed@"}]}
+> GET /api/v1/node Bearer/secret
+< 200 {"nodes":[{"addresses":["100.64.0.1","fd7a:115c:a1e0::1"],"advertised":[],"approved":[],"expiry":"2001-09-09T01:48:20Z","id":1,"live":false,"name":"node","online":false,"served":[],"tags":[],"user":"seed@"}]}
+= ended-before-its-first-frame
+: key_seconds = 100
+@ 1000000000 1000000000 1000000000 1000000099 1000000100
+> POST /machine/register mkey:%1 {"Auth":{"AuthKey":"k1"},"NodeKey":"nodekey:%a"}
+< registered
+> POST /machine/map mkey:%1 {"NodeKey":"nodekey:%a","Stream":true}
+< stream
+.
 = refused-polls
 : key_seconds = 100
 @ 1000000000 1000000000 1000000000 1000000000 1000000000 1000000100

@@ -38,6 +38,7 @@ const FAULTY: &str = r#"1 text token
 4 ephemeral_seconds ephemeral_seconds = 0
 4 prefix_v4 prefix_v4 = "100.64.0.0/31"
 4 prefix_v4 prefix_v4 = "100.0.0.0/10"
+4 prefix_v4 prefix_v4 = "100.0.0.0/8"
 4 prefix_v4 prefix_v4 = "fd7a:115c:a1e0::/48"
 3 prefix_v4 prefix_v4 = 10
 4 prefix_v6 prefix_v6 = "fd7a:115c:a1e0::/127"

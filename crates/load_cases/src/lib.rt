@@ -1,5 +1,0 @@
-//! Tests of the command `load`.
-#![tactic(auto)]
-
-#[cfg(test)]
-mod loads;
