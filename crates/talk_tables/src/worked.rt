@@ -279,14 +279,6 @@ pub const POLLS: &str = r#"= first-poll
 < 200 {"nodes":[{"addresses":["100.64.0.1","fd7a:115c:a1e0::1"],"advertised":[],"approved":[],"expiry":"2001-09-09T01:48:20Z","id":1,"live":true,"name":"node","online":false,"served":[],"tags":[],"user":"seed@"}]}
 > GET /api/v1/node Bearer/secret
 < 200 {"nodes":[{"addresses":["100.64.0.1","fd7a:115c:a1e0::1"],"advertised":[],"approved":[],"expiry":"2001-09-09T01:48:20Z","id":1,"live":false,"name":"node","online":false,"served":[],"tags":[],"user":"seed@"}]}
-= ended-before-its-first-frame
-: key_seconds = 100
-@ 1000000000 1000000000 1000000000 1000000099 1000000100
-> POST /machine/register mkey:%1 {"Auth":{"AuthKey":"k1"},"NodeKey":"nodekey:%a"}
-< registered
-> POST /machine/map mkey:%1 {"NodeKey":"nodekey:%a","Stream":true}
-< stream
-.
 = refused-polls
 : key_seconds = 100
 @ 1000000000 1000000000 1000000000 1000000000 1000000000 1000000100
