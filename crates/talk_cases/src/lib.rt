@@ -14,9 +14,9 @@ mod held;
 #[cfg(test)]
 mod limits;
 #[cfg(test)]
-mod office;
-#[cfg(test)]
 mod loads;
+#[cfg(test)]
+mod office;
 #[cfg(test)]
 mod policies;
 #[cfg(test)]
