@@ -8,18 +8,15 @@ use moments::Moment;
 use row_keeper::Keeper;
 use std::alloc::Global;
 use std::test::Fail;
-use tail_base::{MachineKey, Text};
+use tail_base::{MachineKey, NoMemory, Text};
 use tailnet_desk::{Ask, Desk, Reply};
 
 /// The random words of each draw.
 const WORDS: [u64; 4] = [1, 2, 3, 4];
 
 /// Tells of a reply, and lets it go: here alone, since a reply that a function has at its end costs it a long proof.
-fn tell(alloc: Global, told: &mut String, reply: Reply) -> Result<(), Fail> {
-    match tell_reply(alloc, told, &reply) {
-        Ok(()) => Ok(()),
-        Err(error) => Err(error.into()),
-    }
+fn tell(alloc: Global, told: &mut String, reply: Reply) -> Result<(), NoMemory> {
+    tell_reply(alloc, told, &reply)
 }
 
 fn ask<K: Keeper>(
@@ -31,7 +28,7 @@ fn ask<K: Keeper>(
 ) -> Result<(), Fail>
     requires short { IsShort ask.now }
 {
-    tell(alloc, told, desk.ask(alloc, ask, moment, None))
+    Ok(tell(alloc, told, desk.ask(alloc, ask, moment, None))?)
 }
 
 /// A poll begins: the machine's key, its node key, the handle (`-` is nobody's), and the last number.
@@ -52,7 +49,7 @@ fn attach<K: Keeper>(
         return Err(Fail::from("no number of a response"));
     };
     let reply = desk.attach(alloc, &machine, &node, &handle, seq, moment, Some(WORDS));
-    tell(alloc, told, reply)
+    Ok(tell(alloc, told, reply)?)
 }
 
 /// A poll fetches what is new: the machine's key and the handle.
@@ -67,7 +64,7 @@ fn drain<K: Keeper>(
     let machine = machine_key(machine)?;
     let handle = Text::from_str(alloc, handle)?;
     let reply = desk.drain(alloc, &machine, &handle, moment).into_reply();
-    tell(alloc, told, reply)
+    Ok(tell(alloc, told, reply)?)
 }
 
 /// A poll ends: the machine's key and the handle.
@@ -82,7 +79,7 @@ fn detach<K: Keeper>(
     let machine = machine_key(machine)?;
     let handle = Text::from_str(alloc, handle)?;
     desk.detach(&machine, &handle, moment);
-    tell(alloc, told, Reply::Detached)
+    Ok(tell(alloc, told, Reply::Detached)?)
 }
 
 fn ask_line<K: Keeper>(

@@ -100,11 +100,17 @@ fn replies_so<K: Keeper>(alloc: Global, desk: &mut Desk<K>, row: &str) -> Result
     Ok(told == wanted)
 }
 
+/// The same of a desk that is then closed.
+fn replies_at<K: Keeper>(alloc: Global, mut desk: Desk<K>, row: &str) -> (Result<bool, Fail>, K) {
+    let replies = replies_so(alloc, &mut desk, row);
+    (replies, desk.close())
+}
+
 /// Whether a desk replies so.
 fn is_played(alloc: Global, row: &str) -> Result<bool, Fail> {
     let settings = settings_of(alloc, row)?;
-    let mut desk = desk_of(alloc, settings)?;
-    replies_so(alloc, &mut desk, row)
+    let desk = desk_of(alloc, settings)?;
+    replies_at(alloc, desk, row).0
 }
 
 /// The name of the first row to which a desk replies otherwise; None if there is none.

@@ -131,12 +131,12 @@ fn add_texts<K: Keeper>(
     Ok(())
 }
 
-/// The tables of this desk, before the asks and behind each of them.
-fn texts_at<K: Keeper>(alloc: Global, front: &Front, mut desk: Desk<K>) -> Vec<String> {
+/// The tables of this desk, before the asks and behind each of them. It is then closed.
+fn texts_at<K: Keeper>(alloc: Global, front: &Front, mut desk: Desk<K>) -> (Vec<String>, K) {
     let mut texts = Vec::new(alloc);
     // (a list that is too short lacks a text that is looked for)
     let _added = add_texts(alloc, front, &mut texts, &mut desk);
-    texts
+    (texts, desk.close())
 }
 
 /// The same over a keeper.
@@ -147,7 +147,7 @@ fn texts_over<K: Keeper>(
     keeper: K,
 ) -> Vec<String> {
     match opened(alloc, settings, keeper) {
-        Ok(desk) => texts_at(alloc, front, desk),
+        Ok(desk) => texts_at(alloc, front, desk).0,
         Err(_) => Vec::new(alloc),
     }
 }
