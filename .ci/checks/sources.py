@@ -1,4 +1,4 @@
-"""Checks of the sources: names, arms and clauses. What is still to be changed stands in a list beside them."""
+"""Checks of the sources: names, arms, clauses and wrong bodies. What is still to be changed stands in a list beside them."""
 
 import re
 
