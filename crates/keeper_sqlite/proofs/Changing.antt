@@ -27,10 +27,10 @@ use Rattle.store_commits.specs.Kept.{Makes}
 use Rattle.store_commits.specs.Pending.{Leaves}
 use Rattle.store_rows.specs.Readable.{AreReadable, HasFamilies, IsReadable, IsReadableChange, IsReadableExtra, IsReadableMachine, IsReadableRow}
 use Rattle.store_rows.specs.Rows.{IsTypedCounters, IsTypedKey, IsTypedMachine, IsTypedPending, IsTypedUser, auth_key_cells, machine_cells, pending_cells, user_cells}
-use Rattle.keeper_sqlite.specs.Tells.{Holds, IsKnown}
-use Rattle.keeper_sqlite.specs.Told.{store_tells}
-use Rattle.keeper_sqlite.proofs.Loading.{still}
-use Rattle.keeper_sqlite.proofs.Telling.{holds_told, same_told, told_is}
+use Rattle.store_loads.specs.Tells.{Holds, IsKnown}
+use Rattle.store_loads.specs.Told.{store_tells}
+use Rattle.store_loads.proofs.Loading.{still}
+use Rattle.store_loads.proofs.Telling.{holds_told, same_told, told_is}
 
 -- what holds of all rows but the families of addresses
 record AreWritten (rows : Rows) : Type 0 where

@@ -4,7 +4,7 @@ use Rattle.net_rows.specs.declared.rows.Rows.{Rows}
 use Rattle.sqlite.specs.Files.{file_state}
 use Rattle.sqlite.specs.Held.{state}
 use Rattle.sqlite.specs.Steps.{over_memory}
-use Rattle.keeper_sqlite.specs.Told.{store_tells}
+use Rattle.store_loads.specs.Told.{store_tells}
 use Rattle.keeper_sqlite.specs.declared.host_keeper.HostKeeper.{HostKeeper}
 use Rattle.keeper_sqlite.specs.declared.host_keeper.HostKeeper.TheVariants.{Memory, File}
 

@@ -6,11 +6,12 @@ use crate::host_keeper::HostKeeper;
 use crate::keeper::SqliteKeeper;
 use io_edge::EdgeFault;
 use row_keeper::Opener;
-use sqlite::{Connection, Error, ErrorCode};
+use sqlite::{Connection, Error};
 use std::alloc::Global;
 use std::fs::OpenOptions;
 use std::io;
 use std::os::unix::fs::OpenOptionsExt;
+use store_commits::Fault;
 
 /// The mode of a file that is made: the owner alone may read it, since it holds keys.
 const OWNER_ALONE: u32 = 0o600;
@@ -60,9 +61,9 @@ fn make_file(rt: &HostRuntime, name: &str) -> io::Result<()> {
 
 /// What an error of the store means for an open.
 fn fault_of(error: Error) -> EdgeFault {
-    match error {
-        Error::SqliteFailure(ErrorCode::OutOfMemory) => EdgeFault::NoMemory,
-        _ => EdgeFault::Failed,
+    match Fault::from(error) {
+        Fault::NoMemory => EdgeFault::NoMemory,
+        Fault::Failed => EdgeFault::Failed,
     }
 }
 

@@ -2,27 +2,28 @@
 ghost use Rattle.std.specs.Prelude.{◌≡◌, ◌≤◌, ℕ, true, None, Err, false, is_ok, IsTrue, IfOk, IfErr, IfSome, OnOk, OnErr, IsErrOf};
 ghost use Rattle.std.specs.Option.{option_map};
 ghost use Rattle.io_edge.specs.Edge.{IsWhereTold, Rose, StillTells};
-ghost use Rattle.keeper_sqlite.specs.Tells.{IsKnown};
-ghost use Rattle.keeper_sqlite.specs.Told.{knows_if_loaded, store_tells};
+ghost use Rattle.keeper_sqlite.specs.Known.{knows_if_loaded};
 ghost use Rattle.net_rows.specs.declared.change.Kind.{Kind};
 ghost use Rattle.net_rows.specs.Damage.{damage};
 ghost use Rattle.net_rows.specs.Rows.{after, empty_rows};
 ghost use Rattle.net_rows.specs.declared.rows.Rows.{Rows};
 ghost use Rattle.store_commits.specs.Kept.{AreStored, HoldsMade, Keeps, Makes};
 ghost use Rattle.store_commits.specs.Pending.{IsSettled, Leaves};
+ghost use Rattle.store_loads.specs.Tells.{IsKnown};
+ghost use Rattle.store_loads.specs.Told.{store_tells};
 ghost use Rattle.store_reads.specs.Readable.{AreReadable, IsOutside};
 ghost use Rattle.store_reads.specs.Seen.{IsSeen};
 ghost use Rattle.store_texts.specs.Schema.{no_schema, schema_1};
 ghost use Rattle.sqlite.specs.Held.{state};
 ghost use Rattle.sqlite.specs.State.{HasCleanDisk, Survives};
 
-use crate::load::load;
 use io_edge::EdgeFault;
 use net_rows::{Change, Tables};
 use row_keeper::{Keeper, LoadFault};
 use sqlite::{Alter, Connection};
 use std::alloc::Global;
 use store_commits::{Fault, commit};
+use store_loads::load;
 
 /// Keeps the tables in the database of a connection, and tells what its store tells. Before it has
 /// loaded them it takes no change; from then on the store, as long as it is clean and open, tells.

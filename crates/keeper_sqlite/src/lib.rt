@@ -1,13 +1,10 @@
 //! The tables of a tailnet in a SQLite database: keepers over a store, and what opens them.
 #![tactic(auto)]
 
-mod forms;
 mod host_keeper;
 mod host_opener;
 mod keeper;
-mod load;
 mod opener;
-mod schema;
 
 pub use host_keeper::HostKeeper;
 pub use host_opener::HostOpener;

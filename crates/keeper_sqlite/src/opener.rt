@@ -2,7 +2,7 @@
 ghost use Rattle.std.specs.Prelude.{◌≡◌, None, Some, Err, false, IfOk, OnErr};
 ghost use Rattle.std.specs.Option.{option_and_then};
 ghost use Rattle.sqlite.specs.Held.{state};
-ghost use Rattle.keeper_sqlite.specs.Told.{store_tells};
+ghost use Rattle.store_loads.specs.Told.{store_tells};
 
 use crate::keeper::SqliteKeeper;
 use io_edge::EdgeFault;

@@ -1,30 +1,18 @@
 //! Databases in files, opened as the program opens them.
-use crate::sound::{commit_over, load};
 use keeper_sqlite::HostOpener;
-use net_rows::{Change, Row, Tables};
+use kept_changes::{commit_over, load, policy_change};
+use net_rows::Tables;
 use row_keeper::{Keeper, Opener};
 use std::alloc::Global;
 use std::fs;
 use std::os::unix::fs::MetadataExt;
 use std::test::Fail;
-use tail_base::{Items, Text};
 
 const FOLDER: &str = "store_cases_files";
 
 const FILE: &str = "store_cases_files/tailnet.db";
 
 const LOG: &str = "store_cases_files/tailnet.db-wal";
-
-/// A change that keeps this policy.
-fn policy(alloc: Global, text: &str) -> Result<Change, Fail> {
-    let mut puts = Items::new(alloc);
-    puts.push(Row::Policy(Text::from_str(alloc, text)?))?;
-    Ok(Change {
-        puts,
-        gone: Items::new(alloc),
-        next: Tables::empty(alloc).next(),
-    })
-}
 
 /// What the opener opens by the file's name.
 fn opened<O: Opener>(alloc: Global, opener: &mut O) -> Result<O::Keeper, Fail> {
@@ -36,7 +24,7 @@ fn opened<O: Opener>(alloc: Global, opener: &mut O) -> Result<O::Keeper, Fail> {
 
 /// Loads the tables, and keeps this policy.
 fn keep<K: Keeper>(alloc: Global, keeper: &mut K, text: &str) -> Result<(), Fail> {
-    let change = policy(alloc, text)?;
+    let change = policy_change(alloc, text)?;
     let _left = commit_over(alloc, keeper, &change)?;
     Ok(())
 }

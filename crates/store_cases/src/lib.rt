@@ -4,6 +4,8 @@
 #[cfg(test)]
 mod damaged;
 #[cfg(test)]
+mod early;
+#[cfg(test)]
 mod files;
 #[cfg(test)]
 mod generic;
@@ -13,5 +15,3 @@ mod made;
 mod others;
 #[cfg(test)]
 mod rows;
-#[cfg(test)]
-mod sound;

@@ -1,15 +1,11 @@
 //! Rows of every kind, written and read again.
-ghost use Rattle.io_edge.specs.Edge.{IsWhereTold};
-
 use crate::made::{made, run};
-use crate::sound::{commit, commit_over, load};
 use keeper_sqlite::SqliteKeeper;
-use net_rows::{Change, Row, Tables};
-use row_keeper::Keeper;
+use kept_changes::{change_to, commit_twice, load};
+use net_rows::{Change, Tables};
 use sqlite::{Connection, MemStore};
 use std::alloc::Global;
 use std::test::Fail;
-use tail_base::{Duplicate, Items, NoMemory};
 
 /// A row of each kind, by SQL alone.
 const ROWS: &str = "
@@ -38,63 +34,6 @@ SELECT * FROM pending
 SELECT * FROM machines
 SELECT * FROM extras
 SELECT * FROM policy";
-
-fn put_users(alloc: Global, puts: &mut Items<Row>, tables: &Tables) -> Result<(), NoMemory> {
-    for user in tables.users() {
-        puts.push(Row::User(user.copy(alloc)?))?;
-    }
-    Ok(())
-}
-
-fn put_keys(alloc: Global, puts: &mut Items<Row>, tables: &Tables) -> Result<(), NoMemory> {
-    for key in tables.keys() {
-        puts.push(Row::Key(key.copy(alloc)?))?;
-    }
-    Ok(())
-}
-
-fn put_pending(alloc: Global, puts: &mut Items<Row>, tables: &Tables) -> Result<(), NoMemory> {
-    for entry in tables.pending() {
-        puts.push(Row::Pending(entry.copy(alloc)?))?;
-    }
-    Ok(())
-}
-
-fn put_machines(alloc: Global, puts: &mut Items<Row>, tables: &Tables) -> Result<(), NoMemory> {
-    for machine in tables.machines() {
-        puts.push(Row::Machine(machine.copy(alloc)?))?;
-    }
-    Ok(())
-}
-
-/// Adds what puts the rows of these tables without ids.
-fn put_single(alloc: Global, puts: &mut Items<Row>, tables: &Tables) -> Result<(), NoMemory> {
-    puts.push(Row::Extras(Items::from_slice(alloc, tables.extras())?))?;
-    if let Some(text) = tables.policy() {
-        puts.push(Row::Policy(text.copy(alloc)?))?;
-    }
-    Ok(())
-}
-
-/// Adds what puts the rows of these tables.
-fn put_rows(alloc: Global, puts: &mut Items<Row>, tables: &Tables) -> Result<(), NoMemory> {
-    put_users(alloc, puts, tables)?;
-    put_keys(alloc, puts, tables)?;
-    put_pending(alloc, puts, tables)?;
-    put_machines(alloc, puts, tables)?;
-    put_single(alloc, puts, tables)
-}
-
-/// The change that makes these tables of empty ones.
-fn change_to(alloc: Global, tables: &Tables) -> Result<Change, NoMemory> {
-    let mut puts = Items::new(alloc);
-    put_rows(alloc, &mut puts, tables)?;
-    Ok(Change {
-        puts,
-        gone: Items::new(alloc),
-        next: tables.next(),
-    })
-}
 
 /// The rows of a table as a text.
 fn shown(alloc: Global, conn: &mut Connection<MemStore>, text: &str) -> Result<String, Fail> {
@@ -142,25 +81,6 @@ fn loaded(alloc: Global) -> Result<Tables, Fail> {
 fn whole_change(alloc: Global) -> Result<Change, Fail> {
     let tables = loaded(alloc)?;
     Ok(change_to(alloc, &tables)?)
-}
-
-/// Commits the change to tables that have it already.
-fn commit_again<K: Keeper>(
-    alloc: Global,
-    keeper: &mut K,
-    tables: &Tables,
-    change: &Change,
-) -> Result<(), Fail>
-    requires told { IsWhereTold tables.now.rows (K.told keeper.old) }
-{
-    let _replaced = commit(alloc, keeper, tables, change)?;
-    Ok(())
-}
-
-/// Commits the change twice, so that each row is added and then replaced.
-fn commit_twice<K: Keeper>(alloc: Global, keeper: &mut K, change: &Change) -> Result<(), Fail> {
-    let added = commit_over(alloc, keeper, change)?;
-    commit_again(alloc, keeper, &added, change)
 }
 
 /// A database to which the change was committed twice.

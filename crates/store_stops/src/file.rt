@@ -1,6 +1,6 @@
 //! Stops of the file.
-use crate::disks::Ending;
 use crate::stops::{Stopping, endings};
+use desk_runs::Ending;
 use std::test::Fail;
 
 /// The log is copied into the file as it is made, in some asks and in the close.

@@ -2,16 +2,10 @@
 #![tactic(auto)]
 
 #[cfg(test)]
-mod asks;
-#[cfg(test)]
-mod desks;
-#[cfg(test)]
 mod disks;
 #[cfg(test)]
 mod file;
 #[cfg(test)]
 mod log;
-#[cfg(test)]
-mod shown;
 #[cfg(test)]
 mod stops;

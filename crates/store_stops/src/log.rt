@@ -1,7 +1,6 @@
 //! Stops of the log.
-use crate::asks::ASKS;
-use crate::disks::Ending;
 use crate::stops::{Stopping, endings};
+use desk_runs::{ASKS, Ending};
 use std::test::Fail;
 
 #[test]

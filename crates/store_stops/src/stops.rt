@@ -1,10 +1,9 @@
 //! Runs that stop at a call of a disk, and what a new start finds then.
 ghost use Rattle.std.specs.Prelude.{IfOk, IsTrue};
 
-use crate::asks::ASKS;
-use crate::desks::{front_of, settings_of, texts_in_memory};
-use crate::disks::{Ending, Seen, run};
+use crate::disks::run;
 use desk_front::Front;
+use desk_runs::{ASKS, Ending, Seen, front_of, settings_of, texts_in_memory};
 use sqlite::Files;
 use sqlite_disk::{Crash, Disk, Fuse, Memory};
 use std::alloc::Global;

@@ -1,4 +1,4 @@
-use Rattle.keeper_sqlite.proofs.Loading.{kept_new}
+use Rattle.keeper_sqlite.proofs.Knowing.{kept_new}
 use Rattle.keeper_sqlite.proofs.host_opener.in_file.Goals as goal
 
 pub invariant_of-result : goal.invariant_of-result

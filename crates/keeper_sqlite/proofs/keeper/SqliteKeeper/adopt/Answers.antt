@@ -1,5 +1,5 @@
 use Rattle.sqlite.specs.Held.{state}
-use Rattle.keeper_sqlite.proofs.Loading.{kept_new}
+use Rattle.keeper_sqlite.proofs.Knowing.{kept_new}
 use Rattle.keeper_sqlite.proofs.keeper.SqliteKeeper.adopt.Goals as goal
 
 pub invariant_of-result : goal.invariant_of-result

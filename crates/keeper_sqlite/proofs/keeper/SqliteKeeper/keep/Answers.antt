@@ -1,9 +1,9 @@
 use Rattle.std.proofs.Common.{◌≡◌, arith, rules, subst, sym}
 use Rattle.io_edge.specs.Edge.{StillTells}
 use Rattle.sqlite.specs.Held.{state}
-use Rattle.keeper_sqlite.specs.Told.{store_tells}
+use Rattle.store_loads.specs.Told.{store_tells}
 use Rattle.keeper_sqlite.proofs.Changing.{known_after, still_err, still_ok}
-use Rattle.keeper_sqlite.proofs.Loading.{kept_known, kept_on}
+use Rattle.keeper_sqlite.proofs.Knowing.{kept_known, kept_on}
 use Rattle.keeper_sqlite.proofs.keeper.SqliteKeeper.keep.Goals as goal
 
 pub returns-in-Ok-clause-still_ok : goal.returns-in-Ok-clause-still_ok

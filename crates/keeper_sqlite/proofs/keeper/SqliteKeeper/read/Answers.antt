@@ -1,8 +1,8 @@
 use Rattle.std.proofs.Common.{subst, true}
 use Rattle.std.specs.Prelude.{OnOk}
 use Rattle.sqlite.specs.Held.{state}
-use Rattle.keeper_sqlite.specs.Tells.{IsKnown}
-use Rattle.keeper_sqlite.proofs.Loading.{kept_on, known_kept}
+use Rattle.store_loads.specs.Tells.{IsKnown}
+use Rattle.keeper_sqlite.proofs.Knowing.{kept_on, known_kept}
 use Rattle.keeper_sqlite.proofs.keeper.SqliteKeeper.read.Goals as goal
 
 pub invariant_of-self : goal.invariant_of-self

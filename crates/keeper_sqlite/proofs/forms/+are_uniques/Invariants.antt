@@ -1,5 +1,0 @@
-use Rattle.std.proofs.Common.{length}
-use Rattle.keeper_sqlite.proofs.forms.+are_uniques.Given as goal
-
-abbrev pub decreases-are_uniques : goal.decreases-are_uniques
-decreases-are_uniques l = length l.uniques.now

@@ -1,0 +1,5 @@
+pub mod Firsts
+pub mod Schemas
+pub mod TellTrees
+pub mod Telling
+pub mod Loading
