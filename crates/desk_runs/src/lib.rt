@@ -8,4 +8,4 @@ mod shown;
 
 pub use asks::ASKS;
 pub use desks::{front_of, settings_of, texts_in_memory};
-pub use runs::{Ending, Seen, asked};
+pub use runs::{DeskRun, Ending, asked};

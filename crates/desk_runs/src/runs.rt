@@ -23,16 +23,16 @@ pub enum Ending {
 
 /// What a run found and what it came to.
 #[derive(Drop)]
-pub struct Seen {
+pub struct DeskRun {
     /// The tables that its desk began with, as a text.
     pub found: Option<String>,
     pub ending: Ending,
 }
 
-impl Seen {
+impl DeskRun {
     /// Nothing was found.
-    pub fn nothing(ending: Ending) -> Seen {
-        Seen {
+    pub fn nothing(ending: Ending) -> DeskRun {
+        DeskRun {
             found: None,
             ending,
         }
@@ -57,17 +57,22 @@ fn ending_of_fault(fault: &OpenFault) -> Ending {
 }
 
 /// What is seen of a desk that is asked these lines.
-fn seen_at<K: Keeper>(alloc: Global, front: &Front, desk: &mut Desk<K>, asks: &str) -> Seen {
+fn seen_at<K: Keeper>(alloc: Global, front: &Front, desk: &mut Desk<K>, asks: &str) -> DeskRun {
     let found = text_of(alloc, desk.tables()).ok();
     let done = count_done(alloc, front, desk, asks);
-    Seen {
+    DeskRun {
         found,
         ending: ending_of_asks(done, asks),
     }
 }
 
 /// The asks at a desk, which is then closed.
-fn asked_at<K: Keeper>(alloc: Global, front: &Front, mut desk: Desk<K>, asks: &str) -> (Seen, K) {
+fn asked_at<K: Keeper>(
+    alloc: Global,
+    front: &Front,
+    mut desk: Desk<K>,
+    asks: &str,
+) -> (DeskRun, K) {
     let seen = seen_at(alloc, front, &mut desk, asks);
     (seen, desk.close())
 }
@@ -79,9 +84,9 @@ pub fn asked<K: Keeper>(
     settings: Settings,
     keeper: K,
     asks: &str,
-) -> (Seen, K) {
+) -> (DeskRun, K) {
     match opened(alloc, settings, keeper) {
         Ok(desk) => asked_at(alloc, front, desk, asks),
-        Err((fault, keeper)) => (Seen::nothing(ending_of_fault(&fault)), keeper),
+        Err((fault, keeper)) => (DeskRun::nothing(ending_of_fault(&fault)), keeper),
     }
 }

@@ -2,7 +2,7 @@
 ghost use Rattle.std.specs.Prelude.{IsTrue};
 
 use desk_front::Front;
-use desk_runs::{Ending, Seen, asked};
+use desk_runs::{DeskRun, Ending, asked};
 use keeper_sqlite::SqliteKeeper;
 use settings::Settings;
 use sqlite::{Alter, Connection, FileStore, Files, Options};
@@ -23,7 +23,7 @@ fn asked_in<S: Alter + Drop>(
     settings: Settings,
     conn: Connection<S>,
     asks: &str,
-) -> (Seen, Connection<S>) {
+) -> (DeskRun, Connection<S>) {
     let (seen, keeper) = asked(alloc, front, settings, SqliteKeeper::adopt(conn), asks);
     (seen, keeper.give_back())
 }
@@ -47,10 +47,10 @@ fn asked_over<D: Disk + Drop>(
     settings: Settings,
     conn: Connection<FileStore<D>>,
     asks: &str,
-) -> (Seen, Files<D>) {
-    let (Seen { found, ending }, conn) = asked_in(alloc, front, settings, conn, asks);
+) -> (DeskRun, Files<D>) {
+    let (DeskRun { found, ending }, conn) = asked_in(alloc, front, settings, conn, asks);
     let (ending, files) = closed(conn, ending);
-    (Seen { found, ending }, files)
+    (DeskRun { found, ending }, files)
 }
 
 /// One run of a program over these files, which is asked these lines: what was seen of it, and the files
@@ -61,12 +61,12 @@ pub(crate) fn run<D: Disk + Drop>(
     settings: Settings,
     files: Files<D>,
     asks: &str,
-) -> (Seen, Files<D>)
+) -> (DeskRun, Files<D>)
     requires log { IsTrue (D.Disk.is_usable files.log) }
     requires db { IsTrue (D.Disk.is_usable files.db) }
 {
     match Connection::open_files(alloc, files, options()) {
         Ok(conn) => asked_over(alloc, front, settings, conn, asks),
-        Err((_, left)) => (Seen::nothing(Ending::Unopened), left.into_files()),
+        Err((_, left)) => (DeskRun::nothing(Ending::Unopened), left.into_files()),
     }
 }

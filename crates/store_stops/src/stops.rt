@@ -3,7 +3,7 @@ ghost use Rattle.std.specs.Prelude.{IfOk, IsTrue};
 
 use crate::disks::run;
 use desk_front::Front;
-use desk_runs::{ASKS, Ending, Seen, front_of, settings_of, texts_in_memory};
+use desk_runs::{ASKS, DeskRun, Ending, front_of, settings_of, texts_in_memory};
 use sqlite::Files;
 use sqlite_disk::{Crash, Disk, Fuse, Memory};
 use std::alloc::Global;
@@ -82,6 +82,21 @@ fn may_be_found(ending: Ending, texts: &[String], text: &String) -> bool {
     }
 }
 
+/// One run over these disks. It is the one place that calls `run` at them, since a call at a type this
+/// large costs a proof half a minute.
+fn run_over(
+    alloc: Global,
+    front: &Front,
+    files: Files<Fuse<Memory>>,
+    asks: &str,
+) -> Result<(DeskRun, Files<Fuse<Memory>>), Fail>
+    requires log { IsTrue (⟦<Fuse<Memory> as Disk>⟧.is_usable files.log) }
+    requires db { IsTrue (⟦<Fuse<Memory> as Disk>⟧.is_usable files.db) }
+{
+    let settings = settings_of(alloc)?;
+    Ok(run(alloc, front, settings, files, asks))
+}
+
 /// Whether a new start over these disks finds what it may.
 fn is_found(
     alloc: Global,
@@ -93,8 +108,7 @@ fn is_found(
     requires log { IsTrue (⟦<Fuse<Memory> as Disk>⟧.is_usable files.log) }
     requires db { IsTrue (⟦<Fuse<Memory> as Disk>⟧.is_usable files.db) }
 {
-    let settings = settings_of(alloc)?;
-    let (seen, _left) = run(alloc, front, settings, files, "");
+    let (seen, _left) = run_over(alloc, front, files, "")?;
     match seen.found {
         Some(text) => Ok(may_be_found(ending, texts, &text)),
         None => Ok(false),
@@ -124,9 +138,8 @@ fn ending_of(
     calls: u64,
     texts: &[String],
 ) -> Result<Ending, Fail> {
-    let settings = settings_of(alloc)?;
     let files = new_files(alloc, stopping, calls);
-    let (Seen { ending, .. }, files) = run(alloc, front, settings, files, ASKS);
+    let (DeskRun { ending, .. }, files) = run_over(alloc, front, files, ASKS)?;
     if are_found(alloc, front, ending, texts, files)? {
         Ok(ending)
     } else {
