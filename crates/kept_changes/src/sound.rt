@@ -154,7 +154,7 @@ pub fn load<K: Keeper>(alloc: Global, keeper: &mut K) -> Result<Tables, Fail>
 }
 
 /// Loads the tables, commits a change of them, and gives those after it.
-pub fn commit_over<K: Keeper>(
+pub(crate) fn commit_over<K: Keeper>(
     alloc: Global,
     keeper: &mut K,
     change: &Change,

@@ -1,18 +1,12 @@
 //! Names that hold no database of ours.
-use io_edge::EdgeFault;
 use keeper_sqlite::HostOpener;
+use kept_changes::{fails_by, fault_of_load};
 use net_rows::Kind;
-use row_keeper::{Keeper, LoadFault, Opener};
+use row_keeper::LoadFault;
 use sqlite::{Connection, FileStore};
 use sqlite_disk::Disk;
-use std::alloc::Global;
 use std::fs;
 use std::test::Fail;
-
-/// Whether nothing is opened by this name, at a fault of the opener.
-fn fails_by<O: Opener>(alloc: Global, opener: &mut O, name: &str) -> bool {
-    matches!(opener.open(alloc, name), Err(EdgeFault::Failed))
-}
 
 fn fails(rt: &HostRuntime, name: &str) -> bool {
     fails_by(rt.alloc(), &mut HostOpener::new(*rt), name)
@@ -72,20 +66,10 @@ fn make_notes(rt: &HostRuntime) -> Result<(), Fail> {
     }
 }
 
-/// Why the notes aren't loaded.
-fn fault_of_notes<O: Opener>(alloc: Global, opener: &mut O) -> Result<Option<LoadFault>, Fail> {
-    let Ok(mut keeper) = opener.open(alloc, NOTES) else {
-        return Err(Fail::from("the file isn't opened"));
-    };
-    let fault = keeper.load(alloc).err();
-    opener.close(keeper);
-    Ok(fault)
-}
-
 /// Why the notes aren't loaded, and whether they stay as they are.
 fn fault_and_sameness(rt: &HostRuntime) -> Result<(Option<LoadFault>, bool), Fail> {
     let before = fs::read(rt, NOTES)?;
-    let fault = fault_of_notes(rt.alloc(), &mut HostOpener::new(*rt))?;
+    let fault = fault_of_load(rt.alloc(), &mut HostOpener::new(*rt), NOTES)?;
     let after = fs::read(rt, NOTES)?;
     Ok((fault, before.as_slice() == after.as_slice()))
 }
