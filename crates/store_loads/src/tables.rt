@@ -1,5 +1,5 @@
 //! The tables that a database keeps.
-ghost use Rattle.std.specs.Prelude.{◌≡◌, ℕ, None, Ok, IfOk, IfErr, IsTrue, OnOk, is_ok};
+ghost use Rattle.std.specs.Prelude.{◌≡◌, ℕ, false, None, Ok, Err, IfOk, IfErr, IsTrue, OnOk, is_ok};
 ghost use Rattle.io_edge.specs.Edge.{IsWhereTold, StillTells};
 ghost use Rattle.net_rows.specs.declared.change.Kind.{Kind as RowKind};
 ghost use Rattle.net_rows.specs.Damage.{damage};
@@ -10,6 +10,7 @@ ghost use Rattle.sqlite.specs.State.{HasCleanDisk, IsLive, Survives};
 ghost use Rattle.store_commits.specs.Kept.{AreStored, Keeps};
 ghost use Rattle.store_loads.specs.Tells.{Holds, IsAtRest, IsFirst, IsKnown};
 ghost use Rattle.store_loads.specs.Told.{store_tells};
+ghost use Rattle.store_reads.specs.Causes.{FailsOnlyFor, IsCaused};
 ghost use Rattle.store_reads.specs.Readable.{AreReadable, Fills, IsOutside};
 ghost use Rattle.store_reads.specs.Seen.{IsSeen};
 ghost use Rattle.store_texts.specs.Schema.{no_schema, schema_1};
@@ -60,6 +61,8 @@ fn require_ours<S: Alter>(conn: &Connection<S>) -> Result<(), LoadFault>
     ensures ours { OnOk result ((state S.Store conn.now).now.schema ≡ schema_1) }
     ensures there { (state S.Store conn.now).now.schema ≡ schema_1 → result ≡ Ok tt }
     ensures live { IsLive (state S.Store conn.now) }
+    ensures foreign { ((state S.Store conn.now).now.schema ≡ schema_1 → ⊥)
+        → result ≡ Err (LoadFault.Damaged RowKind.Meta 0) }
 {
     if is_schema_1(conn.schema()) {
         Ok(())
@@ -117,6 +120,9 @@ fn prepare<S: Alter>(conn: &mut Connection<S>, alloc: Global) -> Result<(), Load
     ensures live { OnOk result (IsLive (state S.Store conn.new)) }
     ensures other { ((state S.Store conn.old).now.schema ≡ no_schema → ⊥)
         → conn.new ≡ conn.old }
+    ensures foreign { ((state S.Store conn.old).now.schema ≡ schema_1 → ⊥)
+        → ((state S.Store conn.old).now.schema ≡ no_schema → ⊥)
+        → result ≡ Err (LoadFault.Damaged RowKind.Meta 0) }
 {
     if is_empty(conn.schema()) {
         make_first(conn, alloc)
@@ -130,6 +136,7 @@ fn tables_of(rows: Rows) -> Result<Tables, LoadFault>
     ensures ok { IfOk result (λ tables. tables.rows ≡ rows) }
     ensures whole { damage rows ≡ None → IfErr result IsOutside }
     ensures sound { OnOk result (damage rows ≡ None) }
+    ensures err { IfErr result (FailsOnlyFor ⊥) }
 {
     match Tables::checked(rows) {
         Ok(tables) => Ok(tables),
@@ -151,6 +158,7 @@ fn read_tables<S: Alter>(conn: &mut Connection<S>, alloc: Global) -> Result<Tabl
         → (state S.Store conn.old).now.schema ≡ schema_1 → IsLive (state S.Store conn.old)
         → IfOk result (λ tables. IsTrue (state S.Store conn.new).is_open
         → Holds (state S.Store conn.new).now tables.rows) }
+    ensures cause { IsCaused (state S.Store conn.old) (state S.Store conn.new) result }
 {
     match read_rows(conn, alloc) {
         Ok(rows) => tables_of(rows),
@@ -184,6 +192,10 @@ fn load_tables<S: Alter>(conn: &mut Connection<S>, alloc: Global) -> Result<Tabl
         → Holds (state S.Store conn.new).now tables.rows) }
     ensures keeps { IsAtRest (state S.Store conn.old) → IsKnown (state S.Store conn.old)
         → IsKnown (state S.Store conn.new) }
+    ensures cause { IsCaused (state S.Store conn.old) (state S.Store conn.new) result }
+    ensures foreign { ((state S.Store conn.old).now.schema ≡ schema_1 → ⊥)
+        → ((state S.Store conn.old).now.schema ≡ no_schema → ⊥)
+        → (result ≡ Err (LoadFault.Damaged RowKind.Meta 0)) × (conn.new ≡ conn.old) }
 {
     match prepare(conn, alloc) {
         Ok(()) => read_tables(conn, alloc),
@@ -195,7 +207,9 @@ fn load_tables<S: Alter>(conn: &mut Connection<S>, alloc: Global) -> Result<Tabl
 ///
 /// `Damaged` is of what stands there: `Meta` and 0 of another schema than ours, else the kind and the
 /// id of the first row that is no stored row, or of the first rule of the tables that the rows break.
-/// `Failed` is of the store, of a transaction that is under way, and of what the store doesn't read.
+/// `Failed` is of a transaction that is under way; over our tables else of a disk that has failed, of a
+/// store that was shut, or of a limit of steps; and where the tables are made, of the store, and of what
+/// it doesn't read.
 #[tactic(auto, using(crate::proofs::Firsts::untouched, crate::proofs::Firsts::unseen))]
 pub fn load<S: Alter>(conn: &mut Connection<S>, alloc: Global) -> Result<Tables, LoadFault>
     ensures loaded { HasCleanDisk (state S.Store conn.new) → (rows : Rows)
@@ -226,6 +240,14 @@ pub fn load<S: Alter>(conn: &mut Connection<S>, alloc: Global) -> Result<Tables,
         → e ≡ LoadFault.Damaged kind id → store_tells (state S.Store conn.new) ≡ None) }
     ensures knows { OnOk result (IsKnown (state S.Store conn.new)) }
     ensures keeps { IsKnown (state S.Store conn.old) → IsKnown (state S.Store conn.new) }
+    ensures busy { IsTrue (state S.Store conn.old).in_transaction
+        → (result ≡ Err LoadFault.Failed) × (conn.new ≡ conn.old) }
+    ensures cause { (state S.Store conn.old).in_transaction ≡ false
+        → IsCaused (state S.Store conn.old) (state S.Store conn.new) result }
+    ensures foreign { (state S.Store conn.old).in_transaction ≡ false
+        → ((state S.Store conn.old).now.schema ≡ schema_1 → ⊥)
+        → ((state S.Store conn.old).now.schema ≡ no_schema → ⊥)
+        → (result ≡ Err (LoadFault.Damaged RowKind.Meta 0)) × (conn.new ≡ conn.old) }
 {
     if !conn.is_autocommit() {
         return Err(LoadFault::Failed);

@@ -4,3 +4,4 @@ pub mod Seen
 pub mod ShownRows
 pub mod BackLemmas
 pub mod OursLemmas
+pub mod Causes

@@ -1,3 +1,4 @@
 pub mod Readable
 pub mod Seen
 pub mod Back
+pub mod Causes

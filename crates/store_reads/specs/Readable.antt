@@ -36,12 +36,12 @@ IsOutside Failed = ⊤
 IsOutside (Damaged kind id) = ⊥
 IsOutside NoMemory = ⊤
 
--- The answer is this, unless memory or the store failed.
+-- The answer is this, or a fault that is none of the rows.
 abbrev pub Yields : {X : Type 0} → Result X LoadFault → X → Type 0
 Yields (Ok got) x = got ≡ x
 Yields (Err e) x = IsOutside e
 
--- What is filled is as this says, unless memory or the store failed.
+-- What is filled is as this says, or the fault is none of the rows.
 abbrev pub Fills : {X : Type 0} → Result X LoadFault → Type 0 → Type 0
 Fills (Ok done) P = P
 Fills (Err e) P = IsOutside e

@@ -1,13 +1,15 @@
 //! The rows of a kind, read from those that its table shows.
-ghost use Rattle.std.specs.Prelude.{◌≡◌, ◌∷◌, ◌++◌, [], List, Some, map, is_ok, IfOk, IfSome, OnOk};
+ghost use Rattle.std.specs.Prelude.{◌≡◌, ◌∷◌, ◌++◌, [], List, Some, map, is_ok, IfErr, IfOk, IfSome, OnOk};
 ghost use Rattle.std.specs.List.{AllByRecursion};
 ghost use Rattle.sqlite.specs.Given.{IsPlain};
 ghost use Rattle.sqlite.specs.Held.{state};
 ghost use Rattle.sqlite.specs.Listing.{understood};
 ghost use Rattle.sqlite.specs.State.{HasCleanDisk, Shown};
 ghost use Rattle.sqlite_value.specs.Order.{Row};
+ghost use Rattle.store_commits.specs.declared.fault.Fault.TheVariants.{NoMemory};
 ghost use Rattle.store_texts.specs.Schema.{schema_1};
 ghost use Rattle.store_reads.specs.Readable.{Fills, IsOutside, IsReadable, Yields, shown_row};
+ghost use Rattle.store_reads.specs.Causes.{FailsOnlyFor, IsCaused, ListsOurs, load_fault_of};
 ghost use Rattle.store_reads.specs.Back.{IsRowTaken};
 ghost use Rattle.store_reads.specs.Seen.{IsSeen};
 
@@ -23,6 +25,7 @@ use tail_base::Items;
 
 /// What it means for a load that the store did nothing.
 pub fn load_fault(fault: Fault) -> LoadFault
+    ensures value { result ≡ load_fault_of fault }
     ensures outside { IsOutside result }
 {
     match fault {
@@ -45,6 +48,7 @@ fn read_row<T: Loaded>(alloc: Global, row: &Row) -> Result<Option<T>, Fault>
         → IfOk result (λ found. found ≡ Some x) }
     ensures back { IfOk result (λ found. IfSome found (λ x.
         (row.now ≡ shown_row (T.stored x)) × IsReadable T.stored T.Typed x)) }
+    ensures err { IfErr result (λ fault. fault ≡ NoMemory) }
 {
     T::cells_are_of_ours();
     let cells = cells_of(alloc, row)?;
@@ -56,6 +60,7 @@ fn take_row<T: Loaded>(alloc: Global, row: &Row, all: &mut Items<T>) -> Result<(
     ensures read { (x : T) → row.now ≡ shown_row (T.stored x) → IsReadable T.stored T.Typed x
         → Fills result (all.new ≡ all.old ++ x ∷ []) }
     ensures back { OnOk result (IsRowTaken T.stored T.Typed row.now all.old all.new) }
+    ensures err { IfErr result (FailsOnlyFor ⊥) }
 {
     match read_row(alloc, row) {
         Ok(Some(read)) => match all.push(read) {
@@ -76,6 +81,7 @@ fn rows_in<T: Loaded>(alloc: Global, rows: &[Row]) -> Result<Items<T>, LoadFault
         → AllByRecursion (IsReadable T.stored T.Typed) xs → Yields result xs }
     ensures back { IfOk result (λ xs. (rows.now ≡ map (λ x. shown_row (T.stored x)) xs)
         × AllByRecursion (IsReadable T.stored T.Typed) xs) }
+    ensures err { IfErr result (FailsOnlyFor ⊥) }
 {
     let mut all = Items::new(alloc);
     for row in rows {
@@ -94,6 +100,8 @@ pub(crate) fn read_all<T: Loaded, S: Alter>(
 ) -> Result<Items<T>, LoadFault>
     ensures seen { IsPlain (understood schema_1 T.select_text)
         → IsSeen schema_1 (state S.Store conn.old) (state S.Store conn.new) (is_ok result) }
+    ensures cause { ListsOurs T.select_text
+        → IsCaused (state S.Store conn.old) (state S.Store conn.new) result }
     ensures read { HasCleanDisk (state S.Store conn.new) → (xs : List T)
         → ((rows : List Row)
         → Shown T.select_text [] (state S.Store conn.old) (state S.Store conn.new) rows

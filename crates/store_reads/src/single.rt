@@ -1,17 +1,20 @@
 //! Counters, extra records and the policy, which have no ids.
-ghost use Rattle.std.specs.Prelude.{◌≡◌, ◌∷◌, ◌++◌, [], ℕ, true, List, Option, Some, map, is_ok, IfOk, IfSome, OnOk};
+ghost use Rattle.std.specs.Prelude.{◌≡◌, ◌∷◌, ◌++◌, [], ℕ, true, List, Option, Some, map, is_ok, IfErr, IfOk, IfSome, OnOk};
 ghost use Rattle.std.specs.List.{AllByRecursion};
 ghost use Rattle.std.specs.Option.{option_to_list};
 ghost use Rattle.std.specs.Str.{is_utf8};
 ghost use Rattle.net_rows.specs.declared.change.Counters.{Counters};
 ghost use Rattle.net_rows.specs.declared.rows.Rows.{Rows};
+ghost use Rattle.row_keeper.specs.declared.keeper.LoadFault.TheVariants.{Damaged};
 ghost use Rattle.sqlite.specs.Held.{state};
 ghost use Rattle.sqlite.specs.State.{HasCleanDisk};
 ghost use Rattle.tailcfg.specs.declared.dns.DnsExtra.{DnsExtra};
 ghost use Rattle.store_commits.specs.Kept.{Keeps};
+ghost use Rattle.store_commits.specs.declared.fault.Fault.TheVariants.{NoMemory};
 ghost use Rattle.store_reads.specs.Back.{HoldsExtras, HoldsNext, HoldsPolicy, IsOurs, IsTakenExtra};
 ghost use Rattle.store_rows.specs.Rows.{IsTypedCounters, extra_cells, meta_cells, policy_cells};
 ghost use Rattle.store_texts.specs.Schema.{schema_1};
+ghost use Rattle.store_reads.specs.Causes.{FailsOnlyFor, IsCaused};
 ghost use Rattle.store_reads.specs.Readable.{AreReadable, Fills, IsReadableExtra, Yields, shown_extras, shown_row};
 ghost use Rattle.store_reads.specs.Seen.{IsSeen};
 
@@ -29,7 +32,9 @@ use tail_base::{Items, Text};
 use tailcfg::DnsExtra;
 
 /// Damage of what has no id.
-fn damaged(kind: Kind) -> LoadFault {
+fn damaged(kind: Kind) -> LoadFault
+    ensures value { result ≡ Damaged kind 0 }
+{
     LoadFault::Damaged { kind, id: 0 }
 }
 
@@ -40,6 +45,7 @@ fn next_in(alloc: Global, rows: &[Row]) -> Result<Option<Counters>, Fault>
         → IsTypedCounters next → IfOk result (λ found. found ≡ Some next) }
     ensures back { IfOk result (λ found. IfSome found (λ next.
         (rows.now ≡ shown_row (meta_cells next) ∷ []) × IsTypedCounters next)) }
+    ensures err { IfErr result (λ fault. fault ≡ NoMemory) }
 {
     let [row] = rows else {
         return Ok(None);
@@ -54,6 +60,7 @@ fn next_of(alloc: Global, rows: &[Row]) -> Result<Counters, LoadFault>
         → IsTypedCounters next → Yields result next }
     ensures back { IfOk result (λ next.
         (rows.now ≡ shown_row (meta_cells next) ∷ []) × IsTypedCounters next) }
+    ensures err { IfErr result (FailsOnlyFor ⊥) }
 {
     match next_in(alloc, rows) {
         Ok(Some(next)) => Ok(next),
@@ -69,6 +76,7 @@ pub(crate) fn read_next<S: Alter>(
 ) -> Result<Counters, LoadFault>
     ensures seen { IsSeen schema_1 (state S.Store conn.old) (state S.Store conn.new)
         (is_ok result) }
+    ensures cause { IsCaused (state S.Store conn.old) (state S.Store conn.new) result }
     ensures read { HasCleanDisk (state S.Store conn.new) → (all : Rows)
         → Keeps (state S.Store conn.old).now all → AreReadable all → Yields result all.next }
     ensures back { HasCleanDisk (state S.Store conn.new) → IsOurs (state S.Store conn.old).now
@@ -87,6 +95,7 @@ fn extra_in(alloc: Global, place: u32, row: &Row) -> Result<Option<DnsExtra>, Fa
         → IsReadableExtra x → IfOk result (λ found. found ≡ Some x) }
     ensures back { IfOk result (λ found. IfSome found (λ x.
         (row.now ≡ shown_row (extra_cells place x)) × IsReadableExtra x)) }
+    ensures err { IfErr result (λ fault. fault ≡ NoMemory) }
 {
     let cells = cells_of(alloc, row)?;
     Ok(read_extra(alloc, place, cells.as_slice())?)
@@ -102,6 +111,7 @@ fn take_extra(
     ensures read { (x : DnsExtra) → row.now ≡ shown_row (extra_cells place x)
         → IsReadableExtra x → Fills result (extras.new ≡ extras.old ++ x ∷ []) }
     ensures back { OnOk result (IsTakenExtra place row.now extras.old extras.new) }
+    ensures err { IfErr result (FailsOnlyFor ⊥) }
 {
     match extra_in(alloc, place, row) {
         Ok(Some(extra)) => match extras.push(extra) {
@@ -119,12 +129,14 @@ fn extras_in(alloc: Global, rows: &[Row]) -> Result<Items<DnsExtra>, LoadFault>
         → AllByRecursion IsReadableExtra xs → Yields result xs }
     ensures back { IfOk result (λ xs.
         (rows.now ≡ shown_extras 1 xs) × AllByRecursion IsReadableExtra xs) }
+    ensures err { IfErr result (FailsOnlyFor ⊥) }
 {
     let mut extras = Items::new(alloc);
     let mut last = 0u32;
     for row in rows {
+        // More records than a place can count would be more than memory holds.
         let Some(place) = last.checked_add(1) else {
-            return Err(LoadFault::Failed);
+            return Err(LoadFault::NoMemory);
         };
         match take_extra(alloc, place, row, &mut extras) {
             Ok(()) => {}
@@ -142,6 +154,7 @@ pub(crate) fn read_extras<S: Alter>(
 ) -> Result<Items<DnsExtra>, LoadFault>
     ensures seen { IsSeen schema_1 (state S.Store conn.old) (state S.Store conn.new)
         (is_ok result) }
+    ensures cause { IsCaused (state S.Store conn.old) (state S.Store conn.new) result }
     ensures read { HasCleanDisk (state S.Store conn.new) → (all : Rows)
         → Keeps (state S.Store conn.old).now all → AreReadable all → Yields result all.extras }
     ensures back { HasCleanDisk (state S.Store conn.new) → IsOurs (state S.Store conn.old).now
@@ -160,6 +173,7 @@ fn policy_in(alloc: Global, row: &Row) -> Result<Option<Text>, Fault>
         → is_utf8 body ≡ true → IfOk result (λ found. found ≡ Some body) }
     ensures back { IfOk result (λ found. IfSome found (λ body.
         (row.now ≡ shown_row (policy_cells body)) × (is_utf8 body ≡ true))) }
+    ensures err { IfErr result (λ fault. fault ≡ NoMemory) }
 {
     let cells = cells_of(alloc, row)?;
     Ok(read_policy_text(alloc, cells.as_slice())?)
@@ -173,6 +187,7 @@ fn policy_of(alloc: Global, rows: &[Row]) -> Result<Option<Text>, LoadFault>
     ensures back { IfOk result (λ policy.
         (rows.now ≡ map (λ body. shown_row (policy_cells body)) (option_to_list policy))
         × IfSome policy (λ body. is_utf8 body ≡ true)) }
+    ensures err { IfErr result (FailsOnlyFor ⊥) }
 {
     match rows {
         [] => Ok(None),
@@ -192,6 +207,7 @@ pub(crate) fn read_policy<S: Alter>(
 ) -> Result<Option<Text>, LoadFault>
     ensures seen { IsSeen schema_1 (state S.Store conn.old) (state S.Store conn.new)
         (is_ok result) }
+    ensures cause { IsCaused (state S.Store conn.old) (state S.Store conn.new) result }
     ensures read { HasCleanDisk (state S.Store conn.new) → (all : Rows)
         → Keeps (state S.Store conn.old).now all → AreReadable all → Yields result all.policy }
     ensures back { HasCleanDisk (state S.Store conn.new) → IsOurs (state S.Store conn.old).now

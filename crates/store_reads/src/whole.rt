@@ -7,6 +7,7 @@ ghost use Rattle.sqlite.specs.State.{HasCleanDisk};
 ghost use Rattle.store_commits.specs.Kept.{AreStored, Keeps};
 ghost use Rattle.store_texts.specs.Schema.{schema_1};
 ghost use Rattle.store_reads.specs.Readable.{AreReadable, Fills, Yields};
+ghost use Rattle.store_reads.specs.Causes.{IsCaused};
 ghost use Rattle.store_reads.specs.Back.{ExtrasStand, HoldsReadable, IsOurs, KeysStand, MachinesStand, NextStands, PendingStands, PolicyStands, UsersStand};
 ghost use Rattle.store_reads.specs.Seen.{IsSeen};
 
@@ -23,6 +24,7 @@ use tail_base::Items;
 fn read_users<S: Alter>(conn: &mut Connection<S>, alloc: Global) -> Result<Items<User>, LoadFault>
     ensures seen { IsSeen schema_1 (state S.Store conn.old) (state S.Store conn.new)
         (is_ok result) }
+    ensures cause { IsCaused (state S.Store conn.old) (state S.Store conn.new) result }
     ensures read { HasCleanDisk (state S.Store conn.new) → (all : Rows)
         → Keeps (state S.Store conn.old).now all → AreReadable all → Yields result all.users }
     ensures back { HasCleanDisk (state S.Store conn.new) → IsOurs (state S.Store conn.old).now
@@ -36,6 +38,7 @@ fn read_users<S: Alter>(conn: &mut Connection<S>, alloc: Global) -> Result<Items
 fn read_keys<S: Alter>(conn: &mut Connection<S>, alloc: Global) -> Result<Items<AuthKey>, LoadFault>
     ensures seen { IsSeen schema_1 (state S.Store conn.old) (state S.Store conn.new)
         (is_ok result) }
+    ensures cause { IsCaused (state S.Store conn.old) (state S.Store conn.new) result }
     ensures read { HasCleanDisk (state S.Store conn.new) → (all : Rows)
         → Keeps (state S.Store conn.old).now all → AreReadable all → Yields result all.keys }
     ensures back { HasCleanDisk (state S.Store conn.new) → IsOurs (state S.Store conn.old).now
@@ -52,6 +55,7 @@ fn read_pending_entries<S: Alter>(
 ) -> Result<Items<Pending>, LoadFault>
     ensures seen { IsSeen schema_1 (state S.Store conn.old) (state S.Store conn.new)
         (is_ok result) }
+    ensures cause { IsCaused (state S.Store conn.old) (state S.Store conn.new) result }
     ensures read { HasCleanDisk (state S.Store conn.new) → (all : Rows)
         → Keeps (state S.Store conn.old).now all → AreReadable all → Yields result all.pending }
     ensures back { HasCleanDisk (state S.Store conn.new) → IsOurs (state S.Store conn.old).now
@@ -68,6 +72,7 @@ fn read_machines<S: Alter>(
 ) -> Result<Items<Machine>, LoadFault>
     ensures seen { IsSeen schema_1 (state S.Store conn.old) (state S.Store conn.new)
         (is_ok result) }
+    ensures cause { IsCaused (state S.Store conn.old) (state S.Store conn.new) result }
     ensures read { HasCleanDisk (state S.Store conn.new) → (all : Rows)
         → Keeps (state S.Store conn.old).now all → AreReadable all → Yields result all.machines }
     ensures back { HasCleanDisk (state S.Store conn.new) → IsOurs (state S.Store conn.old).now
@@ -85,6 +90,7 @@ fn fill_policy<S: Alter>(
 ) -> Result<(), LoadFault>
     ensures seen { IsSeen schema_1 (state S.Store conn.old) (state S.Store conn.new)
         (is_ok result) }
+    ensures cause { IsCaused (state S.Store conn.old) (state S.Store conn.new) result }
     ensures read { HasCleanDisk (state S.Store conn.new) → (all : Rows)
         → Keeps (state S.Store conn.old).now all → AreReadable all
         → Fills result (rows.new ≡ record rows.old {
@@ -107,6 +113,7 @@ fn fill_extras<S: Alter>(
 ) -> Result<(), LoadFault>
     ensures seen { IsSeen schema_1 (state S.Store conn.old) (state S.Store conn.new)
         (is_ok result) }
+    ensures cause { IsCaused (state S.Store conn.old) (state S.Store conn.new) result }
     ensures read { HasCleanDisk (state S.Store conn.new) → (all : Rows)
         → Keeps (state S.Store conn.old).now all → AreReadable all
         → Fills result (rows.new ≡ record rows.old {
@@ -131,6 +138,7 @@ fn fill_machines<S: Alter>(
 ) -> Result<(), LoadFault>
     ensures seen { IsSeen schema_1 (state S.Store conn.old) (state S.Store conn.new)
         (is_ok result) }
+    ensures cause { IsCaused (state S.Store conn.old) (state S.Store conn.new) result }
     ensures read { HasCleanDisk (state S.Store conn.new) → (all : Rows)
         → Keeps (state S.Store conn.old).now all → AreReadable all
         → Fills result (rows.new ≡ record rows.old {
@@ -157,6 +165,7 @@ fn fill_pending<S: Alter>(
 ) -> Result<(), LoadFault>
     ensures seen { IsSeen schema_1 (state S.Store conn.old) (state S.Store conn.new)
         (is_ok result) }
+    ensures cause { IsCaused (state S.Store conn.old) (state S.Store conn.new) result }
     ensures read { HasCleanDisk (state S.Store conn.new) → (all : Rows)
         → Keeps (state S.Store conn.old).now all → AreReadable all
         → Fills result (rows.new ≡ record rows.old {
@@ -185,6 +194,7 @@ fn fill_keys<S: Alter>(
 ) -> Result<(), LoadFault>
     ensures seen { IsSeen schema_1 (state S.Store conn.old) (state S.Store conn.new)
         (is_ok result) }
+    ensures cause { IsCaused (state S.Store conn.old) (state S.Store conn.new) result }
     ensures read { HasCleanDisk (state S.Store conn.new) → (all : Rows)
         → Keeps (state S.Store conn.old).now all → AreReadable all
         → Fills result (rows.new ≡ record rows.old {
@@ -215,6 +225,7 @@ fn fill_users<S: Alter>(
 ) -> Result<(), LoadFault>
     ensures seen { IsSeen schema_1 (state S.Store conn.old) (state S.Store conn.new)
         (is_ok result) }
+    ensures cause { IsCaused (state S.Store conn.old) (state S.Store conn.new) result }
     ensures read { HasCleanDisk (state S.Store conn.new) → (all : Rows)
         → Keeps (state S.Store conn.old).now all → AreReadable all
         → Fills result (rows.new ≡ record rows.old {
@@ -247,6 +258,7 @@ fn fill_next<S: Alter>(
 ) -> Result<(), LoadFault>
     ensures seen { IsSeen schema_1 (state S.Store conn.old) (state S.Store conn.new)
         (is_ok result) }
+    ensures cause { IsCaused (state S.Store conn.old) (state S.Store conn.new) result }
     ensures read { HasCleanDisk (state S.Store conn.new) → (all : Rows)
         → Keeps (state S.Store conn.old).now all → AreReadable all
         → Fills result (rows.new ≡ record rows.old {
@@ -291,6 +303,7 @@ fn no_rows(alloc: Global) -> Rows {
 pub fn read_rows<S: Alter>(conn: &mut Connection<S>, alloc: Global) -> Result<Rows, LoadFault>
     ensures seen { IsSeen schema_1 (state S.Store conn.old) (state S.Store conn.new)
         (is_ok result) }
+    ensures cause { IsCaused (state S.Store conn.old) (state S.Store conn.new) result }
     ensures read { HasCleanDisk (state S.Store conn.new) → (all : Rows)
         → Keeps (state S.Store conn.old).now all → AreReadable all → Yields result all }
     ensures back { HasCleanDisk (state S.Store conn.new) → IsOurs (state S.Store conn.old).now

@@ -14,6 +14,7 @@ returns-in-Err g c = record {
       (subst (λ (l : List Row). i < length l) shows c.loop-row-test.true) (c.row-item.is ∙ ap (λ (l : List Row). get_or l i c.row-item.result) shows) good in
       c.in-Err.ensures.read at.it at.is at.keeps;
   back = tt;
+  err = c.in-Err.ensures.err;
 }
 
 pub loop-row-preserved : goal.loop-row-preserved

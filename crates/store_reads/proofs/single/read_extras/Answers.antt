@@ -9,6 +9,8 @@ use Rattle.store_texts.proofs.Selects.{select_extras_means}
 use Rattle.std.proofs.lemmas.Result.{IfOk-weaker}
 use Rattle.store_texts.specs.Texts.{select_extras_text}
 use Rattle.store_reads.proofs.BackLemmas.{extras_stand}
+use Rattle.store_reads.specs.Causes.{FailsOnlyFor, HasCause, ListsOurs}
+use Rattle.store_reads.proofs.Causes.{caused_less, extras_listed}
 use Rattle.store_reads.proofs.Seen.{seen_less}
 use Rattle.store_reads.proofs.ShownRows.{shown_records}
 use Rattle.store_reads.proofs.single.read_extras.Goals as goal
@@ -37,3 +39,12 @@ returns-in-Ok-clause-back g c clean ours =
     let rows : List Row = c.in-Ok.rows.items in
     let shown = subst (λ text. Shown text [] old new rows) c.select_extras.ensures.value (c.in-Ok.ensures.shown clean) in
     IfOk-weaker c.extras_in.result _ _ (λ x h. (extras_stand old new x ours (subst (λ (rs : List Row). Shown select_extras_text [] old new rs) (sym c.as_slice.ensures.value ∙ h.0) shown), h.1)) c.extras_in.ensures.back
+
+pub returns-in-Ok-clause-cause : goal.returns-in-Ok-clause-cause
+returns-in-Ok-clause-cause g c =
+    caused_less (state g.S.Store c.args.conn.now) (state g.S.Store c.rows_of.new.conn) c.extras_in.result c.extras_in.ensures.err
+
+pub returns-in-Err-clause-cause : goal.returns-in-Err-clause-cause
+returns-in-Err-clause-cause g c clean has =
+    subst (FailsOnlyFor (HasCause (state g.S.Store c.args.conn.now) (state g.S.Store c.rows_of.new.conn))) (sym c.load_fault.ensures.value)
+    (c.in-Err.ensures.cause (subst ListsOurs (sym c.select_extras.ensures.value) extras_listed) clean has)

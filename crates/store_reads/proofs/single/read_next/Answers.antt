@@ -9,6 +9,8 @@ use Rattle.store_texts.proofs.Selects.{select_meta_means}
 use Rattle.std.proofs.lemmas.Result.{IfOk-weaker}
 use Rattle.store_texts.specs.Texts.{select_meta_text}
 use Rattle.store_reads.proofs.BackLemmas.{next_stands}
+use Rattle.store_reads.specs.Causes.{FailsOnlyFor, HasCause, ListsOurs}
+use Rattle.store_reads.proofs.Causes.{caused_less, meta_listed}
 use Rattle.store_reads.proofs.Seen.{seen_less}
 use Rattle.store_reads.proofs.ShownRows.{shown_next}
 use Rattle.store_reads.proofs.single.read_next.Goals as goal
@@ -37,3 +39,12 @@ returns-in-Ok-clause-back g c clean ours =
     let rows : List Row = c.in-Ok.rows.items in
     let shown = subst (λ text. Shown text [] old new rows) c.select_meta.ensures.value (c.in-Ok.ensures.shown clean) in
     IfOk-weaker c.next_of.result _ _ (λ x h. (next_stands old new x ours (subst (λ (rs : List Row). Shown select_meta_text [] old new rs) (sym c.as_slice.ensures.value ∙ h.0) shown), h.1)) c.next_of.ensures.back
+
+pub returns-in-Ok-clause-cause : goal.returns-in-Ok-clause-cause
+returns-in-Ok-clause-cause g c =
+    caused_less (state g.S.Store c.args.conn.now) (state g.S.Store c.rows_of.new.conn) c.next_of.result c.next_of.ensures.err
+
+pub returns-in-Err-clause-cause : goal.returns-in-Err-clause-cause
+returns-in-Err-clause-cause g c clean has =
+    subst (FailsOnlyFor (HasCause (state g.S.Store c.args.conn.now) (state g.S.Store c.rows_of.new.conn))) (sym c.load_fault.ensures.value)
+    (c.in-Err.ensures.cause (subst ListsOurs (sym c.select_meta.ensures.value) meta_listed) clean has)

@@ -9,6 +9,8 @@ use Rattle.store_texts.proofs.Selects.{select_policy_means}
 use Rattle.std.proofs.lemmas.Result.{IfOk-weaker}
 use Rattle.store_texts.specs.Texts.{select_policy_text}
 use Rattle.store_reads.proofs.BackLemmas.{policy_stands}
+use Rattle.store_reads.specs.Causes.{FailsOnlyFor, HasCause, ListsOurs}
+use Rattle.store_reads.proofs.Causes.{caused_less, policy_listed}
 use Rattle.store_reads.proofs.Seen.{seen_less}
 use Rattle.store_reads.proofs.ShownRows.{shown_policy}
 use Rattle.store_reads.proofs.single.read_policy.Goals as goal
@@ -37,3 +39,12 @@ returns-in-Ok-clause-back g c clean ours =
     let rows : List Row = c.in-Ok.rows.items in
     let shown = subst (λ text. Shown text [] old new rows) c.select_policy.ensures.value (c.in-Ok.ensures.shown clean) in
     IfOk-weaker c.policy_of.result _ _ (λ x h. (policy_stands old new x ours (subst (λ (rs : List Row). Shown select_policy_text [] old new rs) (sym c.as_slice.ensures.value ∙ h.0) shown), h.1)) c.policy_of.ensures.back
+
+pub returns-in-Ok-clause-cause : goal.returns-in-Ok-clause-cause
+returns-in-Ok-clause-cause g c =
+    caused_less (state g.S.Store c.args.conn.now) (state g.S.Store c.rows_of.new.conn) c.policy_of.result c.policy_of.ensures.err
+
+pub returns-in-Err-clause-cause : goal.returns-in-Err-clause-cause
+returns-in-Err-clause-cause g c clean has =
+    subst (FailsOnlyFor (HasCause (state g.S.Store c.args.conn.now) (state g.S.Store c.rows_of.new.conn))) (sym c.load_fault.ensures.value)
+    (c.in-Err.ensures.cause (subst ListsOurs (sym c.select_policy.ensures.value) policy_listed) clean has)

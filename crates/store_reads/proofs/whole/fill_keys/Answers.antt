@@ -1,9 +1,10 @@
-use Rattle.std.proofs.Common.{◌≡◌, ◌∙◌, ap, refl, subst, sym}
+use Rattle.std.proofs.Common.{◌∙◌, ◌≡◌, ap, is_ok, refl, subst, sym}
 use Rattle.net_rows.specs.declared.rows.Rows.{Rows}
 use Rattle.sqlite.specs.Held.{state}
 use Rattle.store_commits.proofs.KeptChange.{where_ok}
 use Rattle.store_rows.specs.Rows.{IsTypedKey, auth_key_cells}
 use Rattle.store_reads.specs.Back.{HoldsReadable, IsOurs, PendingStands}
+use Rattle.store_reads.proofs.Causes.{caused_then}
 use Rattle.store_reads.proofs.BackLemmas.{stands_then}
 use Rattle.store_reads.proofs.whole.fill_keys.Goals as goal
 
@@ -20,3 +21,8 @@ returns-clause-back g c clean ours =
       stands_then (HoldsReadable auth_key_cells IsTypedKey (old.now.trees 3)) PendingStands (λ (r : Rows). r.keys) new _ old.now mid.now same h.0 there h.1,
     ))
     (c.fill_pending.ensures.back clean (subst IsOurs (sym same) ours))
+
+pub returns-clause-cause : goal.returns-clause-cause
+returns-clause-cause g c =
+    caused_then (state g.S.Store c.args.conn.now) (state g.S.Store c.read_keys.new.conn) (state g.S.Store c.fill_pending.new.conn) (is_ok c.fill_pending.result) c.fill_pending.result c.in_ok-rows.ensures.seen
+    c.fill_pending.ensures.seen c.fill_pending.ensures.cause

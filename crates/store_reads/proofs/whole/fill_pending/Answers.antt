@@ -1,9 +1,10 @@
-use Rattle.std.proofs.Common.{◌≡◌, ◌∙◌, ap, refl, subst, sym}
+use Rattle.std.proofs.Common.{◌∙◌, ◌≡◌, ap, is_ok, refl, subst, sym}
 use Rattle.net_rows.specs.declared.rows.Rows.{Rows}
 use Rattle.sqlite.specs.Held.{state}
 use Rattle.store_commits.proofs.KeptChange.{where_ok}
 use Rattle.store_rows.specs.Rows.{IsTypedPending, pending_cells}
 use Rattle.store_reads.specs.Back.{HoldsReadable, IsOurs, MachinesStand}
+use Rattle.store_reads.proofs.Causes.{caused_then}
 use Rattle.store_reads.proofs.BackLemmas.{stands_then}
 use Rattle.store_reads.proofs.whole.fill_pending.Goals as goal
 
@@ -20,3 +21,8 @@ returns-clause-back g c clean ours =
       stands_then (HoldsReadable pending_cells IsTypedPending (old.now.trees 5)) MachinesStand (λ (r : Rows). r.pending) new _ old.now mid.now same h.0 there h.1,
     ))
     (c.fill_machines.ensures.back clean (subst IsOurs (sym same) ours))
+
+pub returns-clause-cause : goal.returns-clause-cause
+returns-clause-cause g c =
+    caused_then (state g.S.Store c.args.conn.now) (state g.S.Store c.read_pending_entries.new.conn) (state g.S.Store c.fill_machines.new.conn) (is_ok c.fill_machines.result) c.fill_machines.result c.in_ok-rows.ensures.seen
+    c.fill_machines.ensures.seen c.fill_machines.ensures.cause

@@ -2,6 +2,7 @@ use Rattle.std.proofs.lemmas.Result.{IfOk-weaker}
 use Rattle.sqlite.specs.Held.{state}
 use Rattle.store_texts.proofs.Selects.{select_machines_means}
 use Rattle.store_reads.proofs.BackLemmas.{machines_stand}
+use Rattle.store_reads.proofs.Causes.{machines_listed}
 use Rattle.store_reads.proofs.ShownRows.{shown_machines}
 use Rattle.store_reads.proofs.whole.read_machines.Goals as goal
 
@@ -15,3 +16,6 @@ returns-clause-read g c clean all keeps good =
 pub returns-clause-back : goal.returns-clause-back
 returns-clause-back g c clean ours =
     IfOk-weaker c.read_all.result _ _ (λ xs h. (machines_stand (state g.S.Store c.args.conn.now) (state g.S.Store c.read_all.new.conn) xs ours h.0, h.1)) (c.read_all.ensures.back clean)
+
+pub returns-clause-cause : goal.returns-clause-cause
+returns-clause-cause g c = c.read_all.ensures.cause machines_listed
