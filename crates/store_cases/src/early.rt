@@ -15,9 +15,12 @@ fn early_answer<S: Alter + Drop>(
     change: &Change,
 ) -> Result<Result<(), EdgeFault>, Fail> {
     let mut first = SqliteKeeper::adopt(conn);
-    let tables = load(alloc, &mut first)?;
+    let loaded = load(alloc, &mut first);
     let mut keeper = SqliteKeeper::adopt(first.give_back());
-    answer_to(alloc, &mut keeper, &tables, change)
+    match loaded {
+        Ok(tables) => answer_to(alloc, &mut keeper, &tables, change),
+        Err(fault) => Err(fault),
+    }
 }
 
 fn early_answer_in_memory(alloc: Global) -> Result<Result<(), EdgeFault>, Fail> {

@@ -2,7 +2,7 @@
 use keeper_sqlite::SqliteKeeper;
 use net_rows::Tables;
 use row_keeper::{Keeper, LoadFault};
-use sqlite::{Connection, MemStore};
+use sqlite::{Alter, Connection, MemStore};
 use std::alloc::Global;
 use std::test::Fail;
 
@@ -21,7 +21,7 @@ pub(crate) fn made(alloc: Global) -> Result<Connection<MemStore>, Fail> {
 }
 
 /// Runs these statements, one behind the other.
-pub(crate) fn run(conn: &mut Connection<MemStore>, statements: &str) -> Result<(), Fail> {
+pub(crate) fn run<S: Alter>(conn: &mut Connection<S>, statements: &str) -> Result<(), Fail> {
     match conn.execute_batch(statements) {
         Ok(()) => Ok(()),
         Err(_) => Err(Fail::from("a statement failed")),

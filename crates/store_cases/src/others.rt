@@ -3,7 +3,7 @@ use keeper_sqlite::HostOpener;
 use kept_changes::{fails_by, fault_of_load};
 use net_rows::Kind;
 use row_keeper::LoadFault;
-use sqlite::{Connection, FileStore};
+use sqlite::{Alter, Connection, FileStore};
 use sqlite_disk::Disk;
 use std::fs;
 use std::test::Fail;
@@ -48,18 +48,23 @@ const ANOTHER: &str = "store_cases_another";
 
 const NOTES: &str = "store_cases_another/notes.db";
 
-/// Makes a table of another program in a database, and closes it.
-fn is_made<D: Disk + Drop>(mut conn: Connection<FileStore<D>>) -> bool {
-    let is_made = conn.execute("CREATE TABLE notes (note TEXT)", &[]).is_ok();
-    conn.close().is_ok() && is_made
+/// Makes a table of another program in a database.
+fn is_made<S: Alter>(conn: &mut Connection<S>) -> bool {
+    conn.execute("CREATE TABLE notes (note TEXT)", &[]).is_ok()
+}
+
+/// Closes a database.
+fn is_closed<D: Disk + Drop>(conn: Connection<FileStore<D>>) -> bool {
+    conn.close().is_ok()
 }
 
 /// Makes a database with a table of another program.
 fn make_notes(rt: &HostRuntime) -> Result<(), Fail> {
-    let Ok(conn) = Connection::open(rt, NOTES) else {
+    let Ok(mut conn) = Connection::open(rt, NOTES) else {
         return Err(Fail::from("the file isn't made"));
     };
-    if is_made(conn) {
+    let is_made = is_made(&mut conn);
+    if is_closed(conn) && is_made {
         Ok(())
     } else {
         Err(Fail::from("the table isn't made"))

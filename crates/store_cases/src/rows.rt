@@ -3,7 +3,7 @@ use crate::made::{made, run};
 use keeper_sqlite::SqliteKeeper;
 use kept_changes::{change_to, commit_twice, load};
 use net_rows::{Change, Tables};
-use sqlite::{Connection, MemStore};
+use sqlite::{Alter, Connection, MemStore};
 use std::alloc::Global;
 use std::test::Fail;
 
@@ -36,7 +36,7 @@ SELECT * FROM extras
 SELECT * FROM policy";
 
 /// The rows of a table as a text.
-fn shown(alloc: Global, conn: &mut Connection<MemStore>, text: &str) -> Result<String, Fail> {
+fn shown<S: Alter>(alloc: Global, conn: &mut Connection<S>, text: &str) -> Result<String, Fail> {
     match conn.query_all(text, &[]) {
         Ok(rows) => Ok(format!(in alloc; "{:?}", rows.as_slice())?),
         Err(_) => Err(Fail::from("a query failed")),
@@ -51,7 +51,11 @@ fn with_rows(alloc: Global) -> Result<Connection<MemStore>, Fail> {
 }
 
 /// Adds the rows of each table as a line.
-fn add_shown(alloc: Global, out: &mut String, conn: &mut Connection<MemStore>) -> Result<(), Fail> {
+fn add_shown<S: Alter>(
+    alloc: Global,
+    out: &mut String,
+    conn: &mut Connection<S>,
+) -> Result<(), Fail> {
     for table in TABLES.lines() {
         let rows = shown(alloc, conn, table)?;
         out.push_str(rows.as_str())?;
@@ -61,7 +65,7 @@ fn add_shown(alloc: Global, out: &mut String, conn: &mut Connection<MemStore>) -
 }
 
 /// The tables of a database as a text.
-fn text_of(alloc: Global, mut conn: Connection<MemStore>) -> Result<String, Fail> {
+fn text_of<S: Alter + Drop>(alloc: Global, mut conn: Connection<S>) -> Result<String, Fail> {
     let mut out = String::new(alloc);
     add_shown(alloc, &mut out, &mut conn)?;
     Ok(out)
