@@ -18,7 +18,7 @@ use Rattle.desk_front.specs.declared.want.Wanted.TheVariants as wants
 use Rattle.desk_front.specs.declared.front_settings.FrontSettings.{FrontSettings}
 use Rattle.desk_front.specs.declared.poll.Poll.{Poll}
 use Rattle.connections.specs.Tellings.{Giving, TurnsTook, Drew}
-use Rattle.connections.specs.Asked.{IsAskAnswered, IsClosing, Follows}
+use Rattle.connections.specs.Asked.{IsAskAnswered, Follows}
 use Rattle.connections.specs.Polled.{IsPollAnswered}
 use Rattle.connections.specs.Polls.{IsPoll}
 use Rattle.connections.specs.Exchanges.{Answered, IsExchange, IsOutcome, breaks, ended_by}
@@ -86,6 +86,11 @@ asked_once turn site outcome ask close m moment words reply old new s t at drew 
   took = took_when (ask_draws ask) ask m moment words reply old new refl at drew took;
   sent = sent;
 }
+
+-- the connection ends exactly where it is to close
+abbrev pub IsClosing : {T : Type 0} → Bool → Result T Closed → Type 0
+IsClosing close (Ok done) = close ≡ false
+IsClosing close (Err e) = (close ≡ true) × (e ≡ End)
 
 -- after an answer that was written whole, the connection goes on or ends
 sent_closing : (T : Type 0) (closing : Result T Closed) (close : Bool) (written bytes : List ℕ) (before now : ℕ) → written ≡ bytes → IsClosing close closing → IsOutcome closing (ended_by close) written bytes before now

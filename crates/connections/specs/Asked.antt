@@ -21,11 +21,6 @@ pub record IsAskAnswered {T S : Type 0} (turn : S → Event → Reply → S → 
   pub took : TurnsTook old new (turned ∷ [])
   pub sent : Sent outcome old.held new.held old.write_faults new.write_faults (reply_bytes site ask turned.reply close)
 
--- the connection ends exactly where it is to close
-abbrev pub IsClosing : {T : Type 0} → Bool → Result T Closed → Type 0
-IsClosing close (Ok done) = close ≡ false
-IsClosing close (Err e) = (close ≡ true) × (e ≡ End)
-
 -- What follows an answer that was written or not: how the connection goes on, and how it was ended, if it was.
 pub record Follows {T : Type 0} (sent outcome : Result T Closed) (ended : Option Closed) : Type 0 where
   pub is : (written bytes : List ℕ) (before now : ℕ) → IsSent sent written bytes before now → IsOutcome outcome ended written bytes before now

@@ -5,6 +5,7 @@ use Rattle.httparse.specs.Spans.{name_and_value}
 use Rattle.http_front.specs.Lines.{FieldLine, length_value, values_of}
 use Rattle.http_front.specs.Requests.{head_limit}
 use Rattle.http_client.specs.declared.answer.ServerAnswer.{ServerAnswer}
+use Rattle.http_client.specs.declared.head.TheConstants.{ANSWER_LIMIT}
 
 -- a version, and the field lines below the status line, without the white space and the line ends
 pub record AnswerHead : Type 0 where
@@ -17,7 +18,7 @@ answer_head_of h = record { minor = h.minor; lines = map name_and_value h.fields
 
 -- the most bytes that the body of an answer may have: 16 MiB
 abbrev pub answer_limit : ℕ
-answer_limit = 16777216
+answer_limit = ANSWER_LIMIT
 
 -- the number, if a body may be so long
 abbrev pub within_limit : Option ℕ → Option ℕ

@@ -4,8 +4,9 @@ use Rattle.httparse.specs.Grammar.{ResponseHead, status_code}
 use Rattle.httparse.specs.Spans.{header_bytes}
 use Rattle.httparse.specs.declared.spans.HeaderSpan.{HeaderSpan}
 use Rattle.httparse.specs.declared.spans.ResponseSpans.{ResponseSpans}
+use Rattle.http_front.specs.Requests.{head_limit}
 use Rattle.io_edge.specs.Edge.{IsWhereTold, and_then_left}
-use Rattle.http_client.specs.Answers.{AnswerHead, HasAnswerHead, IsBadAnswer, IsPartOfAnswer, IsWholeAnswer, answer_head_of, answer_length}
+use Rattle.http_client.specs.Answers.{AnswerHead, HasAnswerHead, IsBadAnswer, IsPartOfAnswer, IsWholeAnswer, answer_head_of, answer_length, answer_limit}
 use Rattle.http_client.specs.declared.answer.ServerAnswer.{ServerAnswer}
 use Rattle.http_client.specs.declared.answer.TakenAnswer.{TakenAnswer}
 use Rattle.http_client.specs.declared.answer.TakenAnswer.TheVariants as taken
@@ -44,7 +45,7 @@ spanned_answer buffer headers r = record { minor = r.version; lines = map (heade
 
 -- one byte more than the longest answer that isn't whole: 16 KiB, 16 MiB and 1
 abbrev pub answer_most : ℕ
-answer_most = 16793601
+answer_most = head_limit + answer_limit + 1
 
 -- the spans are those of a head whose body is of that size, and all of it is there
 pub record IsSpannedAnswer (bytes : List ℕ) (r : ResponseSpans) (size : ℕ) : Type 0 where

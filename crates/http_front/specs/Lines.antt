@@ -2,6 +2,7 @@
 use Rattle.std.specs.Prelude.{ℕ, List, [], ◌∷◌, length, Bool, true, false, ◌&&◌, nat_le, nat_lt, if◌then◌else◌, Option, Some, None, Result, Ok, Err}
 use Rattle.std.specs.Str.{str_eq_ignore_ascii_case, bytes_eq, all_ascii_digits}
 use Rattle.std.specs.Str.Parse.{digits_value}
+use Rattle.http_front.specs.declared.head.TheConstants.{BODY_LIMIT}
 use Rattle.http_front.specs.declared.head_fault.HeadFault.{HeadFault}
 use Rattle.http_front.specs.declared.head_fault.HeadFault.TheVariants.{BadHead, NoLength, BodyTooLong}
 
@@ -31,7 +32,7 @@ all_are value (v ∷ vs) = if bytes_eq v value then all_are value vs else false
 
 -- the most bytes that a body may have: 1 MiB
 abbrev pub body_limit : ℕ
-body_limit = 1048576
+body_limit = BODY_LIMIT
 
 -- whether the bytes are 1 to 10 decimal digits
 abbrev pub is_length : List ℕ → Bool

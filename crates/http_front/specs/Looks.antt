@@ -4,7 +4,7 @@ use Rattle.httparse.specs.declared.spans.HeaderSpan.{HeaderSpan}
 use Rattle.httparse.specs.declared.spans.RequestSpans.{RequestSpans}
 use Rattle.httparse.specs.Grammar.{RequestHead}
 use Rattle.httparse.specs.Spans.{span_bytes, header_bytes}
-use Rattle.http_front.specs.Lines.{values_of}
+use Rattle.http_front.specs.Lines.{body_limit, values_of}
 use Rattle.http_front.specs.Requests.{Head, head_of, length_of, head_limit, HasHead, IsUnfinished, IsBad}
 use Rattle.http_front.specs.declared.looking.Look.{Look}
 use Rattle.http_front.specs.declared.looking.Look.TheVariants as look
@@ -33,7 +33,7 @@ pub record IsSpanned (bytes : List ℕ) (headers : List HeaderSpan) (r : Request
 
 -- one byte more than the longest request that isn't whole: 16 KiB, 1 MiB and 1
 abbrev pub most : ℕ
-most = 1064961
+most = head_limit + body_limit + 1
 
 -- what the look says of the bytes
 abbrev pub IsLook : List ℕ → List HeaderSpan → Look → Type 0

@@ -4,6 +4,8 @@ use Rattle.std.specs.Str.{bytes_eq}
 use Rattle.std.specs.List.{before_first}
 use Rattle.httparse.specs.Grammar.{RequestHead, print_request, ReadsRequest, HasNoRequest, MayBecomeRequest}
 use Rattle.httparse.specs.Spans.{name_and_value}
+use Rattle.http_front.specs.declared.head.TheConstants.{LINE_LIMIT}
+use Rattle.http_front.specs.declared.looking.TheConstants.{HEAD_LIMIT}
 use Rattle.http_front.specs.declared.head_fault.HeadFault.{HeadFault}
 use Rattle.http_front.specs.declared.head_fault.HeadFault.TheVariants.{BadHead, HeadTooLong, NoLength}
 use Rattle.http_front.specs.declared.request.Request.{Request}
@@ -24,7 +26,7 @@ head_of h = record { method = h.method; target = h.target; minor = h.minor; line
 
 -- the most field lines that a head may have
 abbrev pub line_limit : ℕ
-line_limit = 64
+line_limit = LINE_LIMIT
 
 -- whether the method is one that must state a length
 abbrev pub wants_length : List ℕ → Bool
@@ -62,7 +64,7 @@ request_of h body = record {
 
 -- the most bytes that a head may have: 16 KiB
 abbrev pub head_limit : ℕ
-head_limit = 16384
+head_limit = HEAD_LIMIT
 
 -- the bytes are a whole head within the limit, and then rest
 pub record HasHead (bytes : List ℕ) (h : RequestHead) (rest : List ℕ) : Type 0 where

@@ -3,6 +3,7 @@ use Rattle.std.specs.Prelude.{◌≡◌, ℕ, ◌<◌, ◌≤◌, List, [], ◌�
 use Rattle.io_edge.specs.Edge.{and_then_left, IsWhereTold}
 use Rattle.http_front.specs.Requests.{IsWhole, IsUnfinished, IsBad, at_end, cut, bad, IsTail}
 use Rattle.http_front.specs.Looks.{most}
+use Rattle.http_front.specs.declared.buffer.TheConstants.{PIECE}
 use Rattle.http_front.specs.declared.request.Taken.{Taken}
 use Rattle.http_front.specs.declared.request.Taken.TheVariants as taken
 use Rattle.http_front.specs.declared.buffer.Step.{Step}
@@ -21,7 +22,7 @@ Answers bytes held left taken.NoMemory = held ≡ bytes
 
 -- the most bytes that one read takes: 4 KiB
 abbrev pub piece_limit : ℕ
-piece_limit = 4096
+piece_limit = PIECE
 
 -- the bytes are neither a whole request nor refused
 abbrev pub WantsMore : List ℕ → Type 0

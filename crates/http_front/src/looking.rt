@@ -27,6 +27,7 @@ pub enum Look {
     Bad(HeadFault),
 }
 
+/// What these bytes are, with room for as many field lines as a head may hold.
 pub fn look_at(bytes: &[u8], headers: &mut [HeaderSpan]) -> Look
     requires room { length headers.old ≡ 5461 }
     ensures look { IsLook bytes.now headers.new result }

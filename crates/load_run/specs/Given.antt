@@ -1,13 +1,15 @@
 -- The settings of a load: those that have to be given, and the defaults but for the number of requests.
-use Rattle.std.specs.Prelude.{List, [], ◌∷◌, true, codes}
+use Rattle.std.specs.Prelude.{List, [], ◌∷◌, codes}
 use Rattle.net_addr.specs.Tailnet.{tailnet_v4, tailnet_v6}
 use Rattle.tailcfg.specs.declared.dns.DnsSettings.{DnsSettings}
+use Rattle.load_run.specs.declared.given.TheConstants.{REQUESTS}
+use Rattle.settings.specs.declared.defaults.TheConstants.{CONNECTIONS_DEFAULT, EPHEMERAL_SECONDS_DEFAULT, KEY_SECONDS_DEFAULT, PENDING_SECONDS_DEFAULT, POLL_TURNS_DEFAULT, PROXIED_DEFAULT, WORKERS_DEFAULT}
 use Rattle.settings.specs.declared.fields.SettingsFields.{SettingsFields}
 
 abbrev pub dns_settings : DnsSettings
 dns_settings = record {
   domains = codes "tail.example" ∷ [];
-  proxied = true;
+  proxied = PROXIED_DEFAULT;
   resolvers = [];
   routes = [];
 }
@@ -15,18 +17,18 @@ dns_settings = record {
 unfoldable pub load_settings : SettingsFields
 load_settings = record {
   base_domain = codes "tail.example";
-  connections = 0;
+  connections = CONNECTIONS_DEFAULT;
   database = codes ":memory:";
   dns = dns_settings;
-  ephemeral_seconds = 1800;
-  key_seconds = 0;
+  ephemeral_seconds = EPHEMERAL_SECONDS_DEFAULT;
+  key_seconds = KEY_SECONDS_DEFAULT;
   listen = codes "127.0.0.1:8080";
-  pending_seconds = 3600;
-  poll_turns = 1000;
+  pending_seconds = PENDING_SECONDS_DEFAULT;
+  poll_turns = POLL_TURNS_DEFAULT;
   prefix_v4 = tailnet_v4;
   prefix_v6 = tailnet_v6;
-  requests = 1000000;
+  requests = REQUESTS;
   server_url = codes "http://tail.example";
   token = codes "secret";
-  workers = 4;
+  workers = WORKERS_DEFAULT;
 }

@@ -20,7 +20,7 @@ use crate::messages::SEED;
 use crate::outside::CountedWords;
 use crate::report::report;
 use crate::run::{Run, Stopped};
-use crate::task::LoadPlan;
+use crate::task::{FIRST_MOMENT, LoadPlan};
 use crate::watched::WatchedDesk;
 use desk_front::Front;
 use io_edge::Sink;
@@ -31,9 +31,6 @@ use settings::Settings;
 use std::alloc::Global;
 use tail_base::{NoMemory, Text};
 use tailnet_desk::{Ask, Desk, Turns};
-
-/// When the seed and the registrations come.
-const FIRST_MOMENT: i64 = 1_000_000_000;
 
 /// A desk over empty tables, of whose replies nothing was heard.
 fn open_desk(alloc: Global, settings: Settings) -> Result<WatchedDesk<SureKeeper>, NoMemory>

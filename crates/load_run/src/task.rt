@@ -148,8 +148,8 @@ pub(crate) fn source_after(plan: &LoadPlan, number: u64, source: u64) -> u64
     }
 }
 
-/// When registrations come.
-const FIRST_MOMENT: i64 = 1_000_000_000;
+/// When the seed and the registrations come.
+pub(crate) const FIRST_MOMENT: i64 = 1_000_000_000;
 
 /// How many events have come when the request of this number comes, itself among them.
 fn events_by(plan: &LoadPlan, number: u64) -> u64

@@ -21,7 +21,7 @@ pub enum Ended {
     FileFault,
     /// The keeper failed at opening or loading.
     KeeperFault,
-    /// The row of this kind and id breaks a rule, or has a form that isn't served.
+    /// The row of this kind and id breaks a rule, or what is kept is no database of ours.
     Damaged { kind: Kind, id: u32 },
     /// Memory was refused before anything was read.
     NoMemory,

@@ -19,7 +19,7 @@ pub enum Status {
     WriteFault,
     /// The keeper of the tables failed.
     KeeperFault,
-    /// The tables break a rule or have a form that isn't served.
+    /// The tables break a rule, or what is kept is no database of ours.
     Damaged,
     /// Memory was refused.
     NoMemory,
