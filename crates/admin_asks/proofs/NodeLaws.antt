@@ -15,8 +15,7 @@ use Rattle.net_addr.specs.Bits.{Block}
 use Rattle.tailcfg.specs.declared.limits.TheConstants.{ROUTE_LIMIT}
 use Rattle.net_rows.specs.declared.limits.TheConstants.{TAG_LIMIT}
 use Rattle.net_rows.specs.Rows.{machine_with}
-use Rattle.net_rows.specs.Shelf.{IsOwn}
-use Rattle.net_rows.specs.Sound.{AreSound, FitsMachine}
+use Rattle.net_rows.specs.Sound.{AreSound}
 use Rattle.net_rows.specs.declared.machine.Machine.{Machine}
 use Rattle.net_rows.specs.declared.rows.Rows.{Rows}
 use Rattle.net_rows.proofs.Members.{list_any_member}
@@ -32,6 +31,7 @@ use Rattle.desk_state.proofs.RowLemmas.{row_sound}
 use Rattle.desk_state.proofs.SoundChanges.{gone_change}
 use Rattle.admin_asks.specs.Nodes.{changed_node, ends_at, expired_node, expire_node, is_name_taken, renamed_node, rename, same_node, tagged_node, set_tags, drop_node}
 use Rattle.admin_asks.proofs.NamedLaws.{row_there}
+use Rattle.net_rows.proofs.Puttable.{IsOwn, FitsMachine}
 
 -- the row with another name, other tags, other approvals and another expiry
 abbrev pub row_with : Machine → List ℕ → List (List ℕ) → List Block → Option ℤ → Machine

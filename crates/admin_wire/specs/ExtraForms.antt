@@ -3,13 +3,13 @@ use Rattle.std.specs.Prelude.{ℕ, Bool, ◌||◌, ◌==◌, List, [], ◌∷◌
 use Rattle.std.specs.Str.{bytes_eq}
 use Rattle.serde_json.specs.Data.{Data, Items, no_items, item}
 use Rattle.serde_json.specs.Find.{as_object, as_str}
-use Rattle.tail_base.specs.Steps.{refuse_unless}
+use Rattle.tail_base.specs.Steps.{◌>>=◌, or_fault, refuse_unless}
 use Rattle.net_addr.specs.AddrTexts.{addr_of_text}
 use Rattle.net_addr.specs.Bits.{Address}
 use Rattle.tailcfg.specs.declared.dns.DnsExtra.{DnsExtra}
 use Rattle.settings.specs.Settings.{is_domain}
 use Rattle.net_rows.specs.declared.limits.TheConstants.{EXTRA_LIMIT}
-use Rattle.wire_json.specs.Body.{◌>>=◌, body_value, list_at, or_fault}
+use Rattle.wire_json.specs.Body.{body_value, list_at}
 use Rattle.wire_json.specs.Readers.{optional, required, short_array}
 use Rattle.wire_json.specs.declared.admin_field.AdminField.TheVariants as admin
 use Rattle.wire_json.specs.declared.fault.WireFault.{WireFault}

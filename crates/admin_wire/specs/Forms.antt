@@ -7,7 +7,8 @@ use Rattle.net_addr.specs.Bits.{Block}
 use Rattle.net_addr.specs.Routes.{sorted_routes}
 use Rattle.tailcfg.specs.declared.limits.TheConstants.{ASKED_TAG_LIMIT, ROUTE_LIMIT}
 use Rattle.net_rows.specs.declared.limits.TheConstants.{TAG_LIMIT}
-use Rattle.wire_json.specs.Body.{◌>>=◌, object_at, body_value}
+use Rattle.tail_base.specs.Steps.{◌>>=◌}
+use Rattle.wire_json.specs.Body.{object_at, body_value}
 use Rattle.wire_json.specs.Readers.{required, optional, some_time, short_list}
 use Rattle.wire_json.specs.Register.{prefix_spelled}
 use Rattle.wire_json.specs.declared.admin_field.AdminField.{AdminField}

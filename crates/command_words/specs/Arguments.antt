@@ -16,6 +16,7 @@ use Rattle.command_words.specs.declared.line.CommandKind.{CommandKind}
 use Rattle.command_words.specs.declared.line.CommandKind.TheVariants as kind
 use Rattle.command_words.specs.declared.line.OperatorKind.{OperatorKind}
 use Rattle.command_words.specs.declared.line.OperatorKind.TheVariants as operator
+use Rattle.command_words.specs.declared.values.TheConstants.{EVENT_LIMIT, ID_LIMIT, MACHINE_LIMIT}
 
 -- the value of an argument that may be left out
 abbrev pub given_option : Argument → List Row → Option Text
@@ -35,14 +36,14 @@ given_number x least greatest rows = number_in 10 least greatest (given_text x r
 
 -- the number that is the id
 abbrev pub given_id : List Row → Option ℕ
-given_id rows = given_number argument.Id 1 2147483647 rows
+given_id rows = given_number argument.Id 1 ID_LIMIT rows
 
 -- how many machines and how many events a load has
 abbrev pub given_machines : List Row → Option ℕ
-given_machines rows = given_number argument.Machines 1 512 rows
+given_machines rows = given_number argument.Machines 1 MACHINE_LIMIT rows
 
 abbrev pub given_events : List Row → Option ℕ
-given_events rows = given_number argument.Events 0 100000 rows
+given_events rows = given_number argument.Events 0 EVENT_LIMIT rows
 
 -- what is asked, if both numbers keep their rules
 abbrev pub load_of : List Row → Option Invocation

@@ -9,10 +9,10 @@ use std::alloc::Global;
 use tail_base::{NoMemory, Text, number_in};
 
 /// The most that an id may be.
-const ID_LIMIT: u64 = 2_147_483_647;
+const ID_LIMIT: u64 = net_rows::COUNTER_LIMIT as u64;
 
 /// The most machines and the most events of a load.
-const MACHINE_LIMIT: u64 = 512;
+const MACHINE_LIMIT: u64 = net_rows::MACHINE_LIMIT as u64;
 
 const EVENT_LIMIT: u64 = 100_000;
 

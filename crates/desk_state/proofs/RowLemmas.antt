@@ -8,8 +8,8 @@ use Rattle.tailcfg.specs.declared.limits.TheConstants.{HOST_LIMIT, ROUTE_LIMIT}
 use Rattle.net_rows.specs.declared.limits.TheConstants.{COUNTER_LIMIT, MACHINE_LIMIT, TAG_LIMIT}
 use Rattle.net_rows.specs.Room.{has_room}
 use Rattle.net_rows.specs.Rows.{after, machine_of}
-use Rattle.net_rows.specs.Shelf.{HasRow, IsOwn, put_row, without}
-use Rattle.net_rows.specs.Sound.{AreSound, FitsMachine, FitsKey, MachineKeeps}
+use Rattle.net_rows.specs.Shelf.{HasRow, put_row, without}
+use Rattle.net_rows.specs.Sound.{AreSound, MachineKeeps}
 use Rattle.net_rows.specs.declared.change.Kind.TheVariants as kind
 use Rattle.net_rows.specs.declared.key.AuthKey.{AuthKey}
 use Rattle.net_rows.specs.declared.machine.Machine.{Machine}
@@ -34,6 +34,7 @@ use Rattle.desk_state.specs.Rows.{is_taken, kept_place, machine_row, new_place, 
 use Rattle.desk_state.specs.declared.entrant.Entrant.{Entrant}
 use Rattle.desk_state.specs.declared.place.Place.{Place}
 use Rattle.settings.specs.Settings.{AreSettings}
+use Rattle.net_rows.proofs.Puttable.{IsOwn, FitsMachine, FitsKey}
 
 -- what a row takes anew keeps the rules of rows
 pub record EntrantKeeps (users : List User) (e : Entrant) : Type 0 where

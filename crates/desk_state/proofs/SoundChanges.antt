@@ -3,7 +3,6 @@ use Rattle.std.proofs.Common.{◌≡◌, ◌≢◌, ◌≤◌, ℕ, false, List,
 use Rattle.std.specs.Prelude.{Contains, IfSome}
 use Rattle.tail_base.specs.declared.key.MachineKey.{MachineKey}
 use Rattle.net_rows.specs.Rows.{after, machine_of}
-use Rattle.net_rows.specs.Shelf.{IsOwn}
 use Rattle.net_rows.specs.Sound.{AreSound, MachineKeeps}
 use Rattle.net_rows.specs.declared.change.Counters.{Counters}
 use Rattle.net_rows.specs.declared.key.AuthKey.{AuthKey}
@@ -21,6 +20,7 @@ use Rattle.desk_state.specs.declared.entrant.Entrant.{Entrant}
 use Rattle.desk_state.specs.declared.place.Place.{Place}
 use Rattle.desk_state.proofs.Rests.{gone_differs, replaced_differs}
 use Rattle.desk_state.proofs.RowLemmas.{EntrantKeeps, StandsAs, enter_sound, new_place_is, replaced_sound}
+use Rattle.net_rows.proofs.Puttable.{IsOwn}
 
 -- the counter of machines alone rises
 machines_rise : (next : Counters) (n : ℕ) → next.machine ≤ n → IsNoLess next (record next { machine = n })

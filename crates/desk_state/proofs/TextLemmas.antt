@@ -10,12 +10,12 @@ use Rattle.std.proofs.lemmas.Slice.Eq.{starts_is}
 use Rattle.std.proofs.Math.Seq.{drop-append_seam}
 use Rattle.tail_base.proofs.NumberLemmas.{decimal_digits}
 use Rattle.net_rows.specs.Damage.{names_id, names_key}
-use Rattle.net_rows.specs.Shelf.{IsOwn}
 use Rattle.net_rows.specs.declared.rows.Rows.{Rows}
 use Rattle.net_rows.specs.Sound.{AreSound}
 use Rattle.net_rows.specs.declared.key.AuthKey.{AuthKey}
 use Rattle.net_rows.specs.declared.pending.Pending.{Pending}
 use Rattle.desk_state.specs.Texts.{digits_of, row_text}
+use Rattle.net_rows.proofs.Puttable.{IsOwn}
 
 same_byte : (x : ℕ) → nat_eq x x ≡ true
 same_byte x = grind arith

@@ -3,3 +3,4 @@ pub mod Door
 pub mod Edge
 pub mod Named
 pub mod Stream
+pub mod Linked

@@ -5,7 +5,7 @@ use Rattle.std.specs.Str.{bytes_eq}
 use Rattle.tail_base.specs.declared.key.MachineKey.{MachineKey}
 use Rattle.net_rows.specs.declared.limits.TheConstants.{COUNTER_LIMIT, PENDING_LIMIT}
 use Rattle.net_rows.specs.Rows.{after, pending_of}
-use Rattle.net_rows.specs.Sound.{AreSound, FitsPending}
+use Rattle.net_rows.specs.Sound.{AreSound}
 use Rattle.net_rows.specs.declared.change.Counters.{Counters}
 use Rattle.net_rows.specs.declared.pending.Pending.{Pending}
 use Rattle.net_rows.specs.declared.rows.Rows.{Rows}
@@ -24,6 +24,7 @@ use Rattle.desk_state.specs.declared.refusal.Scarce.TheVariants as scarce
 use Rattle.desk_state.proofs.Proper.{proper_if, proper_none, proper_or, proper_refuse, proper_some, sound_change}
 use Rattle.desk_state.proofs.TextLemmas.{fresh_pending_text, row_text_names}
 use Rattle.machine_asks.specs.Waiting.{entry_change, has_place, new_entry, pending_left, wait, wait_anew, wait_as, waiting_entered, waits, waits_on}
+use Rattle.net_rows.proofs.Puttable.{FitsPending}
 
 -- the tables without the entry that goes
 abbrev left : Rows → Option Pending → Rows

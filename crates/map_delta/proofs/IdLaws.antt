@@ -11,6 +11,11 @@ use Rattle.net_rows.proofs.PutLemmas.{IsAscending-put}
 use Rattle.net_rows.proofs.RowAt.{row_at_below}
 use Rattle.peer_view.proofs.ListLemmas.{filter_member}
 use Rattle.map_delta.specs.Puts.{put_rows}
+use Rattle.tailcfg.specs.declared.patch.Patch.{Patch}
+
+-- the id of a patch
+abbrev pub patch_id : Patch → ℕ
+patch_id patch = patch.id
 
 -- what an option holds, if it passes
 abbrev pub kept : {T : Type 0} → (T → Bool) → Option T → Option T

@@ -13,8 +13,8 @@ use Rattle.same_maps.proofs.NodeLemmas.{node_itself}
 use Rattle.map_delta.specs.Delta.{changed_rows, is_sent_whole, patch_for, patches_between, removed_ids}
 use Rattle.map_delta.specs.Fold.{lists_id}
 use Rattle.map_delta.specs.Listed.{changed_listed, gone_at, patch_at, patches_listed, removed_listed, whole_at}
-use Rattle.map_delta.specs.Puts.{node_id, patch_id}
-use Rattle.map_delta.proofs.IdLaws.{ascending_filter_map, kept, row_at-filter_ids, row_at-filter_map, row_at-map, row_at_id}
+use Rattle.map_delta.specs.Puts.{node_id}
+use Rattle.map_delta.proofs.IdLaws.{ascending_filter_map, kept, row_at-filter_ids, row_at-filter_map, row_at-map, row_at_id, patch_id}
 use Rattle.map_delta.proofs.PeerLemmas.{ascending_patches, changed_at_id, patch_of, patches_at_id}
 
 abbrev number : ℕ → ℕ

@@ -20,8 +20,8 @@ use Rattle.same_maps.proofs.PartLemmas.{endpoints_equal, lists_equal}
 use Rattle.fresh_maps.specs.Profiles.{owns_any}
 use Rattle.map_delta.specs.Delta.{can_patch, is_nil, patch_between, new_unless}
 use Rattle.map_delta.specs.Fold.{is_zero_key, patch_rows, patched, patched_derp, patched_disco, patched_endpoints, patched_if}
-use Rattle.map_delta.specs.Puts.{node_id, patch_id}
-use Rattle.map_delta.proofs.IdLaws.{none_behind, row_at-map, row_at_id}
+use Rattle.map_delta.specs.Puts.{node_id}
+use Rattle.map_delta.proofs.IdLaws.{none_behind, row_at-map, row_at_id, patch_id}
 
 -- ---- one patch
 

@@ -12,8 +12,8 @@ use Rattle.same_maps.specs.Nodes.{same_node_row}
 use Rattle.same_maps.proofs.NodeLemmas.{node_itself, nodes_equal}
 use Rattle.map_delta.specs.Delta.{can_patch, changed_rows, is_sent_whole, patch_between, patch_for, patches_between, removed_ids}
 use Rattle.map_delta.specs.Fold.{lists_id, left_rows, patch_rows}
-use Rattle.map_delta.specs.Puts.{node_id, patch_id, put_rows}
-use Rattle.map_delta.proofs.IdLaws.{any_id, ascending_filter_map, ascending_put_rows, kept, row_at-filter, row_at-filter_ids, row_at-filter_map, row_at-put_rows, row_at_id}
+use Rattle.map_delta.specs.Puts.{node_id, put_rows}
+use Rattle.map_delta.proofs.IdLaws.{any_id, ascending_filter_map, ascending_put_rows, kept, row_at-filter, row_at-filter_ids, row_at-filter_map, row_at-put_rows, row_at_id, patch_id}
 use Rattle.map_delta.proofs.PatchLemmas.{ascending_patch_rows, patch_rows_at, patched_by, patched_is}
 
 -- the row between a change and patches

@@ -11,7 +11,7 @@ use tail_base::{NoMemory, Text};
 const YEAR_ONE: u32 = 3_652_425;
 
 /// The date so many days after 0001-01-01, up to 9999-12-31.
-fn date_after(days: u32) -> Date
+pub fn date_after(days: u32) -> Date
     requires inside { days ≤ 3652058 }
     ensures year { result.year ≡ pos (date_after days).year }
     ensures month { result.month ≡ (date_after days).month }

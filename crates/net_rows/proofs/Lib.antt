@@ -1,3 +1,4 @@
+pub mod Puttable
 pub mod Members
 pub mod HeldLemmas
 pub mod Empty

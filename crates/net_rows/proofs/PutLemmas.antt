@@ -1,9 +1,10 @@
 -- What putting and removing a row keeps of one list.
 use Rattle.std.proofs.Common.{◌≡◌, ◌<◌, ◌≤◌, ◌+◌, ℕ, suc, List, [], ◌∷◌, length, arith, ◌⊎◌, inl, inr, sym, ◌∙◌, ap, refl, ◌==◌, nat_lt}
 use Rattle.std.specs.Prelude.{Contains}
-use Rattle.net_rows.specs.Shelf.{put_row, IsAscending, AreBelow, Tells, IsOwn, HasRow}
+use Rattle.net_rows.specs.Shelf.{put_row, IsAscending, AreBelow, Tells, HasRow}
 use Rattle.std.proofs.lemmas.Bool.{cases_Bool}
 use Rattle.net_rows.proofs.Members.{no_member, cut_member, first_member, rest_member}
+use Rattle.net_rows.proofs.Puttable.{IsOwn}
 
 -- what is put is the row or one that was there
 pub put_member : {T : Type 0} (id : T → ℕ) (xs : List T) (x a : T) → Contains (put_row id xs x) a → (a ≡ x) ⊎ Contains xs a

@@ -4,13 +4,14 @@ use Rattle.std.specs.Prelude.{Some, length}
 use Rattle.net_rows.specs.declared.limits.TheConstants.{COUNTER_LIMIT, USER_LIMIT, KEY_LIMIT, PENDING_LIMIT, MACHINE_LIMIT, EXTRA_LIMIT, POLICY_LIMIT}
 use Rattle.net_rows.specs.Shelf.{put_row}
 use Rattle.net_rows.specs.Rows.{Rows}
-use Rattle.net_rows.specs.Sound.{AreSound, KeyKeeps, MachineKeeps, PendingKeeps, FitsUser, FitsKey, FitsPending, FitsMachine}
+use Rattle.net_rows.specs.Sound.{AreSound, KeyKeeps, MachineKeeps, PendingKeeps}
 use Rattle.net_rows.specs.declared.user.User.{User}
 use Rattle.net_rows.specs.declared.key.AuthKey.{AuthKey}
 use Rattle.net_rows.specs.declared.pending.Pending.{Pending}
 use Rattle.net_rows.specs.declared.machine.Machine.{Machine}
 use Rattle.tailcfg.specs.declared.dns.DnsExtra.{DnsExtra}
 use Rattle.net_rows.proofs.PutLemmas.{Tells-put, IsAscending-put, AreBelow-put, HasRow-put, count-put, keeps-put}
+use Rattle.net_rows.proofs.Puttable.{FitsUser, FitsKey, FitsPending, FitsMachine}
 
 -- a key that keeps its rules keeps them where a user is put
 key_keeps : (users : List User) (u : User) (k : AuthKey) → KeyKeeps users k → KeyKeeps (put_row (λ r. r.id) users u) k

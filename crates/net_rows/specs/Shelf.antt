@@ -31,10 +31,6 @@ AreBelow {T} id next xs = (a : T) → Contains xs a → (1 ≤ id a) × (id a < 
 abbrev pub Tells : {T K : Type 0} → (T → ℕ) → (T → K) → List T → Type 0
 Tells {T} id f xs = (a b : T) → Contains xs a → Contains xs b → f a ≡ f b → id a ≡ id b
 
--- No row of another id has it.
-abbrev pub IsOwn : {T K : Type 0} → (T → ℕ) → (T → K) → List T → T → Type 0
-IsOwn {T} id f xs x = (a : T) → Contains xs a → f a ≡ f x → id a ≡ id x
-
 -- A row has this id.
 abbrev pub HasRow : {T : Type 0} → (T → ℕ) → List T → ℕ → Type 0
 HasRow {T} id xs n = (x : T) × Contains xs x × (id x ≡ n)

@@ -1,10 +1,10 @@
 -- The rules of the tables, one by one: what holds wherever there is no damage.
-use Rattle.std.specs.Prelude.{◌≡◌, ◌≤◌, ◌<◌, ℕ, true, List, length, codes, Contains, IfSome, ◌⊎◌}
+use Rattle.std.specs.Prelude.{◌≡◌, ◌≤◌, ℕ, true, List, length, codes, Contains, IfSome}
 use Rattle.tailcfg.specs.declared.limits.TheConstants.{ENDPOINT_LIMIT, ROUTE_LIMIT, ASKED_TAG_LIMIT, HOST_LIMIT}
 use Rattle.net_rows.specs.declared.limits.TheConstants.{COUNTER_LIMIT, USER_LIMIT, KEY_LIMIT, PENDING_LIMIT, MACHINE_LIMIT, EXTRA_LIMIT, TAG_LIMIT, POLICY_LIMIT}
 use Rattle.net_addr.specs.Tailnet.{tailnet_v4, tailnet_v6}
 use Rattle.net_addr.specs.Blocks.{holds}
-use Rattle.net_rows.specs.Shelf.{IsAscending, AreBelow, Tells, IsOwn, HasRow}
+use Rattle.net_rows.specs.Shelf.{IsAscending, AreBelow, Tells, HasRow}
 use Rattle.net_rows.specs.Damage.{names_id, names_key}
 use Rattle.net_rows.specs.Rows.{Rows}
 use Rattle.net_rows.specs.declared.user.User.{User}
@@ -92,33 +92,3 @@ pub record AreSound (t : Rows) : Type 0 where
   pub machines : AreMachines t.users t.machines t.next.machine
   pub extras : length t.extras ≤ EXTRA_LIMIT
   pub policy : IfSome t.policy (λ text. length text ≤ POLICY_LIMIT)
-
--- The row may be put: it breaks no rule beside the rows of other ids, and either there is room or it
--- replaces the row of its id.
-pub record FitsUser (t : Rows) (u : User) : Type 0 where
-  pub id : 1 ≤ u.id
-  pub room : (length t.users < USER_LIMIT) ⊎ HasRow (λ r. r.id) t.users u.id
-  pub login : IsOwn (λ r. r.id) (λ r. r.login) t.users u
-
-pub record FitsKey (t : Rows) (k : AuthKey) : Type 0 where
-  pub id : 1 ≤ k.id
-  pub room : (length t.keys < KEY_LIMIT) ⊎ HasRow (λ r. r.id) t.keys k.id
-  pub text : IsOwn (λ r. r.id) (λ r. r.text) t.keys k
-  pub keeps : KeyKeeps t.users k
-
-pub record FitsPending (t : Rows) (p : Pending) : Type 0 where
-  pub id : 1 ≤ p.id
-  pub room : (length t.pending < PENDING_LIMIT) ⊎ HasRow (λ r. r.id) t.pending p.id
-  pub text : IsOwn (λ r. r.id) (λ r. r.text) t.pending p
-  pub machine_key : IsOwn (λ r. r.id) (λ r. r.machine.0) t.pending p
-  pub keeps : PendingKeeps p
-
-pub record FitsMachine (t : Rows) (m : Machine) : Type 0 where
-  pub id : 1 ≤ m.id
-  pub room : (length t.machines < MACHINE_LIMIT) ⊎ HasRow (λ r. r.id) t.machines m.id
-  pub machine_key : IsOwn (λ r. r.id) (λ r. r.machine.0) t.machines m
-  pub node_key : IsOwn (λ r. r.id) (λ r. r.node.0) t.machines m
-  pub name : IsOwn (λ r. r.id) (λ r. r.name) t.machines m
-  pub v4 : IsOwn (λ r. r.id) (λ r. r.v4) t.machines m
-  pub v6 : IsOwn (λ r. r.id) (λ r. r.v6) t.machines m
-  pub keeps : MachineKeeps t.users m

@@ -1,4 +1,4 @@
--- What writes and reads of a link come to.
+-- What writes and reads of a link result in.
 use Rattle.std.proofs.Common.{◌≡◌, ◌≤◌, ℕ, Bool, true, false, Option, List, [], ◌++◌, Result, Ok, Err, refl, sym, ap, ◌∙◌, subst, inr, inl, arith}
 use Rattle.run_ends.specs.Pieces.{Wrote}
 use Rattle.run_ends.proofs.Writes.{wrote_more}
@@ -8,7 +8,8 @@ use Rattle.http_client.specs.Answers.{IsBadAnswer}
 use Rattle.http_client.specs.Taking.{TakesAnswer}
 use Rattle.http_client.specs.declared.answer.TakenAnswer.TheVariants as taken
 use Rattle.http_client.specs.declared.answer.ServerAnswer.{ServerAnswer}
-use Rattle.operator_commands.specs.Exchange.{Exchanged, IsAnswerRead, IsRequestSent, LinkPoint, Met, ReadNone, Replied, RequestWritten, Unwritten}
+use Rattle.io_edge.specs.Linked.{LinkTold}
+use Rattle.operator_commands.specs.Exchange.{Exchanged, IsAnswerRead, IsRequestSent, Met, ReadNone, Replied, RequestWritten, Unwritten}
 use Rattle.operator_commands.specs.declared.unanswered.Unanswered.{Unanswered}
 use Rattle.operator_commands.specs.declared.unanswered.Unanswered.TheVariants as fault
 
@@ -50,7 +51,7 @@ read_earlier left left_after before mid now (Err fault.FileFault) le r = r
 read_earlier left left_after before mid now (Err fault.TooLarge) le r = r
 
 -- connected, a write failed
-pub unwritten : (address bytes : List ℕ) (old met new : LinkPoint) → Met address old met → RequestWritten bytes true met new → Unwritten address bytes old new (Err fault.WriteFault)
+pub unwritten : (address bytes : List ℕ) (old met new : LinkTold) → Met address old met → RequestWritten bytes true met new → Unwritten address bytes old new (Err fault.WriteFault)
 unwritten address bytes old met new m w = record {
   asked = w.asked ∙ m.asked;
   left = w.left ∙ m.left;
@@ -68,7 +69,7 @@ unwritten address bytes old met new m w = record {
 }
 
 -- a request that wasn't sent
-pub unsent : (address bytes : List ℕ) (old met new : LinkPoint) (why : Unanswered) → Met address old met → IsRequestSent bytes met new (Err why)
+pub unsent : (address bytes : List ℕ) (old met new : LinkTold) (why : Unanswered) → Met address old met → IsRequestSent bytes met new (Err why)
     → Exchanged address bytes old new (Err why)
 unsent address bytes old met new fault.WriteFault m w = inr (inl (unwritten address bytes old met new m w))
 unsent address bytes old met new fault.ReadFault m w = absurd w
@@ -77,7 +78,7 @@ unsent address bytes old met new fault.FileFault m w = absurd w
 unsent address bytes old met new fault.TooLarge m w = absurd w
 
 -- connected, written whole, and an answer was read or none was
-pub replied : (address bytes : List ℕ) (old met sent new : LinkPoint) (answer : Result ServerAnswer Unanswered) → Met address old met → RequestWritten bytes false met sent
+pub replied : (address bytes : List ℕ) (old met sent new : LinkTold) (answer : Result ServerAnswer Unanswered) → Met address old met → RequestWritten bytes false met sent
     → new.asked ≡ sent.asked → new.holds ≡ sent.holds → IsAnswerRead sent.left new.left sent.read_faults new.read_faults answer → Replied address bytes old new answer
 replied address bytes old met sent new answer m w asked holds read = record {
   asked = asked ∙ w.asked ∙ m.asked;

@@ -1,8 +1,9 @@
--- What an answer is told as, and what a command comes to.
+-- What an answer is told as, and what a command results in.
 use Rattle.std.specs.Prelude.{◌≡◌, ◌⊎◌, ℕ, Bool, false, true, Option, List, [], ◌∷◌, ◌++◌, codes, if◌then◌else◌, nat_le, ◌&&◌, Result, Ok, Err}
 use Rattle.command_words.specs.declared.invocation.OperatorCall.{OperatorCall}
 use Rattle.http_client.specs.declared.answer.ServerAnswer.{ServerAnswer}
-use Rattle.operator_commands.specs.Exchange.{Exchanged, LinkPoint, call_bytes, link_point}
+use Rattle.io_edge.specs.Linked.{LinkTold, link_told}
+use Rattle.operator_commands.specs.Exchange.{Exchanged, call_bytes}
 use Rattle.operator_commands.specs.Filed.{IsFileRead}
 use Rattle.operator_commands.specs.declared.unanswered.Unanswered.{Unanswered}
 use Rattle.operator_commands.specs.declared.unanswered.Unanswered.TheVariants as fault
@@ -23,13 +24,13 @@ sink_point holds faults s = record { holds = holds s; faults = faults s }
 -- ---- the request
 
 -- what follows a file that was read or not: without it nothing is asked
-abbrev pub IsAskedAfter : OperatorCall → Result (List ℕ) Unanswered → LinkPoint → LinkPoint → Result ServerAnswer Unanswered → Type 0
+abbrev pub IsAskedAfter : OperatorCall → Result (List ℕ) Unanswered → LinkTold → LinkTold → Result ServerAnswer Unanswered → Type 0
 IsAskedAfter call (Err why) old new answer = (answer ≡ Err why) × (new ≡ old)
 IsAskedAfter call (Ok file) old new answer =
     ((answer ≡ Err fault.NoMemory) × (new ≡ old)) ⊎ Exchanged call.server (call_bytes call file) old new answer
 
 -- A command first reads its file, if it has one, and then asks its server.
-pub record ServerAsked (call : OperatorCall) (files : List ℕ → Option (Option (List ℕ))) (faults faults_after : ℕ) (old new : LinkPoint)
+pub record ServerAsked (call : OperatorCall) (files : List ℕ → Option (Option (List ℕ))) (faults faults_after : ℕ) (old new : LinkTold)
     (answer : Result ServerAnswer Unanswered) : Type 0 where
   pub file : Result (List ℕ) Unanswered
   pub filed : IsFileRead (file_of call.command) files faults faults_after file
@@ -98,7 +99,7 @@ pub record OperatorPoint : Type 0 where
   pub file_faults : ℕ
   pub output : SinkPoint
   pub errors : SinkPoint
-  pub link : LinkPoint
+  pub link : LinkTold
 
 abbrev pub operator_point : {F O E L : Type 0} → (F → List ℕ → Option (Option (List ℕ))) → (F → ℕ) → (O → Option (List ℕ)) → (O → ℕ) → (E → Option (List ℕ)) → (E → ℕ)
     → (L → Option (List ℕ)) → (L → ℕ) → (L → Option (List ℕ)) → (L → ℕ) → (L → Option (List (List ℕ))) → F → O → E → L → OperatorPoint
@@ -107,7 +108,7 @@ operator_point files file_faults output output_faults errors error_faults left r
   file_faults = file_faults f;
   output = sink_point output output_faults o;
   errors = sink_point errors error_faults e;
-  link = link_point left read_faults holds write_faults asked l;
+  link = link_told left read_faults holds write_faults asked l;
 }
 
 -- One request was sent and its answer told, or why not; then the line of the status went to errors, which stood at `told` before it.

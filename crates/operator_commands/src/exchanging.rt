@@ -3,7 +3,8 @@ ghost use Rattle.std.specs.Prelude.{◌≡◌};
 ghost use Rattle.io_edge.specs.Edge.{Rose};
 ghost use Rattle.http_client.specs.Taking.{TakesAnswer};
 ghost use Rattle.http_client.specs.declared.answer.TakenAnswer.TheVariants.{ReadFault};
-ghost use Rattle.operator_commands.specs.Exchange.{Exchanged, IsAnswerRead, IsConnected, IsRequestSent, link_point};
+ghost use Rattle.io_edge.specs.Linked.{link_told};
+ghost use Rattle.operator_commands.specs.Exchange.{Exchanged, IsAnswerRead, IsConnected, IsRequestSent};
 
 use crate::unanswered::Unanswered;
 use http_client::{ServerAnswer, TakenAnswer, read_answer};
@@ -14,7 +15,7 @@ use std::alloc::Global;
 
 /// Connects the link to the address.
 fn connect<L: Link>(alloc: Global, link: &mut L, address: &str) -> Result<(), Unanswered>
-    ensures connected { let at = link_point L.left L.read_faults L.holds L.write_faults L.asked in
+    ensures connected { let at = link_told L.left L.read_faults L.holds L.write_faults L.asked in
         IsConnected address.now (at link.old) (at link.new) result }
 {
     match link.connect(alloc, address) {
@@ -26,7 +27,7 @@ fn connect<L: Link>(alloc: Global, link: &mut L, address: &str) -> Result<(), Un
 
 /// Writes the bytes whole.
 fn send_all<L: Link>(link: &mut L, bytes: &[u8]) -> Result<(), Unanswered>
-    ensures sent { let at = link_point L.left L.read_faults L.holds L.write_faults L.asked in
+    ensures sent { let at = link_told L.left L.read_faults L.holds L.write_faults L.asked in
         IsRequestSent bytes.now (at link.old) (at link.new) result }
 {
     match write_all(link, bytes) {
@@ -71,7 +72,7 @@ pub(crate) fn exchange<L: Link>(
     address: &str,
     bytes: &[u8],
 ) -> Result<ServerAnswer, Unanswered>
-    ensures exchanged { let at = link_point L.left L.read_faults L.holds L.write_faults L.asked in
+    ensures exchanged { let at = link_told L.left L.read_faults L.holds L.write_faults L.asked in
         Exchanged address.now bytes.now (at link.old) (at link.new) result }
 {
     connect(alloc, link, address)?;

@@ -1,6 +1,6 @@
 //! An operator's command.
 ghost use Rattle.std.specs.Prelude.{◌≡◌};
-ghost use Rattle.operator_commands.specs.Exchange.{link_point};
+ghost use Rattle.io_edge.specs.Linked.{link_told};
 ghost use Rattle.operator_commands.specs.Operated.{ServerAsked, Operated, command_line, operator_point};
 
 use crate::asking::call_bytes;
@@ -22,7 +22,7 @@ fn ask_server<F: Files, L: Link>(
     files: &mut F,
     link: &mut L,
 ) -> Result<ServerAnswer, Unanswered>
-    ensures asked { let at = link_point L.left L.read_faults L.holds L.write_faults L.asked in
+    ensures asked { let at = link_told L.left L.read_faults L.holds L.write_faults L.asked in
         ServerAsked call.now (F.holds files.old) (F.faults files.old) (F.faults files.new)
         (at link.old) (at link.new) result }
 {

@@ -14,7 +14,7 @@ use Rattle.policy_rows.specs.declared.rule.Rule.{Rule}
 use Rattle.policy_rows.specs.declared.selector.Selector.{Selector}
 use Rattle.policy_sites.specs.Beyond.{covers_into}
 use Rattle.policy_sites.specs.ByRule.{IsSoundSite, covers_served, covers_site, site_end}
-use Rattle.policy_eval.specs.Covering.{AreIndexed, Covering, IsCovering, IsGrown, beyond_at, cover_flag, covers_by, flag_at, flags_by, has_site, place_nets, served_at, some_flag}
+use Rattle.policy_eval.specs.Covering.{AreIndexed, Covering, IsCovering, IsGrown, beyond_at, cover_flag, flag_at, flags_by, has_site, place_nets, served_at, some_flag}
 use Rattle.policy_sites.specs.Covers.{covers}
 use Rattle.policy_sites.specs.Ends.{end_at}
 use Rattle.policy_eval.specs.Expansion.{AreFlags, AreMatched, CoverFits, IsCoverAt, IsSetOf, source_covers}
@@ -25,6 +25,10 @@ use Rattle.policy_sites.specs.declared.site.Site.{Site}
 use Rattle.policy_sites.proofs.EndLemmas.{own_end}
 use Rattle.policy_eval.proofs.MatchLemmas.{matched_more}
 use Rattle.policy_sites.proofs.OwnLemmas.{has_v4, has_v6}
+
+-- whether the selector covers something that a site serves, or one of its own ends
+abbrev pub covers_by : Bool → List Group → Site → Selector → Bool
+covers_by served groups site selector = if served then covers_served groups site selector else covers_site groups site selector
 
 -- ---- places of lists
 

@@ -7,7 +7,7 @@ use Rattle.range_sets.specs.Sets.{Ranges, has}
 use Rattle.policy_rows.specs.declared.group.Group.{Group}
 use Rattle.policy_rows.specs.declared.selector.Selector.{Selector}
 use Rattle.policy_sites.specs.Beyond.{covers_into}
-use Rattle.policy_sites.specs.ByRule.{IsSoundSite, covers_served, covers_site}
+use Rattle.policy_sites.specs.ByRule.{IsSoundSite}
 use Rattle.policy_eval.specs.Expansion.{CoverFits}
 use Rattle.policy_sites.specs.Sites.{AreDistinct, serves_beyond}
 use Rattle.policy_eval.specs.declared.cover.Cover.{Cover}
@@ -56,10 +56,6 @@ flag_at flags at = option_map_or (λ flag. flag) (slice_get flags at) false
 -- of each site whether the selector covers something that it serves, or one of its own ends
 abbrev pub flags_by : Bool → Cover → List Bool
 flags_by served cover = if served then cover.served else cover.flags
-
--- the same of a selector and a site
-abbrev pub covers_by : Bool → List Group → Site → Selector → Bool
-covers_by served groups site selector = if served then covers_served groups site selector else covers_site groups site selector
 
 -- the flag of a cover, which stands at the first place, for the site at the second
 abbrev pub cover_flag : Bool → List Cover → ℕ → ℕ → Bool

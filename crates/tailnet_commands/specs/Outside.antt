@@ -1,5 +1,6 @@
 -- All that a run may touch, and what it tells at a moment.
 use Rattle.std.specs.Prelude.{ℕ, ℤ, Option, List}
+use Rattle.io_edge.specs.Linked.{LinkTold}
 use Rattle.io_edge.specs.Door.{Finished, Opening}
 use Rattle.net_rows.specs.declared.rows.Rows.{Rows}
 use Rattle.connections.specs.Connection.{Told, told}
@@ -13,23 +14,6 @@ pub record DoorsTold : Type 0 where
 
 abbrev pub doors_told : {D : Type 0} → (D → Option (List (List (List ℕ)))) → (D → Option (List (List Finished))) → (D → Option (List Opening)) → (D → ℕ) → D → DoorsTold
 doors_told coming finished asked faults d = record { coming = coming d; finished = finished d; asked = asked d; faults = faults d }
-
--- what a link tells: its bytes left and written, the addresses that it was asked for, and its counts of faults
-pub record LinkTold : Type 0 where
-  pub left : Option (List ℕ)
-  pub holds : Option (List ℕ)
-  pub asked : Option (List (List ℕ))
-  pub read_faults : ℕ
-  pub write_faults : ℕ
-
-abbrev pub link_told : {L : Type 0} → (L → Option (List ℕ)) → (L → ℕ) → (L → Option (List ℕ)) → (L → ℕ) → (L → Option (List (List ℕ))) → L → LinkTold
-link_told left read_faults holds write_faults asked l = record {
-  left = left l;
-  holds = holds l;
-  asked = asked l;
-  read_faults = read_faults l;
-  write_faults = write_faults l;
-}
 
 -- What a connection's objects tell; the opener's rows, the names that it was asked for and its count of faults; the
 -- files and their count; what errors hold and their count; the doors and the link.

@@ -1,7 +1,8 @@
 //! The command `pipe`.
 ghost use Rattle.desk_front.specs.Wanted.{front_settings};
 ghost use Rattle.std.specs.Prelude.{◌≡◌, IfErr, IfOk, option_map};
-ghost use Rattle.tailnet_commands.specs.Outside.{DoorsTold, LinkTold, outside};
+ghost use Rattle.io_edge.specs.Linked.{LinkTold};
+ghost use Rattle.tailnet_commands.specs.Outside.{DoorsTold, outside};
 ghost use Rattle.tailnet_commands.specs.Pipe.{AreSettingsOf, IsSettingsFile, IsUnread, Outcome};
 
 use crate::limits::FILE_LIMIT;

@@ -2,7 +2,8 @@
 ghost use Rattle.std.specs.Prelude.{◌≡◌, false, map, option_map, string_bytes};
 ghost use Rattle.command_words.specs.Arguments.{HasLoadMachine};
 ghost use Rattle.command_words.specs.Words.{invocation_of};
-ghost use Rattle.tailnet_commands.specs.Outside.{doors_told, link_told, outside};
+ghost use Rattle.io_edge.specs.Linked.{link_told};
+ghost use Rattle.tailnet_commands.specs.Outside.{doors_told, outside};
 ghost use Rattle.tailnet_serve.specs.Top.{WordsDone, Top, asks_doors, asks_link};
 
 use crate::serving::serve_command;

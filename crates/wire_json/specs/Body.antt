@@ -4,18 +4,13 @@ use Rattle.std.specs.Str.{is_utf8}
 use Rattle.serde_json.specs.Data.{Data}
 use Rattle.serde_json.specs.Read.{read}
 use Rattle.serde_json.specs.Find.{get, as_array, as_null, as_object}
+use Rattle.tail_base.specs.Steps.{or_fault}
 use Rattle.wire_json.specs.Fields.{field_name}
 use Rattle.wire_json.specs.declared.field.Field.{Field}
 use Rattle.wire_json.specs.declared.fault.WireFault.{WireFault}
 use Rattle.wire_json.specs.declared.fault.WireFault.TheVariants as fault
 
-infixl 10 ◌>>=◌
--- and then, unless there was a fault
-abbrev pub ◌>>=◌ : {A B : Type 0} → Result A WireFault → (A → Result B WireFault) → Result B WireFault
-(Ok x) >>= f = f x
-(Err e) >>= f = Err e
-
--- a fault is the one that reading gives, but want of memory, which is free
+-- a fault is the one that reading gives, but refused memory, which is free
 abbrev pub Fails : {Y : Type 0} → WireFault → Result Y WireFault → Type 0
 Fails fault.NoMemory read = Unit {0}
 Fails fault.NotJson read = read ≡ Err fault.NotJson
@@ -27,11 +22,6 @@ Fails (fault.BadField f) read = read ≡ Err (fault.BadField f)
 abbrev pub Gives : {X Y : Type 0} → (X → Y) → Result X WireFault → Result Y WireFault → Type 0
 Gives view (Ok x) read = read ≡ Ok (view x)
 Gives view (Err e) read = Fails e read
-
--- the value, or that fault
-abbrev pub or_fault : {A : Type 0} → WireFault → Option A → Result A WireFault
-or_fault e None = Err e
-or_fault e (Some x) = Ok x
 
 -- `null` is as absent
 abbrev pub unless_null : Data → Option Data

@@ -8,7 +8,8 @@ use Rattle.tailcfg.specs.declared.limits.TheConstants.{ENDPOINT_LIMIT, HOST_LIMI
 use Rattle.tailcfg.specs.declared.host_update.HostUpdate.{HostUpdate}
 use Rattle.tailcfg.specs.declared.map_ask.MapAsk.{MapAsk}
 use Rattle.tailcfg.specs.declared.update.Update.{Update}
-use Rattle.wire_json.specs.Body.{◌>>=◌, field_of, object_at, body_value}
+use Rattle.tail_base.specs.Steps.{◌>>=◌}
+use Rattle.wire_json.specs.Body.{field_of, object_at, body_value}
 use Rattle.wire_json.specs.Readers.{required, optional, object_of, node_key, some_disco_key, some_short_text, short_list, whole_up_to}
 use Rattle.wire_json.specs.Register.{prefix_spelled}
 use Rattle.wire_json.specs.declared.field.Field.TheVariants as field

@@ -9,7 +9,8 @@ use Rattle.moments.specs.MomentReads.{moment_of_text}
 use Rattle.tail_base.specs.declared.key.DiscoKey.{DiscoKey}
 use Rattle.tail_base.specs.declared.key.NodeKey.{NodeKey}
 use Rattle.tail_base.specs.Keys.{key_of_text}
-use Rattle.wire_json.specs.Body.{or_fault, field_of}
+use Rattle.tail_base.specs.Steps.{or_fault}
+use Rattle.wire_json.specs.Body.{field_of}
 use Rattle.wire_json.specs.declared.field.Field.{Field}
 use Rattle.wire_json.specs.declared.fault.WireFault.{WireFault}
 use Rattle.wire_json.specs.declared.fault.WireFault.TheVariants as fault

@@ -9,7 +9,8 @@ use Rattle.net_addr.specs.Routes.{sorted_routes}
 use Rattle.tail_base.specs.Tags.{tag_of}
 use Rattle.tailcfg.specs.declared.limits.TheConstants.{ASKED_TAG_LIMIT, HOST_LIMIT, ROUTE_LIMIT}
 use Rattle.tailcfg.specs.declared.register.Register.{Register}
-use Rattle.wire_json.specs.Body.{◌>>=◌, object_at, body_value}
+use Rattle.tail_base.specs.Steps.{◌>>=◌}
+use Rattle.wire_json.specs.Body.{object_at, body_value}
 use Rattle.wire_json.specs.Readers.{required, optional, object_of, node_key, some_node_key, some_time, some_short_text, short_list}
 use Rattle.wire_json.specs.declared.field.Field.TheVariants as field
 use Rattle.wire_json.specs.declared.fault.WireFault.{WireFault}

@@ -16,8 +16,8 @@ use Rattle.wire_text.specs.Joined.{before_peers, behind_commas, behind_peers, co
 use Rattle.wire_text.specs.Nodes.{node_data}
 use Rattle.wire_text.specs.Parts.{some_array}
 use Rattle.wire_text.specs.Responses.{changed_members, peer_members, response_data, response_text}
-use Rattle.wire_text.specs.Tokens.{closing_tokens, data_tokens, each_tokens, option_tokens, optional_members}
-use Rattle.wire_text.proofs.MemberLemmas.{before_all, option_step}
+use Rattle.wire_text.specs.Tokens.{closing_tokens, data_tokens, each_tokens, option_tokens}
+use Rattle.wire_text.proofs.MemberLemmas.{before_all, option_step, optional_members}
 use Rattle.wire_text.proofs.ResponseMembers.{from_changed, from_peers}
 use Rattle.wire_text.proofs.TokenLemmas.{array_each, print_data}
 

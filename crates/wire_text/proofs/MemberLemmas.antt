@@ -7,8 +7,13 @@ use Rattle.std.specs.Cmp.Lexicographic.{slice_cmp}
 use Rattle.serde_json.specs.Data.{Data, Members, no_members, member, put}
 use Rattle.json.specs.Written.{Written}
 use Rattle.wire_text.specs.Parts.{some_member}
-use Rattle.wire_text.specs.Tokens.{Adds, closing_tokens, data_tokens, option_tokens, optional_members}
+use Rattle.wire_text.specs.Tokens.{Adds, closing_tokens, data_tokens, option_tokens}
 use Rattle.wire_text.proofs.TokenLemmas.{recast, then}
+
+-- those members that there are, in byte order
+abbrev pub optional_members : List (List ℕ × Option Data) → Members
+optional_members [] = no_members
+optional_members (m ∷ ms) = some_member m.0 m.1 (optional_members ms)
 
 -- every name comes behind this one
 abbrev pub AllBehind : List ℕ → Members → Type 0

@@ -3,9 +3,8 @@ use Rattle.std.specs.Prelude.{◌≡◌, ℕ, List, [], ◌∷◌, ◌++◌, fla
 use Rattle.json.specs.Token.{Token, key}
 use Rattle.json.specs.Tree.{json_tokens, members_tokens}
 use Rattle.json.specs.Written.{Written}
-use Rattle.serde_json.specs.Data.{Data, Members, no_members}
+use Rattle.serde_json.specs.Data.{Data, Members}
 use Rattle.serde_json.specs.Written.{outline, members_outline}
-use Rattle.wire_text.specs.Parts.{some_member}
 
 -- the tokens of a value
 unfoldable pub data_tokens : Data → List Token
@@ -28,8 +27,3 @@ pub record Adds (ts : List Token) (old new : Written) : Type 0 where
 abbrev pub option_tokens : List ℕ → Option Data → List Token
 option_tokens k None = []
 option_tokens k (Some d) = key k ∷ data_tokens d
-
--- those members that there are, in byte order
-abbrev pub optional_members : List (List ℕ × Option Data) → Members
-optional_members [] = no_members
-optional_members (m ∷ ms) = some_member m.0 m.1 (optional_members ms)

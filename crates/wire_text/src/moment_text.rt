@@ -1,25 +1,11 @@
 //! Texts of moments, added to a text.
-ghost use Rattle.std.specs.Prelude.{◌≡◌, ◌<◌, ◌≤◌, ◌++◌, pos, OnOk, string_bytes};
+ghost use Rattle.std.specs.Prelude.{◌≡◌, ◌<◌, ◌≤◌, ◌++◌, OnOk, string_bytes};
 ghost use Rattle.moments.specs.Civil.{date_after};
 ghost use Rattle.moments.specs.MomentTexts.{date_text, instant_text, moment_text, time_text, two};
 
 use crate::numerals::append_decimal;
-use jiff_core::civil::Date;
-use moments::{FIRST_SECOND, Moment};
+use moments::{FIRST_SECOND, Moment, date_after};
 use tail_base::NoMemory;
-
-/// The day number of 0001-01-01, counted from the calendar's first day, -9999-01-01.
-const YEAR_ONE: u32 = 3_652_425;
-
-/// The date so many days after 0001-01-01, up to 9999-12-31.
-fn date_after(days: u32) -> Date
-    requires inside { days ≤ 3652058 }
-    ensures year { result.year ≡ pos (date_after days).year }
-    ensures month { result.month ≡ (date_after days).month }
-    ensures day { result.day ≡ (date_after days).day }
-{
-    Date::from_days_since_min(YEAR_ONE + days)
-}
 
 /// Adds a mark and a number as two digits.
 fn append_two(mark: &str, n: u32, room: &mut String) -> Result<(), NoMemory>

@@ -1,6 +1,6 @@
 use Rattle.std.proofs.Common.{◌≡◌, ◌++◌, drop, length, Ok}
 use Rattle.serde_json.specs.View.{items_view}
-use Rattle.wire_json.specs.Body.{◌>>=◌}
+use Rattle.tail_base.specs.Steps.{◌>>=◌}
 use Rattle.admin_wire.specs.ExtraForms.{each_extra}
 use Rattle.admin_wire.proofs.extra_forms.each_extra.Given as goal
 

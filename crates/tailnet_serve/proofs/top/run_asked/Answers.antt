@@ -1,6 +1,7 @@
 -- `serve` leaves input, output and the link as they were.
 use Rattle.std.proofs.Common.{rules}
-use Rattle.tailnet_commands.specs.Outside.{doors_told, link_told, outside}
+use Rattle.io_edge.specs.Linked.{link_told}
+use Rattle.tailnet_commands.specs.Outside.{doors_told, outside}
 use Rattle.tailnet_serve.proofs.top.run_asked.Goals as goal
 
 pub returns-in-Some-Serve-clause-ran : goal.returns-in-Some-Serve-clause-ran

@@ -4,7 +4,8 @@ use Rattle.std.proofs.lemmas.Bool.{false≢true}
 use Rattle.serde_json.specs.Data.{Data}
 use Rattle.serde_json.specs.Find.{as_object}
 use Rattle.serde_json.specs.Read.{read}
-use Rattle.wire_json.specs.Body.{body_value, object_at, or_fault}
+use Rattle.tail_base.specs.Steps.{or_fault}
+use Rattle.wire_json.specs.Body.{body_value, object_at}
 use Rattle.wire_json.specs.declared.fault.WireFault.TheVariants as fault
 use Rattle.wire_json.proofs.BodyLemmas.{body_none, body_some}
 use Rattle.wire_json.proofs.body.object_of_body.Goals as goal
