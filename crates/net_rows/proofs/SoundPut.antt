@@ -1,7 +1,8 @@
 -- Sound tables stay sound when a row that fits is put, and its counter raised.
 use Rattle.std.proofs.Common.{◌<◌, ◌≤◌, ℕ, arith, List}
 use Rattle.std.specs.Prelude.{Some, length}
-use Rattle.net_rows.specs.declared.limits.TheConstants.{COUNTER_LIMIT, USER_LIMIT, KEY_LIMIT, PENDING_LIMIT, MACHINE_LIMIT, EXTRA_LIMIT, POLICY_LIMIT}
+use Rattle.net_rows.specs.declared.limits.TheConstants.{COUNTER_LIMIT, USER_LIMIT, KEY_LIMIT, PENDING_LIMIT, MACHINE_LIMIT, EXTRA_LIMIT}
+use Rattle.tail_base.specs.declared.limits.TheConstants.{POLICY_LIMIT}
 use Rattle.net_rows.specs.Shelf.{put_row}
 use Rattle.net_rows.specs.Rows.{Rows}
 use Rattle.net_rows.specs.Sound.{AreSound, KeyKeeps, MachineKeeps, PendingKeeps}

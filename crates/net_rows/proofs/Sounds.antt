@@ -1,7 +1,8 @@
 -- Tables without damage are those that keep all rules.
 use Rattle.std.proofs.Common.{◌≡◌, ◌≤◌, ℕ, Bool, true, false, List, [], length, refl, nat_le}
 use Rattle.std.specs.Prelude.{Option, Some, None, IfSome}
-use Rattle.net_rows.specs.declared.limits.TheConstants.{COUNTER_LIMIT, EXTRA_LIMIT, POLICY_LIMIT}
+use Rattle.net_rows.specs.declared.limits.TheConstants.{COUNTER_LIMIT, EXTRA_LIMIT}
+use Rattle.tail_base.specs.declared.limits.TheConstants.{POLICY_LIMIT}
 use Rattle.net_rows.specs.Rows.{Rows}
 use Rattle.net_rows.specs.Damage.{damage, damage_at, damage_unless, first_misfit, is_counter, are_counters, are_short_extras, is_short_policy, user_fits, key_fits, pending_fits, machine_fits, user_damage, key_damage, pending_damage, machine_damage}
 use Rattle.net_rows.specs.Sound.{AreSound, AreCounters, IsCounter, AreUsers, AreKeys, ArePending, AreMachines}

@@ -8,7 +8,8 @@ use Rattle.std.specs.Bool.{beq}
 use Rattle.std.specs.Fmt.{decimal}
 use Rattle.net_addr.specs.Bits.{Address}
 use Rattle.tailcfg.specs.declared.limits.TheConstants.{ENDPOINT_LIMIT, ROUTE_LIMIT, ASKED_TAG_LIMIT, HOST_LIMIT}
-use Rattle.net_rows.specs.declared.limits.TheConstants.{COUNTER_LIMIT, USER_LIMIT, KEY_LIMIT, PENDING_LIMIT, MACHINE_LIMIT, EXTRA_LIMIT, TAG_LIMIT, POLICY_LIMIT}
+use Rattle.net_rows.specs.declared.limits.TheConstants.{COUNTER_LIMIT, USER_LIMIT, KEY_LIMIT, PENDING_LIMIT, MACHINE_LIMIT, EXTRA_LIMIT, TAG_LIMIT}
+use Rattle.tail_base.specs.declared.limits.TheConstants.{POLICY_LIMIT}
 use Rattle.net_addr.specs.Tailnet.{tailnet_v4, tailnet_v6}
 use Rattle.net_addr.specs.Blocks.{holds}
 use Rattle.net_rows.specs.Rows.{Rows}

@@ -4,8 +4,9 @@ ghost use Rattle.net_rows.specs.Damage.{damage, damage_unless, is_counter, are_c
 
 use crate::change::{Counters, Damage, Kind};
 use crate::fits::TableRow;
-use crate::limits::{COUNTER_LIMIT, EXTRA_LIMIT, POLICY_LIMIT};
+use crate::limits::{COUNTER_LIMIT, EXTRA_LIMIT};
 use crate::rows::Rows;
+use tail_base::POLICY_LIMIT;
 
 fn is_counter(number: u32) -> bool
     ensures value { result ≡ is_counter number }

@@ -25,8 +25,7 @@ pub use id::HasId;
 pub use key::AuthKey;
 pub use laws::{rows_are_maps, sound_rows_have_no_damage};
 pub use limits::{
-    COUNTER_LIMIT, EXTRA_LIMIT, KEY_LIMIT, MACHINE_LIMIT, PENDING_LIMIT, POLICY_LIMIT, TAG_LIMIT,
-    USER_LIMIT,
+    COUNTER_LIMIT, EXTRA_LIMIT, KEY_LIMIT, MACHINE_LIMIT, PENDING_LIMIT, TAG_LIMIT, USER_LIMIT,
 };
 pub use lists::Lists;
 pub use machine::Machine;

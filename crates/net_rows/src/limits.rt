@@ -17,6 +17,3 @@ pub const EXTRA_LIMIT: usize = 256;
 
 /// Tags of a machine.
 pub const TAG_LIMIT: usize = 32;
-
-/// Bytes of a policy text.
-pub const POLICY_LIMIT: usize = 262_144;

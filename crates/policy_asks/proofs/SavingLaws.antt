@@ -7,7 +7,7 @@ use Rattle.tail_base.proofs.StepLemmas.{bind_parts, check_parts}
 use Rattle.net_rows.specs.Damage.{damage}
 use Rattle.net_rows.specs.Sound.{AreSound}
 use Rattle.net_rows.specs.declared.change.Change.{Change}
-use Rattle.net_rows.specs.declared.limits.TheConstants.{POLICY_LIMIT}
+use Rattle.tail_base.specs.declared.limits.TheConstants.{POLICY_LIMIT}
 use Rattle.net_rows.specs.declared.rows.Rows.{Rows}
 use Rattle.net_rows.proofs.SoundPut.{sound_policy}
 use Rattle.net_rows.proofs.Sounds.{sound_of}

@@ -17,7 +17,8 @@ use Rattle.policy_rows.specs.Faults.{fault_at, under}
 use Rattle.policy_rows.specs.Names.{no_names}
 use Rattle.policy_rows.specs.Selectors.{is_approver, is_source}
 use Rattle.policy_doc.specs.declared.approvers.Approvers.{Approvers}
-use Rattle.policy_doc.specs.declared.limits.TheConstants.{ENTRY_LIMIT, LIST_LIMIT, RULE_LIMIT, TEXT_LIMIT}
+use Rattle.policy_doc.specs.declared.limits.TheConstants.{ENTRY_LIMIT, LIST_LIMIT, RULE_LIMIT}
+use Rattle.tail_base.specs.declared.limits.TheConstants.{POLICY_LIMIT}
 use Rattle.policy_doc.specs.Document.{acls_section, approvers_or_none, json_at, names_of, policy_from, policy_of, policy_of_text, standard_at, tests_section, top_keys_of}
 use Rattle.policy_doc.specs.Entries.{approver_text, group_entry, host_entry, route_entry, tag_entry}
 use Rattle.policy_doc.specs.Keys.{keys_of, section}
@@ -161,7 +162,7 @@ value_sound d p e =
 pub policy_sound : (text : List ℕ) (p : Policy) → policy_of_text text ≡ Ok p → IsSound p
 unfolding policy_of_text
 policy_sound text p e =
-    let short = check_parts (leb (length text) TEXT_LIMIT) (fault_at code.TooMany (codes "text")) _ p e in
+    let short = check_parts (leb (length text) POLICY_LIMIT) (fault_at code.TooMany (codes "text")) _ p e in
     let standard = bind_parts (standard_at text) _ p short.1 in
     let value = bind_parts (json_at standard.0) _ p standard.2 in
     value_sound value.0 p value.2

@@ -17,7 +17,8 @@ use Rattle.policy_rows.specs.declared.test.Test.{Test}
 use Rattle.policy_rows.specs.Faults.{fault_at, under}
 use Rattle.policy_rows.specs.Names.{no_names}
 use Rattle.policy_doc.specs.declared.approvers.Approvers.{Approvers}
-use Rattle.policy_doc.specs.declared.limits.TheConstants.{ENTRY_LIMIT, LIST_LIMIT, RULE_LIMIT, TEXT_LIMIT}
+use Rattle.policy_doc.specs.declared.limits.TheConstants.{ENTRY_LIMIT, LIST_LIMIT, RULE_LIMIT}
+use Rattle.tail_base.specs.declared.limits.TheConstants.{POLICY_LIMIT}
 use Rattle.policy_doc.specs.Entries.{approver_text, group_entry, host_entry, route_entry, tag_entry}
 use Rattle.policy_doc.specs.Keys.{keys_of, section}
 use Rattle.policy_doc.specs.Rules.{rule_at, test_at}
@@ -110,7 +111,7 @@ json_at text = or_fault (fault_at code.Syntax (codes "json")) (if is_utf8 text t
 -- the policy that a text states, or its first fault
 unfoldable pub policy_of_text : List ℕ → Result Policy PolicyFault
 policy_of_text text = do
-  _ ← refuse_unless (nat_le (length text) TEXT_LIMIT) (fault_at code.TooMany (codes "text"))
+  _ ← refuse_unless (nat_le (length text) POLICY_LIMIT) (fault_at code.TooMany (codes "text"))
   standard ← standard_at text
   d ← json_at standard
   policy_of d

@@ -8,14 +8,14 @@ ghost use Rattle.policy_doc.specs.Document.{json_at, names_of, policy_from, poli
 use crate::acls::RuleObject;
 use crate::approvers::{Approvers, approvers_or_none};
 use crate::keys::{check_keys, section};
-use crate::limits::{ENTRY_LIMIT, RULE_LIMIT, TEXT_LIMIT};
+use crate::limits::{ENTRY_LIMIT, RULE_LIMIT};
 use crate::testing::TestObject;
 use crate::walk::{list_of, list_or_empty, members_or_empty};
 use hujson_read::{HujsonFault, standardize};
 use policy_rows::{Names, Policy, PolicyCode, PolicyFault, Rule, Test, refused};
 use serde_json::{Map, Value};
 use std::alloc::Global;
-use tail_base::{Failure, Items};
+use tail_base::{Failure, Items, POLICY_LIMIT};
 
 /// The groups, hosts and tags that have entries.
 #[tactic(auto, unfolding(crate::specs::Document::names_of))]
@@ -168,7 +168,7 @@ fn json_of(alloc: Global, text: &[u8]) -> Result<Value, Failure<PolicyFault>>
 pub fn read_policy(alloc: Global, text: &[u8]) -> Result<Policy, Failure<PolicyFault>>
     ensures value { Gives (λ x. x) result (policy_of_text text.now) }
 {
-    if text.len() > TEXT_LIMIT {
+    if text.len() > POLICY_LIMIT {
         return refused(alloc, PolicyCode::TooMany, "text");
     }
     let standard = standard_text(alloc, text)?;

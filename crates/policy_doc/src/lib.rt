@@ -19,4 +19,4 @@ mod walk;
 
 pub use document::read_policy;
 pub use laws::{first_faults_count, policies_are_sound};
-pub use limits::{ENTRY_LIMIT, LIST_LIMIT, RULE_LIMIT, TEXT_LIMIT};
+pub use limits::{ENTRY_LIMIT, LIST_LIMIT, RULE_LIMIT};

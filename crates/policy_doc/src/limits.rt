@@ -1,8 +1,5 @@
 //! How long the parts of a policy may be.
 
-/// How many bytes the text may have: 256 KiB.
-pub const TEXT_LIMIT: usize = 262144;
-
 /// How many rules, and how many hosts, there may be.
 pub const RULE_LIMIT: usize = 512;
 

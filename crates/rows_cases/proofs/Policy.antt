@@ -1,7 +1,7 @@
 -- A policy is put.
 use Rattle.std.proofs.Common.{◌≡◌, ◌≤◌, ℕ, List, [], ◌∷◌, None, length}
 use Rattle.net_rows.specs.Damage.{damage}
-use Rattle.net_rows.specs.declared.limits.TheConstants.{POLICY_LIMIT}
+use Rattle.tail_base.specs.declared.limits.TheConstants.{POLICY_LIMIT}
 use Rattle.net_rows.specs.Rows.{after}
 use Rattle.net_rows.specs.declared.rows.Rows.{Rows}
 use Rattle.net_rows.specs.declared.change.Row.TheVariants as row

@@ -9,6 +9,7 @@ mod items;
 mod key;
 mod label;
 mod laws;
+mod limits;
 mod login;
 mod memory;
 mod naming;
@@ -26,6 +27,7 @@ pub use laws::{
     key_texts_differ, labels_are_read_again, logins_are_read_again, searches_find,
     sorted_lists_rise, tags_are_read_again,
 };
+pub use limits::POLICY_LIMIT;
 pub use login::Login;
 pub use memory::{Duplicate, NoMemory};
 pub use numerals::{digits_in, number_in, short_numeral};

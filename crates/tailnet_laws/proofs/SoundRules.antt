@@ -27,7 +27,8 @@ use Rattle.policy_rows.specs.declared.rule.Rule.{Rule}
 use Rattle.policy_rows.specs.Dests.{dest_at, needs_star, ports_at, ports_from}
 use Rattle.policy_rows.specs.Faults.{fault_at, indexed, under}
 use Rattle.policy_rows.specs.Selectors.{is_colon, selector_at}
-use Rattle.policy_doc.specs.declared.limits.TheConstants.{LIST_LIMIT, RULE_LIMIT, TEXT_LIMIT}
+use Rattle.policy_doc.specs.declared.limits.TheConstants.{LIST_LIMIT, RULE_LIMIT}
+use Rattle.tail_base.specs.declared.limits.TheConstants.{POLICY_LIMIT}
 use Rattle.policy_doc.specs.Document.{acls_section, approvers_or_none, json_at, names_of, policy_from, policy_of, policy_of_text, standard_at, tests_section, top_keys_of}
 use Rattle.policy_doc.specs.Keys.{keys_of, section}
 use Rattle.policy_doc.specs.Rules.{action_at, dest_text, list_due, proto_at, proto_of, rule_at, source_text}
@@ -204,7 +205,7 @@ value_rules d p e =
 pub policy_rules : (text : List ℕ) (p : Policy) → policy_of_text text ≡ Ok p → AreSoundRules (rules_of (Some p))
 unfolding policy_of_text
 policy_rules text p e =
-    let short = check_parts (leb (length text) TEXT_LIMIT) (fault_at code.TooMany (codes "text")) _ p e in
+    let short = check_parts (leb (length text) POLICY_LIMIT) (fault_at code.TooMany (codes "text")) _ p e in
     let standard = bind_parts (standard_at text) _ p short.1 in
     let value = bind_parts (json_at standard.0) _ p standard.2 in
     value_rules value.0 p value.2
