@@ -7,12 +7,12 @@ use Rattle.httparse.specs.Spans.{IsRequestWithin, IsRequestAt, IsRequestOf, Requ
 use Rattle.httparse.specs.declared.spans.HeaderSpan.{HeaderSpan}
 use Rattle.httparse.specs.declared.spans.RequestSpans.{RequestSpans}
 use Rattle.http_front.specs.declared.head_fault.HeadFault.{HeadFault}
-use Rattle.http_front.specs.declared.head_fault.HeadFault.TheVariants.{BadHead, BodyTooLong, HeadTooLong}
+use Rattle.http_front.specs.declared.head_fault.HeadFault.TheVariants.{BadHead, BodyTooLong, HeadTooLong, NoLength}
 use Rattle.http_front.specs.Lines.{body_length, limited, agreed, length_value, all_are, first_of, values_of, any_is}
-use Rattle.std.specs.Prelude.{codes, map}
+use Rattle.std.specs.Prelude.{codes, map, nat_lt, not, ◌==◌}
 use Rattle.httparse.specs.Spans.{span_bytes, header_bytes}
 use Rattle.http_front.specs.declared.request.Request.{Request}
-use Rattle.http_front.specs.Requests.{path_of, request_of, IsWhole, Head, head_of, length_of, refuse_if, head_limit, HasHead, IsUnfinished, IsBad}
+use Rattle.http_front.specs.Requests.{path_of, request_of, IsWhole, Head, head_of, length_of, line_limit, wants_length, head_limit, HasHead, IsUnfinished, IsBad}
 use Rattle.http_front.specs.Looks.{spanned_head, IsSpanned, most}
 use Rattle.http_front.proofs.Heads.{has_head, spanned_head_is, never_none, never_begins, enough_room}
 
@@ -24,8 +24,7 @@ front_is bytes n same = elim (cases_lt head_limit (length bytes)) [
 
 -- ---- a length is at most 1 MiB
 
-after_rule : (b : Bool) (d : HeadFault) (r : Result ℕ HeadFault) (n : ℕ) → refuse_if b d r ≡ Ok n → r ≡ Ok n
-unfolding refuse_if
+after_rule : (b : Bool) (d : HeadFault) (r : Result ℕ HeadFault) (n : ℕ) → cond b (Err d) r ≡ Ok n → r ≡ Ok n
 after_rule true d r n h = cc
 after_rule false d r n h = h
 
@@ -51,7 +50,12 @@ body_small wants vs n h = agreed_small wants (first_of vs) vs n h
 
 pub length_small : (h : Head) (n : ℕ) → length_of h ≡ Ok n → n ≤ 1048576
 unfolding length_of
-length_small h n e = body_small _ _ n (after_rule _ _ _ n (after_rule _ _ _ n (after_rule _ _ _ n (after_rule _ _ _ n e))))
+length_small h n e =
+    let lines = after_rule (nat_lt line_limit (length h.lines)) HeadTooLong _ n e in
+    let version = after_rule (not (h.minor == 1)) BadHead _ n lines in
+    let host = after_rule (not (length (values_of (codes "Host") h.lines) == 1)) BadHead _ n version in
+    let coded = after_rule (nat_lt 0 (length (values_of (codes "Transfer-Encoding") h.lines))) NoLength _ n host in
+    body_small (wants_length h.method) (values_of (codes "Content-Length") h.lines) n coded
 
 -- ---- a complete head
 

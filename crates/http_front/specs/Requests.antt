@@ -32,18 +32,14 @@ line_limit = LINE_LIMIT
 abbrev pub wants_length : List ℕ → Bool
 wants_length method = bytes_eq method (codes "POST") || bytes_eq method (codes "PUT")
 
--- one rule: why the head is refused if it breaks it, else what the next rules say
-unfoldable pub refuse_if : Bool → HeadFault → Result ℕ HeadFault → Result ℕ HeadFault
-refuse_if broken fault next = if broken then Err fault else next
-
 -- the length of the body, or the first rule that the head breaks
 unfoldable pub length_of : Head → Result ℕ HeadFault
 length_of h =
-    refuse_if (nat_lt line_limit (length h.lines)) HeadTooLong (
-    refuse_if (not (h.minor == 1)) BadHead (
-    refuse_if (not (length (values_of (codes "Host") h.lines) == 1)) BadHead (
-    refuse_if (nat_lt 0 (length (values_of (codes "Transfer-Encoding") h.lines))) NoLength (
-    body_length (wants_length h.method) (values_of (codes "Content-Length") h.lines)))))
+    if nat_lt line_limit (length h.lines) then Err HeadTooLong
+    else if not (h.minor == 1) then Err BadHead
+    else if not (length (values_of (codes "Host") h.lines) == 1) then Err BadHead
+    else if nat_lt 0 (length (values_of (codes "Transfer-Encoding") h.lines)) then Err NoLength
+    else body_length (wants_length h.method) (values_of (codes "Content-Length") h.lines)
 
 -- the part of a target before its query
 abbrev pub path_of : List ℕ → List ℕ

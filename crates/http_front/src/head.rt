@@ -88,7 +88,7 @@ fn wants_length(method: &[u8]) -> bool
 }
 
 /// The length of the body, or the first rule that the head breaks.
-#[tactic(auto, unfolding(crate::specs::Requests::length_of, crate::specs::Requests::refuse_if))]
+#[tactic(auto, unfolding(crate::specs::Requests::length_of))]
 pub fn length_of(
     buffer: &[u8],
     headers: &[HeaderSpan],

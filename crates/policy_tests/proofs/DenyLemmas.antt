@@ -15,9 +15,17 @@ use Rattle.policy_sites.specs.Covers.{covers, dest_covers, is_own_devices, joins
 use Rattle.policy_sites.specs.Grants.{entry_grants, ports_hold, rule_grants, some_rule_grants, some_source}
 use Rattle.policy_sites.specs.declared.end.End.{End}
 use Rattle.policy_tests.specs.Tests.{protos_of}
-use Rattle.policy_tests.specs.Trials.{is_met, is_open, lets_some, pair_passes, some_passes}
+use Rattle.policy_tests.specs.Trials.{is_open, pair_passes, some_passes}
 
 -- ---- a destination is met
+
+-- some end is a source of the rule, and for it the destination covers some of the others
+abbrev pub is_met : List Group → List End → List End → Rule → Dest → Bool
+is_met groups ss ds r entry = list_any (λ s. some_source groups r s && list_any (dest_covers groups entry.to s) ds) ss
+
+-- a destination of the rule is open, and it is met
+abbrev pub lets_some : List Group → Option ℕ → ℕ → List End → List End → Rule → Bool
+lets_some groups proto port ss ds r = list_any (λ entry. is_open proto port r entry && is_met groups ss ds r entry) r.dests
 
 pub any_same : {A : Type 0} (f g : A → Bool) (xs : List A) → ((x : A) → f x ≡ g x) → list_any f xs ≡ list_any g xs
 any_same f g [] h = refl

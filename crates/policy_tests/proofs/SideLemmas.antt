@@ -24,10 +24,10 @@ use Rattle.policy_eval.specs.Expansion.{Expansion}
 use Rattle.policy_tests.specs.Sides.{is_met_by, joins_machine, lets_by, names_machine, passes_at, places_from, side_joins, side_of, side_sends, side_takes, takes_by}
 use Rattle.policy_tests.specs.TestEnds.{ends_of, has_tag, is_users, machine_end, site_ends, tag_phantom, user_ends, user_phantom}
 use Rattle.policy_tests.specs.Tests.{port_of}
-use Rattle.policy_tests.specs.Trials.{core_of, denied_by, is_met, is_open, lets_some, some_passes}
+use Rattle.policy_tests.specs.Trials.{core_of, denied_by, is_open, some_passes}
 use Rattle.policy_tests.specs.declared.side.Side.{Side}
 use Rattle.policy_tests.proofs.CoreLemmas.{core_inside, flat_member, kept_passes, member_flat, own_by_core}
-use Rattle.policy_tests.proofs.DenyLemmas.{any_same, met_own, met_plainly, passes_by_rules}
+use Rattle.policy_tests.proofs.DenyLemmas.{any_same, is_met, lets_some, met_own, met_plainly, passes_by_rules}
 
 -- ---- places
 

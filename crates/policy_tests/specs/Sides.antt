@@ -69,11 +69,11 @@ side_joins x r side ds =
     list_any (passes_at x.sites (λ m. sends x.groups r m && joins_machine m ds)) side.machines
     || list_any (λ s. some_source x.groups r s && list_any (joins_own s) ds) side.core
 
--- the same as `is_met`
+-- some end of one side is a source of the rule, and for it the destination covers some of the other side
 abbrev pub is_met_by : Expansion → Side → Side → Rule → Dest → Bool
 is_met_by x sources dests r entry =
     if is_own_devices entry.to then side_joins x r sources dests.core else (side_sends x r sources && side_takes x r entry dests)
 
--- the same as `lets_some`
+-- a destination of the rule is open, and it is met
 abbrev pub lets_by : Expansion → Option ℕ → ℕ → Side → Side → Rule → Bool
 lets_by x proto port sources dests r = list_any (λ entry. is_open proto port r entry && is_met_by x sources dests r entry) r.dests

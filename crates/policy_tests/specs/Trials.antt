@@ -7,8 +7,7 @@ use Rattle.policy_rows.specs.declared.group.Group.{Group}
 use Rattle.policy_rows.specs.declared.rule.Rule.{Rule}
 use Rattle.policy_rows.specs.declared.selector.Selector.{Selector}
 use Rattle.policy_rows.specs.declared.test.Test.{Test}
-use Rattle.policy_sites.specs.Covers.{dest_covers}
-use Rattle.policy_sites.specs.Grants.{ports_hold, some_rule_grants, some_source}
+use Rattle.policy_sites.specs.Grants.{ports_hold, some_rule_grants}
 use Rattle.policy_sites.specs.declared.end.End.{End}
 use Rattle.policy_sites.specs.declared.site.Site.{Site}
 use Rattle.policy_tests.specs.Lasting.{is_lasting}
@@ -44,11 +43,3 @@ core_of groups sites selector = if is_lasting selector then ends_of groups [] se
 -- by one of the protocols, the rule has it and the destination's ports hold the port
 abbrev pub is_open : Option ℕ → ℕ → Rule → Dest → Bool
 is_open proto port r entry = list_any (λ p. has_member r.protos p && ports_hold entry.ports p port) (protos_of proto)
-
--- some end is a source of the rule, and for it the destination covers some of the others
-abbrev pub is_met : List Group → List End → List End → Rule → Dest → Bool
-is_met groups ss ds r entry = list_any (λ s. some_source groups r s && list_any (dest_covers groups entry.to s) ds) ss
-
--- a destination of the rule is open, and it is met
-abbrev pub lets_some : List Group → Option ℕ → ℕ → List End → List End → Rule → Bool
-lets_some groups proto port ss ds r = list_any (λ entry. is_open proto port r entry && is_met groups ss ds r entry) r.dests
