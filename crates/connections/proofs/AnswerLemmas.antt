@@ -70,11 +70,11 @@ drew_none false (Some word) old new n m d e = absurd d
 drew_none true words old new n m d e = absurd (cc)
 
 -- an ask was one turn
-pub asked_once : {T S : Type 0} (turn : S → Event → Reply → S → Type 0) (site : FrontSettings) (outcome : Result T Closed) (ask : Ask) (close : Bool) (m moment : ℤ) (words : Option (List ℕ)) (reply : Reply) (old new : Giving) (s t : S)
+pub asked_once : {T S : Type 0} (turn : S → Event → Reply → S → Type 0) (given : FrontSettings) (outcome : Result T Closed) (ask : Ask) (close : Bool) (m moment : ℤ) (words : Option (List ℕ)) (reply : Reply) (old new : Giving) (s t : S)
     → moment ≡ clamped m → Drew (ask_draws ask) words old.words new.words old.word_faults new.word_faults → stream.Took old.answers new.answers m
     → turn s (event.Ask ask moment words) reply t
-    → Sent outcome old.held new.held old.write_faults new.write_faults (reply_bytes site ask reply close) → IsAskAnswered turn site outcome ask close old new s t
-asked_once turn site outcome ask close m moment words reply old new s t at drew took leads sent = record {
+    → Sent outcome old.held new.held old.write_faults new.write_faults (reply_bytes given ask reply close) → IsAskAnswered turn given outcome ask close old new s t
+asked_once turn given outcome ask close m moment words reply old new s t at drew took leads sent = record {
   turned = record { event = event.Ask ask moment words; reply = reply };
   asks = record {
     moment = moment;
@@ -131,11 +131,11 @@ pub follows_early : (T : Type 0) (done : T) → Follows {T = T} (Ok done) (Err E
 follows_early T done = record { is = λ written bytes before now h. (h, refl); breaks_so = refl }
 
 -- an exchange without a turn
-pub answered_fixed : {T S : Type 0} (turn : S → Event → Reply → S → Type 0) (site : FrontSettings) (more : ℕ) (sent outcome : Result T Closed) (request : Request) (last : Bool) (bytes : List ℕ) (ended : Option Closed) (old new : Giving) (s : S)
-    → IsExchange site more last (record { request = request; turns = []; bytes = bytes; ended = ended; broken = breaks outcome })
+pub answered_fixed : {T S : Type 0} (turn : S → Event → Reply → S → Type 0) (given : FrontSettings) (more : ℕ) (sent outcome : Result T Closed) (request : Request) (last : Bool) (bytes : List ℕ) (ended : Option Closed) (old new : Giving) (s : S)
+    → IsExchange given more last (record { request = request; turns = []; bytes = bytes; ended = ended; broken = breaks outcome })
     → ((k : ℕ) → new.answers k ≡ old.answers k) → ((k : ℕ) → new.words k ≡ old.words k) → old.word_faults ≤ new.word_faults
-    → Sent sent old.held new.held old.write_faults new.write_faults bytes → Follows sent outcome ended → Answered turn site more outcome request last old new s s
-answered_fixed turn site more sent outcome request last bytes ended old new s is a w f wrote follows = record {
+    → Sent sent old.held new.held old.write_faults new.write_faults bytes → Follows sent outcome ended → Answered turn given more outcome request last old new s s
+answered_fixed turn given more sent outcome request last bytes ended old new s is a w f wrote follows = record {
   exchange = record { request = request; turns = []; bytes = bytes; ended = ended; broken = breaks outcome };
   request_is = refl;
   is = is;
@@ -150,12 +150,12 @@ answered_fixed turn site more sent outcome request last bytes ended old new s is
 }
 
 -- an exchange of one turn
-pub answered_ask : {T S : Type 0} (turn : S → Event → Reply → S → Type 0) (site : FrontSettings) (more : ℕ) (sent outcome : Result T Closed) (request : Request) (last : Bool) (ask : Ask) (old new : Giving) (s t : S)
-    → wanted_of site request ≡ wants.Ask ask → IsAskAnswered turn site sent ask (request.close || last) old new s t → Follows sent outcome (ended_by (request.close || last)) → Answered turn site more outcome request last old new s t
-answered_ask turn site more sent outcome request last ask old new s t wants_it asked follows =
+pub answered_ask : {T S : Type 0} (turn : S → Event → Reply → S → Type 0) (given : FrontSettings) (more : ℕ) (sent outcome : Result T Closed) (request : Request) (last : Bool) (ask : Ask) (old new : Giving) (s t : S)
+    → wanted_of given request ≡ wants.Ask ask → IsAskAnswered turn given sent ask (request.close || last) old new s t → Follows sent outcome (ended_by (request.close || last)) → Answered turn given more outcome request last old new s t
+answered_ask turn given more sent outcome request last ask old new s t wants_it asked follows =
     let close = request.close || last in
     record {
-      exchange = record { request = request; turns = asked.turned ∷ []; bytes = reply_bytes site ask asked.turned.reply close; ended = ended_by close; broken = breaks outcome };
+      exchange = record { request = request; turns = asked.turned ∷ []; bytes = reply_bytes given ask asked.turned.reply close; ended = ended_by close; broken = breaks outcome };
       request_is = refl;
       broken_is = refl;
       is = inr (rw wants_it (asked.turned, refl, asked.asks, refl, refl));
@@ -169,15 +169,15 @@ answered_ask turn site more sent outcome request last ask old new s t wants_it a
     }
 
 -- an exchange of a poll
-pub answered_poll : {T S : Type 0} (turn : S → Event → Reply → S → Type 0) (site : FrontSettings) (more : ℕ) (sent outcome : Result T Closed) (request : Request) (last : Bool) (p : Poll) (old new : Giving) (s t : S)
-    → wanted_of site request ≡ wants.Poll p → IsPollAnswered turn site more sent p (request.close || last) old new s t → Follows sent outcome (ended_by (request.close || last)) → Answered turn site more outcome request last old new s t
-answered_poll turn site more sent outcome request last p old new s t wants_it polled follows =
+pub answered_poll : {T S : Type 0} (turn : S → Event → Reply → S → Type 0) (given : FrontSettings) (more : ℕ) (sent outcome : Result T Closed) (request : Request) (last : Bool) (p : Poll) (old new : Giving) (s t : S)
+    → wanted_of given request ≡ wants.Poll p → IsPollAnswered turn given more sent p (request.close || last) old new s t → Follows sent outcome (ended_by (request.close || last)) → Answered turn given more outcome request last old new s t
+answered_poll turn given more sent outcome request last p old new s t wants_it polled follows =
     let close = request.close || last in
     record {
       exchange = record { request = request; turns = polled.turns; bytes = polled.bytes; ended = ended_by close; broken = breaks outcome };
       request_is = refl;
       broken_is = refl;
-      is = inr (rw wants_it (subst (λ (b : Bool). IsPoll site more close p polled.turns polled.bytes b) (sym follows.breaks_so) polled.poll, refl));
+      is = inr (rw wants_it (subst (λ (b : Bool). IsPoll given more close p polled.turns polled.bytes b) (sym follows.breaks_so) polled.poll, refl));
       chain = polled.chain;
       took = polled.took;
       written = polled.sent.written;
@@ -187,17 +187,17 @@ answered_poll turn site more sent outcome request last p old new s t wants_it po
       outcome_is = follows.is polled.sent.written polled.bytes old.write_faults new.write_faults polled.sent.is;
     }
 
--- want of memory before any event
-pub exchange_unanswered : (site : FrontSettings) (more : ℕ) (request : Request) (last close broken : Bool) (bytes : List ℕ) → close ≡ (request.close || last) → bytes ≡ answer 503 (codes "{\"error\":\"NoMemory\"}") close
-    → IsExchange site more last (record { request = request; turns = []; bytes = bytes; ended = ended_by close; broken = broken })
-exchange_unanswered site more request last close broken bytes e is = inl (refl, is ∙ ap (λ (b : Bool). answer 503 (codes "{\"error\":\"NoMemory\"}") b) e, ap ended_by e)
+-- lack of memory before any event
+pub exchange_unanswered : (given : FrontSettings) (more : ℕ) (request : Request) (last close broken : Bool) (bytes : List ℕ) → close ≡ (request.close || last) → bytes ≡ answer 503 (codes "{\"error\":\"NoMemory\"}") close
+    → IsExchange given more last (record { request = request; turns = []; bytes = bytes; ended = ended_by close; broken = broken })
+exchange_unanswered given more request last close broken bytes e is = inl (refl, is ∙ ap (λ (b : Bool). answer 503 (codes "{\"error\":\"NoMemory\"}") b) e, ap ended_by e)
 
 -- a fixed answer leaves the connection as the request wants it
-pub exchange_fixed : (site : FrontSettings) (more : ℕ) (request : Request) (last close broken : Bool) (status : ℕ) (body : List ℕ) → close ≡ (request.close || last) → wants.Answer status body ≡ wanted_of site request
-    → IsExchange site more last (record { request = request; turns = []; bytes = answer status body close; ended = ended_by close; broken = broken })
-exchange_fixed site more request last close broken status body e w = inr (rw (← w) (refl, ap (λ (b : Bool). answer status body b) e, ap ended_by e))
+pub exchange_fixed : (given : FrontSettings) (more : ℕ) (request : Request) (last close broken : Bool) (status : ℕ) (body : List ℕ) → close ≡ (request.close || last) → wants.Answer status body ≡ wanted_of given request
+    → IsExchange given more last (record { request = request; turns = []; bytes = answer status body close; ended = ended_by close; broken = broken })
+exchange_fixed given more request last close broken status body e w = inr (rw (← w) (refl, ap (λ (b : Bool). answer status body b) e, ap ended_by e))
 
 -- the answer to a faulty request ends the connection
-pub exchange_faulty : (site : FrontSettings) (more : ℕ) (request : Request) (last broken : Bool) (body : List ℕ) → wants.Fault body ≡ wanted_of site request
-    → IsExchange site more last (record { request = request; turns = []; bytes = answer 400 body true; ended = Some Early; broken = broken })
-exchange_faulty site more request last broken body w = inr (rw (← w) (refl, refl, refl))
+pub exchange_faulty : (given : FrontSettings) (more : ℕ) (request : Request) (last broken : Bool) (body : List ℕ) → wants.Fault body ≡ wanted_of given request
+    → IsExchange given more last (record { request = request; turns = []; bytes = answer 400 body true; ended = Some Early; broken = broken })
+exchange_faulty given more request last broken body w = inr (rw (← w) (refl, refl, refl))

@@ -217,12 +217,12 @@ module _ {S : Type 0} (turn : S → Event → Reply → S → Type 0) where
 
   -- ---- the first drain
 
-  module _ (site : FrontSettings) (more : ℕ) (close : Bool) (p : Poll) (handle : List ℕ) (resumed : Bool) where
+  module _ (given : FrontSettings) (more : ℕ) (close : Bool) (p : Poll) (handle : List ℕ) (resumed : Bool) where
     -- frames went out, and further drains followed
     pub frames_then : {T : Type 0} (done : T) (outcome : Result T Closed) (responses : List Response) (h k l : Option (List ℕ)) (n m j : ℕ) (a b : ℕ → Option ℤ)
         (w : ℕ → Option (List ℕ)) (f : ℕ) (s t : S) → Sent (Ok done) h k n m (stream_opening handle resumed ++ chunks_for responses)
         → FurtherSent turn outcome p.machine handle more (taking k m a w f) (taking l j b w f) s t
-        → DrainedSent turn site more outcome close p handle resumed (Frames responses) (taking h n a w f) (taking l j b w f) s t
+        → DrainedSent turn given more outcome close p handle resumed (Frames responses) (taking h n a w f) (taking l j b w f) s t
     frames_then done outcome responses h k l n m j a b w f s t first rest = record {
       further = rest.further;
       are = rest.are;
@@ -234,7 +234,7 @@ module _ {S : Type 0} (turn : S → Event → Reply → S → Type 0) where
     -- they broke off
     pub frames_broken : {T : Type 0} (e : Closed) (responses : List Response) (h k : Option (List ℕ)) (n m : ℕ) (a : ℕ → Option ℤ) (w : ℕ → Option (List ℕ)) (f : ℕ) (s : S)
         → Sent {T = T} (Err e) h k n m (stream_opening handle resumed ++ chunks_for responses)
-        → DrainedSent {T = T} turn site more (Err e) close p handle resumed (Frames responses) (taking h n a w f) (taking k m a w f) s s
+        → DrainedSent {T = T} turn given more (Err e) close p handle resumed (Frames responses) (taking h n a w f) (taking k m a w f) s s
     frames_broken {T} e responses h k n m a w f s first = record {
       further = [];
       are = inr (broke T e first.written (stream_opening handle resumed ++ chunks_for responses) n m first.is);
@@ -246,7 +246,7 @@ module _ {S : Type 0} (turn : S → Event → Reply → S → Type 0) where
     -- the session has ended
     pub ended_then : {T : Type 0} (outcome : Result T Closed) (h k : Option (List ℕ)) (n m : ℕ) (a : ℕ → Option ℤ) (w : ℕ → Option (List ℕ)) (f : ℕ) (s : S)
         → Sent outcome h k n m (stream_opening handle resumed)
-        → DrainedSent turn site more outcome close p handle resumed Ended (taking h n a w f) (taking k m a w f) s s
+        → DrainedSent turn given more outcome close p handle resumed Ended (taking h n a w f) (taking k m a w f) s s
     ended_then outcome h k n m a w f s sent = record {
       further = [];
       are = refl;
@@ -257,8 +257,8 @@ module _ {S : Type 0} (turn : S → Event → Reply → S → Type 0) where
 
     -- memory ran out
     pub lost_then : {T : Type 0} (outcome : Result T Closed) (loss : Loss) (h k : Option (List ℕ)) (n m : ℕ) (a : ℕ → Option ℤ) (w : ℕ → Option (List ℕ)) (f : ℕ) (s : S)
-        → Sent outcome h k n m (reply_bytes site (map_ask_of p) (Lost loss) close)
-        → DrainedSent turn site more outcome close p handle resumed (Lost loss) (taking h n a w f) (taking k m a w f) s s
+        → Sent outcome h k n m (reply_bytes given (map_ask_of p) (Lost loss) close)
+        → DrainedSent turn given more outcome close p handle resumed (Lost loss) (taking h n a w f) (taking k m a w f) s s
     lost_then outcome loss h k n m a w f s sent = record {
       further = [];
       are = refl;
@@ -299,10 +299,10 @@ module _ {S : Type 0} (turn : S → Event → Reply → S → Type 0) where
     pub followed_all : {T : Type 0} (sent outcome : Result T Closed) (reply : Reply) (h k l : Option (List ℕ)) (n m j : ℕ) (a b c d : ℕ → Option ℤ)
         (w : ℕ → Option (List ℕ)) (f : ℕ) (s u v t : S)
         → TurnedOnce turn (IsDrainOf p.machine handle) reply (taking h n a w f) (taking h n b w f) s u
-        → DrainedSent turn site more sent close p handle resumed reply (taking h n b w f) (taking k m c w f) u v
+        → DrainedSent turn given more sent close p handle resumed reply (taking h n b w f) (taking k m c w f) u v
         → TurnedOnce turn (IsDetachOf p.machine handle) Detached (taking k m c w f) (taking k m d w f) v t
         → Completed sent outcome k l m j (stream_ending reply)
-        → Followed turn site more outcome close p handle resumed (taking h n a w f) (taking l j d w f) s t
+        → Followed turn given more outcome close p handle resumed (taking h n a w f) (taking l j d w f) s t
     followed_all sent outcome reply h k l n m j a b c d w f s u v t drain drained detach completed =
         let ts = drained.further in
         let g0 = taking h n a w f in
@@ -316,7 +316,7 @@ module _ {S : Type 0} (turn : S → Event → Reply → S → Type 0) where
         let is = sym drain.reply_is in
         record {
           later = later;
-          bytes = stream_front site close p handle resumed reply ts ++ stream_ending reply;
+          bytes = stream_front given close p handle resumed reply ts ++ stream_ending reply;
           stream = record {
             drain = drain.turned;
             further = ts;
@@ -326,25 +326,25 @@ module _ {S : Type 0} (turn : S → Event → Reply → S → Type 0) where
             further_are = subst (λ (r : Reply). AreBehind p.machine handle more (breaks outcome) r ts) is
                 (behind_still (breaks sent) (breaks outcome) reply ts (still_breaks sent outcome k l m j (stream_ending reply) completed) drained.are);
             detach_is = detach.fits;
-            bytes_are = ap (λ (r : Reply). stream_front site close p handle resumed r ts ++ stream_ending r) is;
+            bytes_are = ap (λ (r : Reply). stream_front given close p handle resumed r ts ++ stream_ending r) is;
           };
           chain = (u, drain.leads, tail);
           took = took_apart h k h l n m n j a d w w f f later took;
-          sent = sent_completed sent outcome h k l n m j (stream_front site close p handle resumed reply ts) (stream_ending reply) drained.sent completed;
+          sent = sent_completed sent outcome h k l n m j (stream_front given close p handle resumed reply ts) (stream_ending reply) drained.sent completed;
         }
 
   -- ---- from the attach on
 
-  module _ (site : FrontSettings) (more : ℕ) (close : Bool) (p : Poll) where
+  module _ (given : FrontSettings) (more : ℕ) (close : Bool) (p : Poll) where
     -- the session goes on or began
     pub answered_on : {T : Type 0} (outcome : Result T Closed) (reply : Reply) (handle : List ℕ) (seq : ℕ) (resumed may_wait : Bool) (old new : Giving) (s t : S)
         → reply ≡ Attached handle seq resumed may_wait
-        → Followed turn site (if may_wait then more else 0) outcome close p handle resumed old new s t
-        → AttachAnswered turn site more outcome close p reply old new s t
+        → Followed turn given (if may_wait then more else 0) outcome close p handle resumed old new s t
+        → AttachAnswered turn given more outcome close p reply old new s t
     answered_on outcome reply handle seq resumed may_wait old new s t is followed = record {
       later = followed.later;
       bytes = followed.bytes;
-      follows = subst (λ (r : Reply). IsPollOf site more close p r followed.later followed.bytes (breaks outcome)) (sym is) followed.stream;
+      follows = subst (λ (r : Reply). IsPollOf given more close p r followed.later followed.bytes (breaks outcome)) (sym is) followed.stream;
       chain = followed.chain;
       took = followed.took;
       sent = followed.sent;
@@ -352,12 +352,12 @@ module _ {S : Type 0} (turn : S → Event → Reply → S → Type 0) where
 
     -- the attach was refused or lost, and nothing follows
     pub answered_alone : {T : Type 0} (outcome : Result T Closed) (reply : Reply) (h k : Option (List ℕ)) (n m : ℕ) (a : ℕ → Option ℤ) (w : ℕ → Option (List ℕ)) (f : ℕ) (s : S)
-        → IsPollOf site more close p reply [] (reply_bytes site (map_ask_of p) reply close) (breaks outcome)
-        → Sent outcome h k n m (reply_bytes site (map_ask_of p) reply close)
-        → AttachAnswered turn site more outcome close p reply (taking h n a w f) (taking k m a w f) s s
+        → IsPollOf given more close p reply [] (reply_bytes given (map_ask_of p) reply close) (breaks outcome)
+        → Sent outcome h k n m (reply_bytes given (map_ask_of p) reply close)
+        → AttachAnswered turn given more outcome close p reply (taking h n a w f) (taking k m a w f) s s
     answered_alone outcome reply h k n m a w f s follows sent = record {
       later = [];
-      bytes = reply_bytes site (map_ask_of p) reply close;
+      bytes = reply_bytes given (map_ask_of p) reply close;
       follows = follows;
       chain = refl;
       took = took_none (taking h n a w f) (taking k m a w f) (λ i. refl) (λ i. refl) (omega arith);
@@ -367,8 +367,8 @@ module _ {S : Type 0} (turn : S → Event → Reply → S → Type 0) where
     pub polled : {T : Type 0} (outcome : Result T Closed) (reply : Reply) (h k : Option (List ℕ)) (n m : ℕ) (a b c : ℕ → Option ℤ)
         (w x : ℕ → Option (List ℕ)) (f g : ℕ) (s u t : S)
         → TurnedOnce turn (IsAttachOf p) reply (taking h n a w f) (taking h n b x g) s u
-        → AttachAnswered turn site more outcome close p reply (taking h n b x g) (taking k m c x g) u t
-        → IsPollAnswered turn site more outcome p close (taking h n a w f) (taking k m c x g) s t
+        → AttachAnswered turn given more outcome close p reply (taking h n b x g) (taking k m c x g) u t
+        → IsPollAnswered turn given more outcome p close (taking h n a w f) (taking k m c x g) s t
     polled outcome reply h k n m a b c w x f g s u t attach answered = record {
       turns = attach.turned ∷ answered.later;
       bytes = answered.bytes;
@@ -377,7 +377,7 @@ module _ {S : Type 0} (turn : S → Event → Reply → S → Type 0) where
         later = answered.later;
         turns_are = refl;
         attach_is = attach.fits;
-        follows = subst (λ (r : Reply). IsPollOf site more close p r answered.later answered.bytes (breaks outcome)) (sym attach.reply_is) answered.follows;
+        follows = subst (λ (r : Reply). IsPollOf given more close p r answered.later answered.bytes (breaks outcome)) (sym attach.reply_is) answered.follows;
       };
       chain = (u, attach.leads, answered.chain);
       took = took-append (taking h n a w f) (taking h n b x g) (taking k m c x g) (attach.turned ∷ []) answered.later attach.took answered.took;

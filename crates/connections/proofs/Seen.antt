@@ -22,9 +22,9 @@ ends_from WriteFault xs rest extra written mid new f e = e
 ends_from NoMemory xs rest extra written mid new f e = e
 
 -- the same answers of the clock, told otherwise
-abbrev pub serves_from : {S : Type 0} (turn : S → Event → Reply → S → Type 0) (site : FrontSettings) (more : ℕ) (closed : Closed) (limit : ℕ) (held : List ℕ) (mid new : Told) (s t : S) (f : ℕ → Option ℤ) → ((k : ℕ) → mid.giving.answers k ≡ f k) → IsConnection turn site more closed limit held mid new s t
-    → IsConnection turn site more closed limit held (with_answers mid f) new s t
-serves_from turn site more closed limit held mid new s t f same serves =
+abbrev pub serves_from : {S : Type 0} (turn : S → Event → Reply → S → Type 0) (given : FrontSettings) (more : ℕ) (closed : Closed) (limit : ℕ) (held : List ℕ) (mid new : Told) (s t : S) (f : ℕ → Option ℤ) → ((k : ℕ) → mid.giving.answers k ≡ f k) → IsConnection turn given more closed limit held mid new s t
+    → IsConnection turn given more closed limit held (with_answers mid f) new s t
+serves_from turn given more closed limit held mid new s t f same serves =
     let ts = turns_of serves.exchanges in
     record {
       exchanges = serves.exchanges;
@@ -46,9 +46,9 @@ serves_from turn site more closed limit held mid new s t f same serves =
     }
 
 -- the same connection, its turns seen otherwise
-pub serves_map : {S R : Type 0} (turn : S → Event → Reply → S → Type 0) (turn' : R → Event → Reply → R → Type 0) (site : FrontSettings) (more : ℕ) (f : S → R) → ((s : S) (e : Event) (reply : Reply) (t : S) → turn s e reply t → turn' (f s) e reply (f t))
-    → (closed : Closed) (limit : ℕ) (held : List ℕ) (old new : Told) (s t : S) → IsConnection turn site more closed limit held old new s t → IsConnection turn' site more closed limit held old new (f s) (f t)
-serves_map turn turn' site more f each closed limit held old new s t serves = record {
+pub serves_map : {S R : Type 0} (turn : S → Event → Reply → S → Type 0) (turn' : R → Event → Reply → R → Type 0) (given : FrontSettings) (more : ℕ) (f : S → R) → ((s : S) (e : Event) (reply : Reply) (t : S) → turn s e reply t → turn' (f s) e reply (f t))
+    → (closed : Closed) (limit : ℕ) (held : List ℕ) (old new : Told) (s t : S) → IsConnection turn given more closed limit held old new s t → IsConnection turn' given more closed limit held old new (f s) (f t)
+serves_map turn turn' given more f each closed limit held old new s t serves = record {
   exchanges = serves.exchanges;
   read = serves.read;
   rest = serves.rest;

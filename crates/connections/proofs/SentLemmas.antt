@@ -74,7 +74,7 @@ sent_completed {T} (Err e) outcome o mid new n m k front ending a c =
     (subst (λ (x : Option (List ℕ)). Sent {T = T} (Err e) o x n k (front ++ ending)) (sym c.1)
     (subst (λ (j : ℕ). Sent {T = T} (Err e) o mid n j (front ++ ending)) (sym c.2) here))
 
--- the ending doesn't mend what broke off
+-- the ending doesn't repair what broke off
 pub still_breaks : {T : Type 0} (sent outcome : Result T Closed) (mid new : Option (List ℕ)) (m k : ℕ) (ending : List ℕ)
     → Completed sent outcome mid new m k ending → breaks sent ≡ true → breaks outcome ≡ true
 still_breaks (Ok done) outcome mid new m k ending c b = absurd (cc)

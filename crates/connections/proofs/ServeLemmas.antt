@@ -58,10 +58,10 @@ ends_more NoMemory x xs rest extra written old mid new still u r w e = inr (writ
 extra_more : (x : Exchange) (xs : List Exchange) (rest extra : List ℕ) → x.ended ≡ None → IsExtra (end_of xs) rest extra → IsExtra (end_of (x ∷ xs)) rest extra
 extra_more x xs rest extra still e = rw still e
 
-module _ {S : Type 0} (turn : S → Event → Reply → S → Type 0) (site : FrontSettings) (further : ℕ) where
+module _ {S : Type 0} (turn : S → Event → Reply → S → Type 0) (given : FrontSettings) (further : ℕ) where
   -- nothing was served, and nothing written
   pub serves_none : (closed : Closed) (limit : ℕ) (held read : List ℕ) (old new : Told) (s : S) → new.giving ≡ old.giving → old.left ≡ and_then_left read new.left → old.read_faults ≤ new.read_faults
-      → Ends closed [] (held ++ read) [] [] old new → IsConnection turn site further closed limit held old new s s
+      → Ends closed [] (held ++ read) [] [] old new → IsConnection turn given further closed limit held old new s s
   serves_none closed limit held read old new s same came later ends =
       let quiet : (f : Giving) → f ≡ old.giving → TurnsTook old.giving f [] = λ f e. subst (λ (x : Giving). TurnsTook old.giving x []) (sym e) (took_none old.giving old.giving (λ k. refl) (λ k. refl) (omega arith)) in
       record {
@@ -87,7 +87,7 @@ module _ {S : Type 0} (turn : S → Event → Reply → S → Type 0) (site : Fr
   pub serves_refused : (closed : Closed) (limit : ℕ) (held new_held : List ℕ) (fault : HeadFault) (old new : Told) (s : S)
       → Takes old.left new.left held new_held (taken.Bad fault) → old.read_faults ≤ new.read_faults
       → ((k : ℕ) → new.giving.answers k ≡ old.giving.answers k) → ((k : ℕ) → new.giving.words k ≡ old.giving.words k) → old.giving.word_faults ≤ new.giving.word_faults
-      → IsRefusalSent old.giving.held new.giving.held old.giving.write_faults new.giving.write_faults (head_fault_answer fault) closed → IsConnection turn site further closed limit held old new s s
+      → IsRefusalSent old.giving.held new.giving.held old.giving.write_faults new.giving.write_faults (head_fault_answer fault) closed → IsConnection turn given further closed limit held old new s s
   serves_refused closed limit held new_held fault old new s took later answers words faults refused = record {
     exchanges = [];
     read = took.read;
@@ -109,8 +109,8 @@ module _ {S : Type 0} (turn : S → Event → Reply → S → Type 0) (site : Fr
 
   -- the last request was served
   pub served_last : {T : Type 0} (outcome : Result T Closed) (request : Request) (last : Bool) (held new_held : List ℕ) (old new : Told) (s t : S)
-      → Takes old.left new.left held new_held (taken.Request request) → old.read_faults ≤ new.read_faults → Answered turn site further outcome request last old.giving new.giving s t
-      → IfErr outcome (λ closed. (limit : ℕ) → 0 < limit → last ≡ (limit == 1) → IsConnection turn site further closed limit held old new s t)
+      → Takes old.left new.left held new_held (taken.Request request) → old.read_faults ≤ new.read_faults → Answered turn given further outcome request last old.giving new.giving s t
+      → IfErr outcome (λ closed. (limit : ℕ) → 0 < limit → last ≡ (limit == 1) → IsConnection turn given further closed limit held old new s t)
   served_last (Ok done) request last held new_held old new s t took later answered = tt
   served_last {T} (Err closed) request last held new_held old new s t took later answered = λ limit some is_last.
       let x = answered.exchange in
@@ -123,7 +123,7 @@ module _ {S : Type 0} (turn : S → Event → Reply → S → Type 0) (site : Fr
         written = answered.written;
         from_source = took.moved;
         bytes_read = (new_held, whole, refl);
-        each = (some, subst (λ (b : Bool). IsExchange site further b x) is_last answered.is, λ never. absurd (never refl), tt);
+        each = (some, subst (λ (b : Bool). IsExchange given further b x) is_last answered.is, λ never. absurd (never refl), tt);
         chain = rw append-nil answered.chain;
         took = rw append-nil answered.took;
         extra_is = inl refl;
@@ -136,8 +136,8 @@ module _ {S : Type 0} (turn : S → Event → Reply → S → Type 0) (site : Fr
 
   -- a request was served, and the connection goes on
   pub goes_one : {T : Type 0} (outcome : Result T Closed) (request : Request) (last : Bool) (held new_held : List ℕ) (old new : Told) (s t : S)
-      → Takes old.left new.left held new_held (taken.Request request) → old.read_faults ≤ new.read_faults → Answered turn site further outcome request last old.giving new.giving s t → OnOk outcome (last ≡ false)
-      → OnOk outcome (Goes turn site further last held new_held old new s t)
+      → Takes old.left new.left held new_held (taken.Request request) → old.read_faults ≤ new.read_faults → Answered turn given further outcome request last old.giving new.giving s t → OnOk outcome (last ≡ false)
+      → OnOk outcome (Goes turn given further last held new_held old new s t)
   goes_one (Ok done) request last held new_held old new s t took later answered more = record {
     unfinished = more;
     exchange = answered.exchange;
@@ -157,7 +157,7 @@ module _ {S : Type 0} (turn : S → Event → Reply → S → Type 0) (site : Fr
 
   -- one exchange, and then the rest of the connection
   pub serves_more : (closed : Closed) (limit more : ℕ) (last : Bool) (held mid_held : List ℕ) (old mid new : Told) (s u t : S) → limit ≡ more - 1 → 0 < more → last ≡ (more == 1)
-      → Goes turn site further last held mid_held old mid s u → IsConnection turn site further closed limit mid_held mid new u t → IsConnection turn site further closed more held old new s t
+      → Goes turn given further last held mid_held old mid s u → IsConnection turn given further closed limit mid_held mid new u t → IsConnection turn given further closed more held old new s t
   serves_more closed limit more last held mid_held old mid new s u t is some is_last goes serves =
       let x = goes.exchange in
       let xs = serves.exchanges in
@@ -171,7 +171,7 @@ module _ {S : Type 0} (turn : S → Event → Reply → S → Type 0) (site : Fr
         written = x.bytes ++ serves.written;
         from_source = goes.from_source ∙ ap (λ o. and_then_left goes.read o) serves.from_source ∙ left_more new.left goes.read serves.read;
         bytes_read = (mid_held ++ serves.read, whole, serves.bytes_read);
-        each = (some, subst (λ (b : Bool). IsExchange site further b x) is_last goes.is, λ _. (goes.open_still, goes.unbroken), subst (λ (n : ℕ). AreExchanges site further n xs) is serves.each);
+        each = (some, subst (λ (b : Bool). IsExchange given further b x) is_last goes.is, λ _. (goes.open_still, goes.unbroken), subst (λ (n : ℕ). AreExchanges given further n xs) is serves.each);
         chain = Chain-append turn s x.turns (turns_of xs) u t goes.chain serves.chain;
         took = took-append old.giving mid.giving new.giving x.turns (turns_of xs) goes.took serves.took;
         extra_is = extra_more x xs serves.rest serves.extra goes.open_still serves.extra_is;

@@ -14,12 +14,12 @@ use Rattle.run_ends.specs.declared.closed.Closed.{Closed}
 use Rattle.run_ends.specs.declared.closed.Closed.TheVariants.{End, Early, ReadFault, WriteFault, NoMemory}
 
 -- the ask was one turn, and the answer to its reply was written
-pub record IsAskAnswered {T S : Type 0} (turn : S → Event → Reply → S → Type 0) (site : FrontSettings) (outcome : Result T Closed) (ask : Ask) (close : Bool) (old new : Giving) (s t : S) : Type 0 where
+pub record IsAskAnswered {T S : Type 0} (turn : S → Event → Reply → S → Type 0) (given : FrontSettings) (outcome : Result T Closed) (ask : Ask) (close : Bool) (old new : Giving) (s t : S) : Type 0 where
   pub turned : Turned
   pub asks : IsTurnOf ask turned
   pub leads : turn s turned.event turned.reply t
   pub took : TurnsTook old new (turned ∷ [])
-  pub sent : Sent outcome old.held new.held old.write_faults new.write_faults (reply_bytes site ask turned.reply close)
+  pub sent : Sent outcome old.held new.held old.write_faults new.write_faults (reply_bytes given ask turned.reply close)
 
 -- What follows an answer that was written or not: how the connection goes on, and how it was ended, if it was.
 pub record Follows {T : Type 0} (sent outcome : Result T Closed) (ended : Option Closed) : Type 0 where

@@ -58,7 +58,7 @@ Ends WriteFault xs rest extra written old new = IsBrokenOff xs extra written × 
 Ends NoMemory xs rest extra written old new = IsBrokenOff xs extra written
 
 -- A connection over turns, whose polls have so many further drains at most, with what was held back of the bytes before it.
-pub record IsConnection {S : Type 0} (turn : S → Event → Reply → S → Type 0) (site : FrontSettings) (more : ℕ) (closed : Closed) (limit : ℕ) (held : List ℕ) (old new : Told) (s t : S) : Type 0 where
+pub record IsConnection {S : Type 0} (turn : S → Event → Reply → S → Type 0) (given : FrontSettings) (more : ℕ) (closed : Closed) (limit : ℕ) (held : List ℕ) (old new : Told) (s t : S) : Type 0 where
   pub exchanges : List Exchange
   pub read : List ℕ
   pub rest : List ℕ
@@ -66,7 +66,7 @@ pub record IsConnection {S : Type 0} (turn : S → Event → Reply → S → Typ
   pub written : List ℕ
   pub from_source : old.left ≡ and_then_left read new.left
   pub bytes_read : Leads (held ++ read) (requests_of exchanges) rest
-  pub each : AreExchanges site more limit exchanges
+  pub each : AreExchanges given more limit exchanges
   pub chain : Chain turn s (turns_of exchanges) t
   pub took : TurnsTook old.giving new.giving (turns_of exchanges)
   pub extra_is : IsExtra (end_of exchanges) rest extra
@@ -77,13 +77,13 @@ pub record IsConnection {S : Type 0} (turn : S → Event → Reply → S → Typ
   pub ending : Ends closed exchanges rest extra written old new
 
 -- One whole exchange, after which the connection goes on; it wasn't the last that may be served.
-pub record Goes {S : Type 0} (turn : S → Event → Reply → S → Type 0) (site : FrontSettings) (more : ℕ) (last : Bool) (held new_held : List ℕ) (old new : Told) (s t : S) : Type 0 where
+pub record Goes {S : Type 0} (turn : S → Event → Reply → S → Type 0) (given : FrontSettings) (more : ℕ) (last : Bool) (held new_held : List ℕ) (old new : Told) (s t : S) : Type 0 where
   pub unfinished : last ≡ false
   pub exchange : Exchange
   pub read : List ℕ
   pub from_source : old.left ≡ and_then_left read new.left
   pub bytes_read : IsWhole (held ++ read) exchange.request new_held
-  pub is : IsExchange site more last exchange
+  pub is : IsExchange given more last exchange
   pub open_still : exchange.ended ≡ None
   pub unbroken : exchange.broken ≡ false
   pub chain : Chain turn s exchange.turns t

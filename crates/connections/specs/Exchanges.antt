@@ -38,24 +38,24 @@ IsUnanswered close turns bytes ended =
 -- A fault and a fixed answer have no turn; a fault ends the connection. What is asked is one turn, and its reply is
 -- answered. A poll has so many further drains at most.
 abbrev pub IsAnswered : FrontSettings → ℕ → Bool → Wanted → List Turned → List ℕ → Option Closed → Bool → Type 0
-IsAnswered site more close (wants.Fault body) turns bytes ended broken = (turns ≡ []) × (bytes ≡ answer 400 body true) × (ended ≡ Some Early)
-IsAnswered site more close (wants.Answer status body) turns bytes ended broken =
+IsAnswered given more close (wants.Fault body) turns bytes ended broken = (turns ≡ []) × (bytes ≡ answer 400 body true) × (ended ≡ Some Early)
+IsAnswered given more close (wants.Answer status body) turns bytes ended broken =
     (turns ≡ []) × (bytes ≡ answer status body close) × (ended ≡ ended_by close)
-IsAnswered site more close (wants.Ask ask) turns bytes ended broken =
-    (t : Turned) × (turns ≡ t ∷ []) × IsTurnOf ask t × (bytes ≡ reply_bytes site ask t.reply close) × (ended ≡ ended_by close)
-IsAnswered site more close (wants.Poll p) turns bytes ended broken = IsPoll site more close p turns bytes broken × (ended ≡ ended_by close)
+IsAnswered given more close (wants.Ask ask) turns bytes ended broken =
+    (t : Turned) × (turns ≡ t ∷ []) × IsTurnOf ask t × (bytes ≡ reply_bytes given ask t.reply close) × (ended ≡ ended_by close)
+IsAnswered given more close (wants.Poll p) turns bytes ended broken = IsPoll given more close p turns bytes broken × (ended ≡ ended_by close)
 
 -- The turns and the bytes are those of the request, which is the last that is served or not.
 abbrev pub IsExchange : FrontSettings → ℕ → Bool → Exchange → Type 0
-IsExchange site more last x =
+IsExchange given more last x =
     IsUnanswered (x.request.close || last) x.turns x.bytes x.ended
-    ⊎ IsAnswered site more (x.request.close || last) (wanted_of site x.request) x.turns x.bytes x.ended x.broken
+    ⊎ IsAnswered given more (x.request.close || last) (wanted_of given x.request) x.turns x.bytes x.ended x.broken
 
 -- So many requests are served at most; only the last of them may have ended the connection, or have broken off.
 abbrev pub AreExchanges : FrontSettings → ℕ → ℕ → List Exchange → Type 0
-AreExchanges site more limit [] = Unit {0}
-AreExchanges site more limit (x ∷ xs) =
-    (0 < limit) × IsExchange site more (limit == 1) x × (xs ≢ [] → (x.ended ≡ None) × (x.broken ≡ false)) × AreExchanges site more (limit - 1) xs
+AreExchanges given more limit [] = Unit {0}
+AreExchanges given more limit (x ∷ xs) =
+    (0 < limit) × IsExchange given more (limit == 1) x × (xs ≢ [] → (x.ended ≡ None) × (x.broken ≡ false)) × AreExchanges given more (limit - 1) xs
 
 abbrev pub requests_of : List Exchange → List Request
 requests_of xs = map (λ x. x.request) xs
@@ -95,10 +95,10 @@ AreUnbroken [] = Unit {0}
 AreUnbroken (x ∷ xs) = (x.broken ≡ false) × AreUnbroken xs
 
 -- One request was served.
-pub record Answered {T S : Type 0} (turn : S → Event → Reply → S → Type 0) (site : FrontSettings) (more : ℕ) (outcome : Result T Closed) (request : Request) (last : Bool) (old new : Giving) (s t : S) : Type 0 where
+pub record Answered {T S : Type 0} (turn : S → Event → Reply → S → Type 0) (given : FrontSettings) (more : ℕ) (outcome : Result T Closed) (request : Request) (last : Bool) (old new : Giving) (s t : S) : Type 0 where
   pub exchange : Exchange
   pub request_is : exchange.request ≡ request
-  pub is : IsExchange site more last exchange
+  pub is : IsExchange given more last exchange
   pub broken_is : exchange.broken ≡ breaks outcome
   pub chain : Chain turn s exchange.turns t
   pub took : TurnsTook old new exchange.turns

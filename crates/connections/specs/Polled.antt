@@ -56,12 +56,12 @@ pub record FurtherSent {T S : Type 0} (turn : S → Event → Reply → S → Ty
   pub sent : Sent outcome old.held new.held old.write_faults new.write_faults (further_bytes further)
 
 -- what follows a drain that was replied so, but for what ends the answer
-pub record DrainedSent {T S : Type 0} (turn : S → Event → Reply → S → Type 0) (site : FrontSettings) (more : ℕ) (outcome : Result T Closed) (close : Bool) (p : Poll) (handle : List ℕ) (resumed : Bool) (reply : Reply) (old new : Giving) (s t : S) : Type 0 where
+pub record DrainedSent {T S : Type 0} (turn : S → Event → Reply → S → Type 0) (given : FrontSettings) (more : ℕ) (outcome : Result T Closed) (close : Bool) (p : Poll) (handle : List ℕ) (resumed : Bool) (reply : Reply) (old new : Giving) (s t : S) : Type 0 where
   pub further : List Turned
   pub are : AreBehind p.machine handle more (breaks outcome) reply further
   pub chain : Chain turn s further t
   pub took : TurnsTook old new further
-  pub sent : Sent outcome old.held new.held old.write_faults new.write_faults (stream_front site close p handle resumed reply further)
+  pub sent : Sent outcome old.held new.held old.write_faults new.write_faults (stream_front given close p handle resumed reply further)
 
 -- what was sent is ended so; if its writing broke off, nothing more is written
 abbrev pub Completed : {T : Type 0} → Result T Closed → Result T Closed → Option (List ℕ) → Option (List ℕ) → ℕ → ℕ → List ℕ → Type 0
@@ -69,28 +69,28 @@ Completed (Ok done) outcome old new before now ending = Sent outcome old new bef
 Completed (Err e) outcome old new before now ending = (outcome ≡ Err e) × (new ≡ old) × (now ≡ before)
 
 -- what follows an attach
-pub record Followed {T S : Type 0} (turn : S → Event → Reply → S → Type 0) (site : FrontSettings) (more : ℕ) (outcome : Result T Closed) (close : Bool) (p : Poll) (handle : List ℕ) (resumed : Bool) (old new : Giving) (s t : S) : Type 0 where
+pub record Followed {T S : Type 0} (turn : S → Event → Reply → S → Type 0) (given : FrontSettings) (more : ℕ) (outcome : Result T Closed) (close : Bool) (p : Poll) (handle : List ℕ) (resumed : Bool) (old new : Giving) (s t : S) : Type 0 where
   pub later : List Turned
   pub bytes : List ℕ
-  pub stream : IsStream site more close p handle resumed later bytes (breaks outcome)
+  pub stream : IsStream given more close p handle resumed later bytes (breaks outcome)
   pub chain : Chain turn s later t
   pub took : TurnsTook old new later
   pub sent : Sent outcome old.held new.held old.write_faults new.write_faults bytes
 
 -- an attach that was replied so was answered
-pub record AttachAnswered {T S : Type 0} (turn : S → Event → Reply → S → Type 0) (site : FrontSettings) (more : ℕ) (outcome : Result T Closed) (close : Bool) (p : Poll) (reply : Reply) (old new : Giving) (s t : S) : Type 0 where
+pub record AttachAnswered {T S : Type 0} (turn : S → Event → Reply → S → Type 0) (given : FrontSettings) (more : ℕ) (outcome : Result T Closed) (close : Bool) (p : Poll) (reply : Reply) (old new : Giving) (s t : S) : Type 0 where
   pub later : List Turned
   pub bytes : List ℕ
-  pub follows : IsPollOf site more close p reply later bytes (breaks outcome)
+  pub follows : IsPollOf given more close p reply later bytes (breaks outcome)
   pub chain : Chain turn s later t
   pub took : TurnsTook old new later
   pub sent : Sent outcome old.held new.held old.write_faults new.write_faults bytes
 
 -- a poll was answered
-pub record IsPollAnswered {T S : Type 0} (turn : S → Event → Reply → S → Type 0) (site : FrontSettings) (more : ℕ) (outcome : Result T Closed) (p : Poll) (close : Bool) (old new : Giving) (s t : S) : Type 0 where
+pub record IsPollAnswered {T S : Type 0} (turn : S → Event → Reply → S → Type 0) (given : FrontSettings) (more : ℕ) (outcome : Result T Closed) (p : Poll) (close : Bool) (old new : Giving) (s t : S) : Type 0 where
   pub turns : List Turned
   pub bytes : List ℕ
-  pub poll : IsPoll site more close p turns bytes (breaks outcome)
+  pub poll : IsPoll given more close p turns bytes (breaks outcome)
   pub chain : Chain turn s turns t
   pub took : TurnsTook old new turns
   pub sent : Sent outcome old.held new.held old.write_faults new.write_faults bytes

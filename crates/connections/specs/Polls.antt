@@ -60,14 +60,14 @@ stream_opening handle resumed = stream_head ++ greeting_bytes handle resumed
 
 -- The bytes by what the first drain was replied, but for what ends them: a stream; or, where memory ran out, an answer.
 abbrev pub stream_front : FrontSettings → Bool → Poll → List ℕ → Bool → Reply → List Turned → List ℕ
-stream_front site close p handle resumed (Done answer) further = []
-stream_front site close p handle resumed (Attached other seq again may_wait) further = []
-stream_front site close p handle resumed (Frames responses) further =
+stream_front given close p handle resumed (Done answer) further = []
+stream_front given close p handle resumed (Attached other seq again may_wait) further = []
+stream_front given close p handle resumed (Frames responses) further =
     (stream_opening handle resumed ++ chunks_for responses) ++ further_bytes further
-stream_front site close p handle resumed Ended further = stream_opening handle resumed
-stream_front site close p handle resumed Detached further = []
-stream_front site close p handle resumed (Refused refusal) further = []
-stream_front site close p handle resumed (Lost loss) further = reply_bytes site (map_ask_of p) (Lost loss) close
+stream_front given close p handle resumed Ended further = stream_opening handle resumed
+stream_front given close p handle resumed Detached further = []
+stream_front given close p handle resumed (Refused refusal) further = []
+stream_front given close p handle resumed (Lost loss) further = reply_bytes given (map_ask_of p) (Lost loss) close
 
 -- a stream ends with the last chunk
 abbrev pub stream_ending : Reply → List ℕ
@@ -109,7 +109,7 @@ AreBehind machine handle more broken (Refused refusal) further = ⊥
 AreBehind machine handle more broken (Lost loss) further = further ≡ []
 
 -- What follows an attach: a drain, further ones, and a detach, whatever came between.
-pub record IsStream (site : FrontSettings) (more : ℕ) (close : Bool) (p : Poll) (handle : List ℕ) (resumed : Bool) (later : List Turned) (bytes : List ℕ) (broken : Bool) : Type 0 where
+pub record IsStream (given : FrontSettings) (more : ℕ) (close : Bool) (p : Poll) (handle : List ℕ) (resumed : Bool) (later : List Turned) (bytes : List ℕ) (broken : Bool) : Type 0 where
   pub drain : Turned
   pub further : List Turned
   pub detach : Turned
@@ -117,26 +117,26 @@ pub record IsStream (site : FrontSettings) (more : ℕ) (close : Bool) (p : Poll
   pub drain_is : IsDrainOf p.machine handle drain
   pub further_are : AreBehind p.machine handle more broken drain.reply further
   pub detach_is : IsDetachOf p.machine handle detach
-  pub bytes_are : bytes ≡ stream_front site close p handle resumed drain.reply further ++ stream_ending drain.reply
+  pub bytes_are : bytes ≡ stream_front given close p handle resumed drain.reply further ++ stream_ending drain.reply
 
 -- What follows by what the attach was replied. A refusal is answered as that of a whole map. Only a poll that may wait
 -- has further drains.
 abbrev pub IsPollOf : FrontSettings → ℕ → Bool → Poll → Reply → List Turned → List ℕ → Bool → Type 0
-IsPollOf site more close p (Done answer) later bytes broken = ⊥
-IsPollOf site more close p (Attached handle seq resumed may_wait) later bytes broken =
-    IsStream site (if may_wait then more else 0) close p handle resumed later bytes broken
-IsPollOf site more close p (Frames responses) later bytes broken = ⊥
-IsPollOf site more close p Ended later bytes broken = ⊥
-IsPollOf site more close p Detached later bytes broken = ⊥
-IsPollOf site more close p (Refused refusal) later bytes broken =
-    (later ≡ []) × (bytes ≡ reply_bytes site (map_ask_of p) (Refused refusal) close)
-IsPollOf site more close p (Lost loss) later bytes broken =
-    (later ≡ []) × (bytes ≡ reply_bytes site (map_ask_of p) (Lost loss) close)
+IsPollOf given more close p (Done answer) later bytes broken = ⊥
+IsPollOf given more close p (Attached handle seq resumed may_wait) later bytes broken =
+    IsStream given (if may_wait then more else 0) close p handle resumed later bytes broken
+IsPollOf given more close p (Frames responses) later bytes broken = ⊥
+IsPollOf given more close p Ended later bytes broken = ⊥
+IsPollOf given more close p Detached later bytes broken = ⊥
+IsPollOf given more close p (Refused refusal) later bytes broken =
+    (later ≡ []) × (bytes ≡ reply_bytes given (map_ask_of p) (Refused refusal) close)
+IsPollOf given more close p (Lost loss) later bytes broken =
+    (later ≡ []) × (bytes ≡ reply_bytes given (map_ask_of p) (Lost loss) close)
 
 -- A poll is one attach, with the handle and the number that its client has, and what follows.
-pub record IsPoll (site : FrontSettings) (more : ℕ) (close : Bool) (p : Poll) (turns : List Turned) (bytes : List ℕ) (broken : Bool) : Type 0 where
+pub record IsPoll (given : FrontSettings) (more : ℕ) (close : Bool) (p : Poll) (turns : List Turned) (bytes : List ℕ) (broken : Bool) : Type 0 where
   pub attach : Turned
   pub later : List Turned
   pub turns_are : turns ≡ attach ∷ later
   pub attach_is : IsAttachOf p attach
-  pub follows : IsPollOf site more close p attach.reply later bytes broken
+  pub follows : IsPollOf given more close p attach.reply later bytes broken

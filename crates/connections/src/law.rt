@@ -1,4 +1,4 @@
-//! What a connection's contract comes to. None of these functions does anything: each states a law.
+//! What follows from a connection's contract. None of these functions does anything: each states a law.
 ghost use Rattle.connections.specs.Connection.{IsBrokenOff, IsExtra};
 ghost use Rattle.connections.specs.Exchanges.{AreUnbroken, Exchange, answers_of};
 ghost use Rattle.run_ends.specs.Pieces.{IsPrefix};

@@ -169,9 +169,9 @@ fn send_frames<T: Turns, O: Sink, C: Clock, P: Pause>(
     stream: &Stream<'_>,
     responses: &[Response],
 ) -> Result<(), Closed>
-    ensures sent { (site : FrontSettings) (words : ℕ → Option (List ℕ)) (word_faults : ℕ)
+    ensures sent { (given : FrontSettings) (words : ℕ → Option (List ℕ)) (word_faults : ℕ)
         → let at = writing O.holds O.write_faults C.answer words word_faults in
-        DrainedSent T.turn site stream.now.more result stream.now.close stream.now.poll.now
+        DrainedSent T.turn given stream.now.more result stream.now.close stream.now.poll.now
         stream.now.handle.now stream.now.resumed (replies.Frames responses.now)
         (at output.old clock.old) (at output.new clock.new) turns.old turns.new }
 {
@@ -199,7 +199,7 @@ fn send_frames<T: Turns, O: Sink, C: Clock, P: Pause>(
     }
 }
 
-/// Answers what the first drain came to, but for what ends the answer.
+/// Answers what the first drain resulted in, but for what ends the answer.
 fn answer_drain<T: Turns, O: Sink, C: Clock, P: Pause>(
     alloc: Global,
     front: &Front,

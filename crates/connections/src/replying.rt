@@ -13,7 +13,7 @@ use std::alloc::Global;
 use tail_base::NoMemory;
 use tailnet_desk::{Ask, Loss, Reply};
 
-/// Writes the answer to a reply. Want of memory is answered without memory.
+/// Writes the answer to a reply. Lack of memory is answered without memory.
 #[tactic(auto, unfolding(desk_front::specs::Replies::reply_bytes))]
 pub(crate) fn send_reply<O: Sink>(
     alloc: Global,

@@ -13,7 +13,7 @@ use run_ends::Closed;
 use std::alloc::Global;
 use tailnet_desk::Desk;
 
-/// Serves a connection over a desk. Its state, and what is told of its keeper, stand at both ends,
+/// Serves a connection over a desk. Its state, and what is known of its keeper, stand at both ends,
 /// joined by the turns of the served requests. Nobody else has the desk, so that no poll waits.
 pub fn serve_desk<K: Keeper, I: Source, O: Sink, C: Clock, N: Entropy>(
     alloc: Global,

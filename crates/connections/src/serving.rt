@@ -70,7 +70,7 @@ fn serve_one<T: Turns, I: Source, O: Sink, C: Clock, N: Entropy, P: Pause>(
 
 /// Serves requests until the input ends, one of them ends the connection, or as many were served as
 /// may be. At least one may. A poll that may wait has so many further drains at most; the pause is what
-/// it waits on, and what is told of events that change something.
+/// it waits on, and what is known of events that change something.
 pub fn serve<T: Turns, I: Source, O: Sink, C: Clock, N: Entropy, P: Pause>(
     alloc: Global,
     front: &Front,

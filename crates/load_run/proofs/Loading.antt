@@ -11,7 +11,7 @@ use Rattle.connections.specs.Exchanges.{turns_of}
 use Rattle.run_ends.specs.Pieces.{Wrote}
 use Rattle.run_ends.specs.declared.status.Status.TheVariants as status
 use Rattle.load_run.specs.Beginning.{IsBegun}
-use Rattle.load_run.specs.Loads.{IsLoad, IsLoadText, IsReported, load_site, opening_point, seeding}
+use Rattle.load_run.specs.Loads.{IsLoad, IsLoadText, IsReported, load_front, opening_point, seeding}
 use Rattle.load_run.specs.Report.{report}
 use Rattle.load_run.specs.Running.{IsLoadReady, stand_of}
 use Rattle.load_run.specs.Steps.{Runs, Stand, first_stand}
@@ -22,12 +22,12 @@ use Rattle.load_run.proofs.Stepping.{steps_chain}
 
 -- a load that began and was run to its end
 pub loaded : {K : Type 0} (plan : LoadPlan) (point : Seated K → Point) (before after : Run K) → IsBegun plan point before
-    → Runs plan load_site (stand_of point 0 before) (stand_of point (request_count plan) after) → IsLoadReady plan (request_count plan) after
+    → Runs plan load_front (stand_of point 0 before) (stand_of point (request_count plan) after) → IsLoadReady plan (request_count plan) after
     → (point after.watched.desk).keeping.faults ≡ 0 → IsLoad plan (stand_of point (request_count plan) after)
 loaded plan point before after begun runs ready sure =
     let seeded = point before.watched.desk in
     let final = stand_of point (request_count plan) after in
-    let from_first : Runs plan load_site (first_stand plan 0 seeded) final = subst (λ (s : Stand). Runs plan load_site s final) begun.stand runs in
+    let from_first : Runs plan load_front (first_stand plan 0 seeded) final = subst (λ (s : Stand). Runs plan load_front s final) begun.stand runs in
     let start = opening_point begun.keeping in
     record {
       keeping = begun.keeping;
@@ -39,6 +39,6 @@ loaded plan point before after begun runs ready sure =
       whole = refl;
       sum = ready.sum;
       history = history_of start (seeding begun.reply ∷ turns_of from_first.exchanges) final.point
-          (seeded, begun.seeds, steps_chain plan load_site (first_stand plan 0 seeded) from_first.exchanges final from_first.steps);
+          (seeded, begun.seeds, steps_chain plan load_front (first_stand plan 0 seeded) from_first.exchanges final from_first.steps);
       faultless = (begun.faultless, sure);
     }

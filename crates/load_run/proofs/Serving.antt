@@ -18,11 +18,11 @@ use Rattle.load_run.specs.Served.{IsServed}
 use Rattle.load_run.specs.Steps.{Begins}
 
 -- the one request of a connection, and its answer
-record One (site : FrontSettings) (message written : List ℕ) (xs : List Exchange) : Type 0 where
+record One (given : FrontSettings) (message written : List ℕ) (xs : List Exchange) : Type 0 where
   exchange : Exchange
   only : xs ≡ exchange ∷ []
   request : Begins message exchange.request
-  is : IsExchange site 0 true exchange
+  is : IsExchange given 0 true exchange
   unbroken : exchange.broken ≡ false
   written_is : written ≡ exchange.bytes
 
@@ -43,13 +43,13 @@ begun message read rest (Some more) x came leads =
     let is : Some message ≡ Some (read ++ more) = came in
     record { read = read; unread = more; bytes_are = cc; behind = rest; whole = leads }
 
-one_exchange : (site : FrontSettings) (message read rest extra written : List ℕ) (old new : Told) (xs : List Exchange) → 0 < length message → Some message ≡ and_then_left read new.left
-    → Leads read (requests_of xs) rest → AreExchanges site 0 1 xs → Ends End xs rest extra written old new → One site message written xs
-one_exchange site message read rest extra written old new [] some came leads each ends = no_message message some (elim ends.1 [
+one_exchange : (given : FrontSettings) (message read rest extra written : List ℕ) (old new : Told) (xs : List Exchange) → 0 < length message → Some message ≡ and_then_left read new.left
+    → Leads read (requests_of xs) rest → AreExchanges given 0 1 xs → Ends End xs rest extra written old new → One given message written xs
+one_exchange given message read rest extra written old new [] some came leads each ends = no_message message some (elim ends.1 [
   | inl ended ↦ absurd (cc)
   | inr ended ↦ unserved message read rest new.left came leads ended.1 ended.2
 ])
-one_exchange site message read rest extra written old new (x ∷ []) some came leads each ends = record {
+one_exchange given message read rest extra written old new (x ∷ []) some came leads each ends = record {
   exchange = x;
   only = refl;
   request = begun message read rest new.left x came leads;
@@ -57,7 +57,7 @@ one_exchange site message read rest extra written old new (x ∷ []) some came l
   unbroken = ends.2.0;
   written_is = ends.0 ∙ append-nil x.bytes;
 }
-one_exchange site message read rest extra written old new (x ∷ y ∷ ys) some came leads each ends = absurd (let left : 0 < 1 - 1 = each.3.0 in omega (arith, left))
+one_exchange given message read rest extra written old new (x ∷ y ∷ ys) some came leads each ends = absurd (let left : 0 < 1 - 1 = each.3.0 in omega (arith, left))
 
 no_failure : (n : ℕ) (before now : ℕ) → now ≡ 0 → RoseBy n before now → n ≡ 0
 no_failure n before now none rose = omega (arith, none, rose)
@@ -73,12 +73,12 @@ told_words f g (t ∷ ts) h p =
     (next_still f g (event_words t.event) (h 0) p.0, told_words (from_number n f) (from_number n g) ts (λ k. h (k + n)) p.1)
 
 -- a connection that held one message, and ended as it should
-pub served : {S : Type 0} (turn : S → Event → Reply → S → Type 0) (site : FrontSettings) (message : List ℕ) (moment : ℤ) (before now : ℕ) (answer : Option (List ℕ)) (old new : Told) (s t : S)
-    → IsConnection turn site 0 End 1 [] old new s t → 0 < length message → old.left ≡ Some message → old.giving.held ≡ Some [] → new.giving.held ≡ answer → new.giving.word_faults ≡ 0
+pub served : {S : Type 0} (turn : S → Event → Reply → S → Type 0) (given : FrontSettings) (message : List ℕ) (moment : ℤ) (before now : ℕ) (answer : Option (List ℕ)) (old new : Told) (s t : S)
+    → IsConnection turn given 0 End 1 [] old new s t → 0 < length message → old.left ≡ Some message → old.giving.held ≡ Some [] → new.giving.held ≡ answer → new.giving.word_faults ≡ 0
     → ((k : ℕ) → old.giving.answers k ≡ outside.still moment k) → ((k : ℕ) → old.giving.words k ≡ outside.counted before k) → ((k : ℕ) → new.giving.words k ≡ outside.counted now k)
-    → IsServed turn site message moment before now answer s t
-served turn site message moment before now answer old new s t serves some left empty held sure clock words words_after =
-    let one = one_exchange site message serves.read serves.rest serves.extra serves.written old new serves.exchanges some (sym left ∙ serves.from_source) serves.bytes_read serves.each serves.ending in
+    → IsServed turn given message moment before now answer s t
+served turn given message moment before now answer old new s t serves some left empty held sure clock words words_after =
+    let one = one_exchange given message serves.read serves.rest serves.extra serves.written old new serves.exchanges some (sym left ∙ serves.from_source) serves.bytes_read serves.each serves.ending in
     let turns_are : turns_of serves.exchanges ≡ one.exchange.turns = ap turns_of one.only ∙ append-nil one.exchange.turns in
     let took = serves.took in
     record {

@@ -20,7 +20,7 @@ use Rattle.load_run.specs.declared.task.Task.{Task}
 use Rattle.load_run.specs.declared.task.TaskKind.{TaskKind}
 use Rattle.load_run.specs.declared.task.TaskKind.TheVariants as kind
 
--- an answer of want of memory is seen by its status
+-- an answer of lack of memory is seen by its status
 busy_seen : (body : List ℕ) (close : Bool) → is_busy_answer (answer 503 body close) ≡ true
 unfolding answer digits
 busy_seen body close = refl
@@ -30,27 +30,27 @@ or_true true = refl
 or_true false = refl
 
 -- the last request of a connection is answered as one that ends it
-closing : (site : FrontSettings) (x : Exchange) → IsAnswered site 0 (x.request.close || true) (wanted_of site x.request) x.turns x.bytes x.ended x.broken
-    → IsAnswered site 0 true (wanted_of site x.request) x.turns x.bytes x.ended x.broken
-closing site x answered = subst (λ (close : Bool). IsAnswered site 0 close (wanted_of site x.request) x.turns x.bytes x.ended x.broken) (or_true x.request.close) answered
+closing : (given : FrontSettings) (x : Exchange) → IsAnswered given 0 (x.request.close || true) (wanted_of given x.request) x.turns x.bytes x.ended x.broken
+    → IsAnswered given 0 true (wanted_of given x.request) x.turns x.bytes x.ended x.broken
+closing given x answered = subst (λ (close : Bool). IsAnswered given 0 close (wanted_of given x.request) x.turns x.bytes x.ended x.broken) (or_true x.request.close) answered
 
-pub answered_of : (site : FrontSettings) (x : Exchange) → IsExchange site 0 true x → is_busy_answer x.bytes ≡ false → IsAnswered site 0 true (wanted_of site x.request) x.turns x.bytes x.ended x.broken
-answered_of site x is fed = elim is [
+pub answered_of : (given : FrontSettings) (x : Exchange) → IsExchange given 0 true x → is_busy_answer x.bytes ≡ false → IsAnswered given 0 true (wanted_of given x.request) x.turns x.bytes x.ended x.broken
+answered_of given x is fed = elim is [
   | inl none ↦ absurd (let bad : true ≡ false = sym (busy_seen (codes "{\"error\":\"NoMemory\"}") _) ∙ ap is_busy_answer (sym none.1) ∙ fed in cc)
-  | inr answered ↦ closing site x answered
+  | inr answered ↦ closing given x answered
 ]
 
 -- one request more before the others
-pub runs_more : (plan : LoadPlan) (site : FrontSettings) (s : Stand) (x : Exchange) (u t : Stand) → IsStep plan site s x u → Runs plan site u t → Runs plan site s t
-runs_more plan site s x u t step runs = record { exchanges = x ∷ runs.exchanges; steps = (u, step, runs.steps) }
+pub runs_more : (plan : LoadPlan) (given : FrontSettings) (s : Stand) (x : Exchange) (u t : Stand) → IsStep plan given s x u → Runs plan given u t → Runs plan given s t
+runs_more plan given s x u t step runs = record { exchanges = x ∷ runs.exchanges; steps = (u, step, runs.steps) }
 
-pub runs_none : (plan : LoadPlan) (site : FrontSettings) (s : Stand) → Runs plan site s s
-runs_none plan site s = record { exchanges = []; steps = refl }
+pub runs_none : (plan : LoadPlan) (given : FrontSettings) (s : Stand) → Runs plan given s s
+runs_none plan given s = record { exchanges = []; steps = refl }
 
 -- the turns of all requests, at the desk
-pub steps_chain : (plan : LoadPlan) (site : FrontSettings) (s : Stand) (xs : List Exchange) (t : Stand) → LoadSteps plan site s xs t → Chain IsTurn s.point (turns_of xs) t.point
-steps_chain plan site s [] t e = ap (λ (a : Stand). a.point) e
-steps_chain plan site s (x ∷ xs) t (u, step, rest) = Chain-append IsTurn s.point x.turns (turns_of xs) u.point t.point step.chain (steps_chain plan site u xs t rest)
+pub steps_chain : (plan : LoadPlan) (given : FrontSettings) (s : Stand) (xs : List Exchange) (t : Stand) → LoadSteps plan given s xs t → Chain IsTurn s.point (turns_of xs) t.point
+steps_chain plan given s [] t e = ap (λ (a : Stand). a.point) e
+steps_chain plan given s (x ∷ xs) t (u, step, rest) = Chain-append IsTurn s.point x.turns (turns_of xs) u.point t.point step.chain (steps_chain plan given u xs t rest)
 
 begins_some : (front rest : List ℕ) → 0 < length front → 0 < length (front ++ rest)
 begins_some front rest some = omega (arith, some, length-append front rest)

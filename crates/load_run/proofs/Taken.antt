@@ -24,18 +24,18 @@ abbrev pub watched_in : LoadTaking → Watched
 watched_in t = record { point = t.point; heard = t.heard }
 
 -- a request that was served, and to which memory wasn't refused
-pub taken : (site : FrontSettings) (message : List ℕ) (moment : ℤ) (old new : LoadTaking) (bytes : List ℕ) (stated : ℤ) (held : Option (List ℕ)) → stated ≡ moment → held ≡ Some bytes
-    → IsServed IsWatchedTurn site message stated old.words new.words held (watched_in old) (watched_in new)
+pub taken : (given : FrontSettings) (message : List ℕ) (moment : ℤ) (old new : LoadTaking) (bytes : List ℕ) (stated : ℤ) (held : Option (List ℕ)) → stated ≡ moment → held ≡ Some bytes
+    → IsServed IsWatchedTurn given message stated old.words new.words held (watched_in old) (watched_in new)
     → new.heard.starved ≡ false → is_busy_answer bytes ≡ false → new.counts ≡ counted old.counts bytes → new.counts.ok + new.counts.refused ≡ old.counts.ok + old.counts.refused + 1
-    → IsTaskTaken site message moment old new
-taken site message moment old new bytes stated held at_moment holds served fed answered counts sum =
+    → IsTaskTaken given message moment old new
+taken given message moment old new bytes stated held at_moment holds served fed answered counts sum =
     let x = served.exchange in
     let told : Some bytes ≡ Some x.bytes = sym holds ∙ served.answer_is in
     let same : bytes ≡ x.bytes = cc in
     record {
       exchange = x;
       request = served.request;
-      answered = answered_of site x served.is (ap is_busy_answer (sym same) ∙ answered);
+      answered = answered_of given x served.is (ap is_busy_answer (sym same) ∙ answered);
       unbroken = served.unbroken;
       memory = turns_fed (watched_in old) x.turns (watched_in new) served.chain fed;
       moments = subst (λ (m : ℤ). MomentsTold (outside.still m) x.turns) at_moment served.moments;
@@ -62,12 +62,12 @@ stand_with plan s heard words counts point = record {
 }
 
 -- it is the next step of the load
-pub stepped : (plan : LoadPlan) (site : FrontSettings) (s : Stand) (starved : Bool) (message : List ℕ) (heard : Heard) (words : ℕ) (counts : Counts) (point : Point) → starved ≡ false → message ≡ task_message (next_task plan s) (next_known plan s)
-    → IsTaskTaken site message (moment_at plan s.number)
+pub stepped : (plan : LoadPlan) (given : FrontSettings) (s : Stand) (starved : Bool) (message : List ℕ) (heard : Heard) (words : ℕ) (counts : Counts) (point : Point) → starved ≡ false → message ≡ task_message (next_task plan s) (next_known plan s)
+    → IsTaskTaken given message (moment_at plan s.number)
     (record { point = s.point; heard = record { handle = (next_known plan s).handle; seq = (next_known plan s).seq; frames = s.frames; starved = starved }; words = s.words; counts = s.counts })
     (record { point = point; heard = heard; words = words; counts = counts })
-    → IsNextRequest plan site s (stand_with plan s heard words counts point)
-stepped plan site s starved message heard words counts point fed made t =
+    → IsNextRequest plan given s (stand_with plan s heard words counts point)
+stepped plan given s starved message heard words counts point fed made t =
     let x = t.exchange in
     let task = next_task plan s in
     let known = next_known plan s in

@@ -29,11 +29,11 @@ turns_heard p (t ∷ ts) q c fed =
     let later = fed_before c.0 ts q c.2 fed in
     turns_heard c.0 ts q c.2 fed ∙ ap (λ h. hear_turns h ts) (c.1.heard.heard later)
 
--- a reply of want of memory is heard as that
+-- a reply of lack of memory is heard as that
 pub starving : (h : Heard) (reply : Reply) → reply ≡ Lost NoMemory → (hear h reply).starved ≡ true
 starving h reply e = ap (λ r. (hear h r).starved) e
 
--- and none of them is want of memory
+-- and none of them is lack of memory
 pub turns_fed : (p : Watched) (ts : List Turned) (q : Watched) → Chain IsWatchedTurn p ts q → q.heard.starved ≡ false → HadMemory ts
 turns_fed p [] q c fed = tt
 turns_fed p (t ∷ ts) q c fed =

@@ -7,7 +7,7 @@ use Rattle.load_run.specs.declared.counts.Counts.{Counts}
 abbrev pub is_good : List ℕ → Bool
 is_good answer = starts_with nat_eq answer (codes "HTTP/1.1 2")
 
--- whether it is 503, the answer of want of memory
+-- whether it is 503, the answer of lack of memory
 abbrev pub is_busy_answer : List ℕ → Bool
 is_busy_answer answer = starts_with nat_eq answer (codes "HTTP/1.1 503")
 

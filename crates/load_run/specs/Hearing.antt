@@ -65,7 +65,7 @@ abbrev pub hear_turns : Heard → List Turned → Heard
 hear_turns h [] = h
 hear_turns h (t ∷ ts) = hear_turns (hear h t.reply) ts
 
--- none of the replies is want of memory
+-- none of the replies is lack of memory
 abbrev pub HadMemory : List Turned → Type 0
 HadMemory [] = Unit {0}
 HadMemory (t ∷ ts) = (t.reply ≡ Lost NoMemory → ⊥) × HadMemory ts

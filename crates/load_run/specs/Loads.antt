@@ -1,4 +1,4 @@
--- What the command `load` comes to.
+-- What the command `load` results in.
 use Rattle.std.specs.Prelude.{◌≡◌, ℕ, ℤ, pos, ◌+◌, Bool, true, false, Option, None, Some, List, [], ◌∷◌, ◌++◌, codes, if◌then◌else◌}
 use Rattle.moments.specs.Moments.{clamped}
 use Rattle.net_rows.specs.Rows.{empty_rows}
@@ -26,8 +26,8 @@ use Rattle.load_run.specs.Tasks.{request_count}
 use Rattle.load_run.specs.declared.task.LoadPlan.{LoadPlan}
 
 -- what the front of a load is told
-abbrev pub load_site : FrontSettings
-load_site = front_settings load_settings
+abbrev pub load_front : FrontSettings
+load_front = front_settings load_settings
 
 -- when the seed and the registrations come
 abbrev pub load_moment : ℤ
@@ -53,7 +53,7 @@ pub record IsLoad (plan : LoadPlan) (final : Stand) : Type 0 where
   pub memory : reply ≡ Lost NoMemory → ⊥
   pub seeded : Point
   pub seeds : IsTurn (opening_point keeping) (seeding reply).event reply seeded
-  pub runs : Runs plan load_site (first_stand plan 0 seeded) final
+  pub runs : Runs plan load_front (first_stand plan 0 seeded) final
   pub whole : final.number ≡ request_count plan
   pub sum : final.counts.ok + final.counts.refused ≡ request_count plan
   pub history : IsHistory (opening_point keeping) (seeding reply ∷ turns_of runs.exchanges) final.point
@@ -66,7 +66,7 @@ pub record IsLoadEarly (plan : LoadPlan) : Type 0 where
   pub seeded : Point
   pub seeds : IsTurn (opening_point keeping) (seeding reply).event reply seeded
   pub faultless : keeping.faults ≡ 0
-  pub early : IsRunEarly plan load_site (first_stand plan 0 seeded)
+  pub early : IsRunEarly plan load_front (first_stand plan 0 seeded)
 
 -- the six lines of a load
 pub record IsLoadText (plan : LoadPlan) (text : List ℕ) : Type 0 where

@@ -42,10 +42,10 @@ stand_of point number run = record {
 }
 
 -- a request was served, heard and counted
-pub record IsTaskTaken (site : FrontSettings) (message : List ℕ) (moment : ℤ) (old new : LoadTaking) : Type 0 where
+pub record IsTaskTaken (given : FrontSettings) (message : List ℕ) (moment : ℤ) (old new : LoadTaking) : Type 0 where
   pub exchange : Exchange
   pub request : Begins message exchange.request
-  pub answered : IsAnswered site 0 true (wanted_of site exchange.request) exchange.turns exchange.bytes exchange.ended exchange.broken
+  pub answered : IsAnswered given 0 true (wanted_of given exchange.request) exchange.turns exchange.bytes exchange.ended exchange.broken
   pub unbroken : exchange.broken ≡ false
   pub memory : HadMemory exchange.turns
   pub moments : MomentsTold (outside.still moment) exchange.turns
@@ -67,9 +67,9 @@ abbrev pub run_with_known : {K : Type 0} → Task → Run K → Run K
 run_with_known task run = record run { roll = with_known run.roll task.machine (known_after task (known_of run.roll task.machine) run.watched.heard) }
 
 -- one request led from one to the other
-pub record IsNextRequest (plan : LoadPlan) (site : FrontSettings) (s t : Stand) : Type 0 where
+pub record IsNextRequest (plan : LoadPlan) (given : FrontSettings) (s t : Stand) : Type 0 where
   pub exchange : Exchange
-  pub step : IsStep plan site s exchange t
+  pub step : IsStep plan given s exchange t
 
 -- so many requests were served and counted, and memory was refused to none
 pub record IsLoadReady {K : Type 0} (plan : LoadPlan) (number : ℕ) (run : Run K) : Type 0 where

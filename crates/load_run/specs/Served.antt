@@ -11,10 +11,10 @@ use Rattle.load_run.specs.Steps.{Begins}
 
 -- The request that a message begins with was served, at that moment and with the random words that were next, and this is
 -- its answer, whole.
-pub record IsServed {S : Type 0} (turn : S → Event → Reply → S → Type 0) (site : FrontSettings) (message : List ℕ) (moment : ℤ) (before now : ℕ) (answer : Option (List ℕ)) (p q : S) : Type 0 where
+pub record IsServed {S : Type 0} (turn : S → Event → Reply → S → Type 0) (given : FrontSettings) (message : List ℕ) (moment : ℤ) (before now : ℕ) (answer : Option (List ℕ)) (p q : S) : Type 0 where
   pub exchange : Exchange
   pub request : Begins message exchange.request
-  pub is : IsExchange site 0 true exchange
+  pub is : IsExchange given 0 true exchange
   pub unbroken : exchange.broken ≡ false
   pub answer_is : answer ≡ Some exchange.bytes
   pub moments : MomentsTold (outside.still moment) exchange.turns

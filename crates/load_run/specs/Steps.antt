@@ -97,9 +97,9 @@ stand_after plan s x words point = record {
 
 -- One request: it is made of where the load stands, and served as the last of a connection, and its
 -- answer is whole. Its turns come at its moment, with the random words that are next, and memory was refused to none.
-pub record IsStep (plan : LoadPlan) (site : FrontSettings) (s : Stand) (x : Exchange) (t : Stand) : Type 0 where
+pub record IsStep (plan : LoadPlan) (given : FrontSettings) (s : Stand) (x : Exchange) (t : Stand) : Type 0 where
   pub request : Begins (task_message (next_task plan s) (next_known plan s)) x.request
-  pub answered : IsAnswered site 0 true (wanted_of site x.request) x.turns x.bytes x.ended x.broken
+  pub answered : IsAnswered given 0 true (wanted_of given x.request) x.turns x.bytes x.ended x.broken
   pub unbroken : x.broken ≡ false
   pub memory : HadMemory x.turns
   pub moments : MomentsTold (outside.still (moment_at plan s.number)) x.turns
@@ -111,10 +111,10 @@ pub record IsStep (plan : LoadPlan) (site : FrontSettings) (s : Stand) (x : Exch
 
 -- requests, one after the other
 abbrev pub LoadSteps : LoadPlan → FrontSettings → Stand → List Exchange → Stand → Type 0
-LoadSteps plan site s [] t = s ≡ t
-LoadSteps plan site s (x ∷ xs) t = (u : Stand) × IsStep plan site s x u × LoadSteps plan site u xs t
+LoadSteps plan given s [] t = s ≡ t
+LoadSteps plan given s (x ∷ xs) t = (u : Stand) × IsStep plan given s x u × LoadSteps plan given u xs t
 
 -- some requests lead from one to the other
-pub record Runs (plan : LoadPlan) (site : FrontSettings) (s t : Stand) : Type 0 where
+pub record Runs (plan : LoadPlan) (given : FrontSettings) (s t : Stand) : Type 0 where
   pub exchanges : List Exchange
-  pub steps : LoadSteps plan site s exchanges t
+  pub steps : LoadSteps plan given s exchanges t

@@ -18,7 +18,7 @@ pub(crate) fn is_good(answer: &[u8]) -> bool
     answer.starts_with(b"HTTP/1.1 2")
 }
 
-/// Whether the answer is that of want of memory.
+/// Whether the answer is that of lack of memory.
 pub(crate) fn is_busy_answer(answer: &[u8]) -> bool
     ensures value { result ≡ spec.is_busy_answer answer.now }
 {

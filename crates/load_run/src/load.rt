@@ -7,7 +7,7 @@ ghost use Rattle.tailnet_desk.specs.Seated.{point_of};
 ghost use Rattle.load_run.specs.Beginning.{IsBegun, IsLoadSeeded, IsSeedAsked, IsSeedHeard, IsUnseeded, unheard};
 ghost use Rattle.load_run.specs.Given as given;
 ghost use Rattle.load_run.specs.Knowing.{nothing};
-ghost use Rattle.load_run.specs.Loads.{IsLoadEarly, IsLoadText, Loaded, load_moment, load_line, load_site};
+ghost use Rattle.load_run.specs.Loads.{IsLoadEarly, IsLoadText, Loaded, load_moment, load_line, load_front};
 ghost use Rattle.load_run.specs.Watching.{watched_of};
 
 use crate::counts::Counts;
@@ -149,7 +149,7 @@ fn finish(
     run: &mut Run<SureKeeper>,
 ) -> Result<Text, Stopped>
     requires machines { 0 < plan.now.machines }
-    requires site { front.now ≡ load_site }
+    requires front { front.now ≡ load_front }
     requires begun { IsBegun plan.now
         (point_of ⟦<SureKeeper as Keeper>⟧.told ⟦<SureKeeper as Keeper>⟧.faults
         ⟦<SureKeeper as Keeper>⟧.calls) run.old }
@@ -167,7 +167,7 @@ fn finish(
 
 /// The front of a load and its settings.
 fn prepare(alloc: Global) -> Result<(Front, Settings), NoMemory>
-    ensures front { IfOk result (λ made. made.0 ≡ load_site) }
+    ensures front { IfOk result (λ made. made.0 ≡ load_front) }
     ensures settings { IfOk result (λ made. made.1 ≡ given.load_settings) }
 {
     let settings = load_settings(alloc)?;
@@ -183,7 +183,7 @@ fn seed_and_finish(
     run: &mut Run<SureKeeper>,
 ) -> Result<Text, Stopped>
     requires machines { 0 < plan.now.machines }
-    requires site { front.now ≡ load_site }
+    requires front { front.now ≡ load_front }
     requires unseeded { IsUnseeded plan.now run.old }
     ensures text { IfOk result (IsLoadText plan.now) }
     ensures early { IsErrOf result Stopped.Early → IsLoadEarly plan.now }
@@ -202,7 +202,7 @@ fn run_whole(
     mut run: Run<SureKeeper>,
 ) -> Result<Text, Stopped>
     requires machines { 0 < plan.now.machines }
-    requires site { front.now ≡ load_site }
+    requires front { front.now ≡ load_front }
     requires unseeded { IsUnseeded plan.now run }
     ensures text { IfOk result (IsLoadText plan.now) }
     ensures early { IsErrOf result Stopped.Early → IsLoadEarly plan.now }
@@ -218,7 +218,7 @@ fn run_under(
     plan: &LoadPlan,
 ) -> Result<Text, Stopped>
     requires machines { 0 < plan.now.machines }
-    requires site { front.now ≡ load_site }
+    requires front { front.now ≡ load_front }
     requires settings { settings ≡ given.load_settings }
     ensures text { IfOk result (IsLoadText plan.now) }
     ensures early { IsErrOf result Stopped.Early → IsLoadEarly plan.now }

@@ -43,28 +43,28 @@ not_early true e = cc
 not_early false e = cc
 
 -- only a fault ends a connection early
-pub answered_late : (site : FrontSettings) (more : ℕ) (close : Bool) (w : Wanted) (x : Exchange) → IsAccepted w → IsAnswered site more close w x.turns x.bytes x.ended x.broken
+pub answered_late : (given : FrontSettings) (more : ℕ) (close : Bool) (w : Wanted) (x : Exchange) → IsAccepted w → IsAnswered given more close w x.turns x.bytes x.ended x.broken
     → x.ended ≡ Some closed.Early → ⊥
-answered_late site more close (wants.Ask ask) x ok a e = not_early close (sym a.4 ∙ e)
-answered_late site more close (wants.Poll p) x ok a e = not_early close (sym a.1 ∙ e)
-answered_late site more close (wants.Fault body) x ok a e = ok
-answered_late site more close (wants.Answer status body) x ok a e = not_early close (sym a.2 ∙ e)
+answered_late given more close (wants.Ask ask) x ok a e = not_early close (sym a.4 ∙ e)
+answered_late given more close (wants.Poll p) x ok a e = not_early close (sym a.1 ∙ e)
+answered_late given more close (wants.Fault body) x ok a e = ok
+answered_late given more close (wants.Answer status body) x ok a e = not_early close (sym a.2 ∙ e)
 
 -- one exchange of an accepted request doesn't end its connection early
-pub late_one : (site : FrontSettings) (more : ℕ) (last : Bool) (x : Exchange) → IsAccepted (wanted_of site x.request) → IsExchange site more last x → x.ended ≡ Some closed.Early → ⊥
-late_one site more last x ok (inl u) e = not_early (x.request.close || last) (sym u.2 ∙ e)
-late_one site more last x ok (inr a) e = answered_late site more (x.request.close || last) (wanted_of site x.request) x ok a e
+pub late_one : (given : FrontSettings) (more : ℕ) (last : Bool) (x : Exchange) → IsAccepted (wanted_of given x.request) → IsExchange given more last x → x.ended ≡ Some closed.Early → ⊥
+late_one given more last x ok (inl u) e = not_early (x.request.close || last) (sym u.2 ∙ e)
+late_one given more last x ok (inr a) e = answered_late given more (x.request.close || last) (wanted_of given x.request) x ok a e
 
 pub or_early : (a b : Option Closed) → option_or a b ≡ Some closed.Early → (a ≡ Some closed.Early) ⊎ (b ≡ Some closed.Early)
 or_early None b e = inr e
 or_early (Some c) b e = inl e
 
 -- accepted requests don't end a connection early
-pub late : (site : FrontSettings) (further limit : ℕ) (xs : List Exchange) (more : List Request) → AllByRecursion (λ r. IsAccepted (wanted_of site r)) (requests_of xs ++ more) → AreExchanges site further limit xs → end_of xs ≡ Some closed.Early → ⊥
-late site further limit [] more ok each e = cc
-late site further limit (x ∷ xs) more ok each e = elim (or_early x.ended (end_of xs) e) [
-  | inl h ↦ late_one site further (limit == 1) x ok.0 each.1 h
-  | inr h ↦ late site further (limit - 1) xs more ok.1 each.3 h
+pub late : (given : FrontSettings) (further limit : ℕ) (xs : List Exchange) (more : List Request) → AllByRecursion (λ r. IsAccepted (wanted_of given r)) (requests_of xs ++ more) → AreExchanges given further limit xs → end_of xs ≡ Some closed.Early → ⊥
+late given further limit [] more ok each e = cc
+late given further limit (x ∷ xs) more ok each e = elim (or_early x.ended (end_of xs) e) [
+  | inl h ↦ late_one given further (limit == 1) x ok.0 each.1 h
+  | inr h ↦ late given further (limit - 1) xs more ok.1 each.3 h
 ]
 
 -- what is left of an input that is told
@@ -84,14 +84,14 @@ tail_never rest left others extra told is splits (inr (fault, tail, answered)) =
     let clash : at_end ≡ bad fault = same.1 in cc
 
 -- a connection over accepted whole requests doesn't end early
-pub never_early : {S : Type 0} (turn : S → Event → Reply → S → Type 0) (site : FrontSettings) (further limit : ℕ) (old new : Told) (s t : S) (input : List ℕ) (requests : List Request)
-    → Leads input requests [] → AllByRecursion (λ r. IsAccepted (wanted_of site r)) requests → old.left ≡ Some input → IsConnection turn site further closed.Early limit [] old new s t → ⊥
-never_early turn site further limit old new s t input requests whole ok is serves =
+pub never_early : {S : Type 0} (turn : S → Event → Reply → S → Type 0) (given : FrontSettings) (further limit : ℕ) (old new : Told) (s t : S) (input : List ℕ) (requests : List Request)
+    → Leads input requests [] → AllByRecursion (λ r. IsAccepted (wanted_of given r)) requests → old.left ≡ Some input → IsConnection turn given further closed.Early limit [] old new s t → ⊥
+never_early turn given further limit old new s t input requests whole ok is serves =
     let r = rest_of old.left new.left serves.read input serves.from_source is in
     let leads = subst (λ b. Leads b (requests_of serves.exchanges) (serves.rest ++ r.0)) (sym r.2) (Leads-append serves.read (requests_of serves.exchanges) serves.rest r.0 serves.bytes_read) in
     let first = Leads_first input (requests_of serves.exchanges) requests (serves.rest ++ r.0) at_end leads ([], whole, refl) in
     elim serves.ending.1 [
-      | inl h ↦ late site further limit serves.exchanges first.0 (subst (λ rs. AllByRecursion (λ r. IsAccepted (wanted_of site r)) rs) first.1 ok) serves.each h
+      | inl h ↦ late given further limit serves.exchanges first.0 (subst (λ rs. AllByRecursion (λ r. IsAccepted (wanted_of given r)) rs) first.1 ok) serves.each h
       | inr h ↦ tail_never serves.rest r.0 first.0 serves.extra new.left r.1 first.2 h.1
     ]
 

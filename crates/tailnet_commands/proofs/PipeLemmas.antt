@@ -1,4 +1,4 @@
--- What the command `pipe` comes to.
+-- What the command `pipe` results in.
 use Rattle.std.proofs.Common.{ℕ, Option, None, Some, List, IfSome, inl, inr, refl}
 use Rattle.io_edge.specs.Edge.{IsWhereTold}
 use Rattle.net_rows.specs.declared.rows.Rows.{Rows}
@@ -9,7 +9,7 @@ use Rattle.tailnet_commands.specs.Run.{IsUnbegun, Ran, Untouched}
 use Rattle.run_ends.specs.declared.ended.Ended.{Ended}
 use Rattle.run_ends.specs.declared.ended.Ended.TheVariants as ended
 
--- what is told is so where it is told
+-- what is known is so where it is told
 pub told_by_itself : (o : Option Rows) → IfSome o (λ rows. IsWhereTold rows o)
 told_by_itself None = tt
 told_by_itself (Some rows) = refl

@@ -35,7 +35,7 @@ where_still x a None h w = tt
 where_still x None (Some y) h w = absurd (let bad : None ≡ Some y = h in cc)
 where_still {A} x (Some z) (Some y) h w = let e : Some z ≡ Some y = h in let same : z ≡ y = cc in w ∙ same
 
--- what was told is what is told still
+-- what was told is what is known still
 pub kept_still : {A : Type 0} (a b : Option A) → StillTells a b → IfSome a (λ x. IsWhereTold x b)
 kept_still None b h = tt
 kept_still (Some x) None h = tt

@@ -1,4 +1,4 @@
--- What the command `policy-check` comes to.
+-- What the command `policy-check` results in.
 use Rattle.std.specs.Prelude.{◌≡◌, ◌≤◌, ℕ, Bool, Option, List, [], ◌++◌, length, codes, Result, Ok, Err, IfSome, IsSomeAnd, if◌then◌else◌}
 use Rattle.io_edge.specs.Edge.{Rose}
 use Rattle.policy_doc.specs.Document.{policy_of_text}

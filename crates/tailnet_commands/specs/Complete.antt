@@ -46,7 +46,7 @@ pub record IsClear (name : List ℕ) (old new : Outside) : Type 0 where
   pub no_write_fault : Rose old.told.giving.write_faults new.told.giving.write_faults → ⊥
   pub no_keeper_fault : Rose old.keeper_faults new.keeper_faults → ⊥
 
--- Then it ends with status 0, or for want of memory.
+-- Then it ends with status 0, or for lack of memory.
 abbrev pub IsComplete : Type 0
 IsComplete = (s : Status) (name : List ℕ) (seed : Option (List ℕ)) (old new : Outside)
     → Outcome s name seed old new → IsClear name old new → (s ≡ status.Ok) ⊎ (s ≡ status.NoMemory)

@@ -1,4 +1,4 @@
--- What the command `pipe` comes to.
+-- What the command `pipe` results in.
 use Rattle.std.specs.Prelude.{◌≡◌, ◌<◌, ◌≤◌, ◌⊎◌, ℕ, Option, List, length, Result, Ok, Err, IfSome, IsSomeAnd}
 use Rattle.io_edge.specs.Edge.{Rose}
 use Rattle.settings.specs.declared.fields.SettingsFields.{SettingsFields}
@@ -52,7 +52,7 @@ pub record Served (closing : Closed) (name : List ℕ) (seed : Option (List ℕ)
   pub settings_are : AreSettingsOf (old.files name) settings
   pub talk : Conversation closing settings seed old new
 
--- what `pipe` comes to, by how it ended
+-- what `pipe` results in, by how it ended
 abbrev pub Piped : Ended → List ℕ → Option (List ℕ) → Outside → Outside → Type 0
 Piped (ended.Closed closing) name seed old new = Served closing name seed old new
 Piped (ended.Settings rule key) name seed old new = IsUnbegun old new × IsFaulty rule key (old.files name)
@@ -65,7 +65,7 @@ Piped (ended.Damaged kind id) name seed old new =
 Piped ended.NoMemory name seed old new =
     Untouched old new × (IsUnasked old new ⊎ IsUnder (old.files name) (λ settings. IsAskedFor settings old new))
 
--- What a status of `pipe` says of the settings file of this name and the seed: how it ended, what that comes to, and
+-- What a status of `pipe` says of the settings file of this name and the seed: how it ended, what that results in, and
 -- the line that errors got. Doors and the link are as before.
 pub record Outcome (status : Status) (name : List ℕ) (seed : Option (List ℕ)) (old new : Outside) : Type 0 where
   pub ended : Ended

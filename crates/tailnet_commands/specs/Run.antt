@@ -64,7 +64,7 @@ pub record Conversation (closed : Closed) (settings : SettingsFields) (seed : Op
   pub rows_told : IsSome new.rows → IsWhereTold rows old.rows
   pub moment : ℤ
   pub moment_told : IsWhereTold moment (option_map clamped (old.told.giving.answers 0))
-  -- what is told of the keeper after the load, and the state and the keeper at the end
+  -- what is known of the keeper after the load, and the state and the keeper at the end
   pub keeping : Keeping
   pub final : Point
   pub seeding : List Turned
@@ -83,7 +83,7 @@ pub record Conversation (closed : Closed) (settings : SettingsFields) (seed : Op
   pub final_rows : IsWhereTold final.state.rows new.rows
   pub rose : RoseBy final.keeping.faults old.keeper_faults new.keeper_faults
 
--- What a run over settings comes to: a connection, or a fault before anything was read.
+-- What a run over settings results in: a connection, or a fault before anything was read.
 abbrev pub Ran : Ended → SettingsFields → Option (List ℕ) → Outside → Outside → Type 0
 Ran (ended.Closed closed) settings seed old new = Conversation closed settings seed old new
 Ran (ended.Settings rule key) settings seed old new = ⊥

@@ -1,10 +1,10 @@
-//! What the contract of `pipe` comes to. The functions do nothing: each states a law.
+//! What follows from the contract of `pipe`. The functions do nothing: each states a law.
 ghost use Rattle.tailnet_commands.specs.Complete.{IsComplete};
 ghost use Rattle.tailnet_commands.specs.ToldRows.{RefusesToldRows, ServesToldRows};
 
 /// Where words and settings are accepted, the rows that the opener tells are not damaged and it tells
 /// rows at the end too, the input is whole requests of which none is answered 400, 411, 413 or 431, and
-/// no count of faults rises, a run ends with status 0, or for want of memory.
+/// no count of faults rises, a run ends with status 0, or for lack of memory.
 pub fn completeness()
     ensures complete { IsComplete }
 {}

@@ -17,7 +17,7 @@ use std::alloc::Global;
 use tail_base::Text;
 
 /// Opens a desk over what the opener keeps, hands it the seed, if there is one, and serves one
-/// connection over it behind this front. What is told of the rest of the outside, before and after,
+/// connection over it behind this front. What is known of the rest of the outside, before and after,
 /// is any.
 pub(crate) fn run<I: Source, O: Sink, P: Opener, C: Clock, N: Entropy>(
     alloc: Global,
@@ -30,7 +30,7 @@ pub(crate) fn run<I: Source, O: Sink, P: Opener, C: Clock, N: Entropy>(
     clock: &mut C,
     entropy: &mut N,
 ) -> Ended
-    requires site { front.now ≡ front_settings settings }
+    requires front { front.now ≡ front_settings settings }
     ensures ran { (before after : Outside) →
         let at = around I.left I.read_faults O.holds O.write_faults P.told P.asked P.faults
         C.answer N.word N.faults in

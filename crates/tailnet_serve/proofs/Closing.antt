@@ -34,13 +34,13 @@ either true b n m f g e = let h = f refl in omega (arith, h)
 either false b n m f g e = let h = g e in omega (arith, h)
 
 -- if a door failed there are faults
-pub failed_sum : (site : FrontSettings) (limits : WorkLimits) (told : Option (List (List (List ℕ)))) (start : Drawing) (history : List Line) (place : ℕ) (ws : List Shift) → AreShifts site limits told start history place ws → any_failed ws ≡ true → 1 ≤ faults_after ws
-failed_sum site limits told start history place [] h e = absurd (let bad : false ≡ true = e in cc)
-failed_sum site limits told start history place (w ∷ ws) h e =
+pub failed_sum : (given : FrontSettings) (limits : WorkLimits) (told : Option (List (List (List ℕ)))) (start : Drawing) (history : List Line) (place : ℕ) (ws : List Shift) → AreShifts given limits told start history place ws → any_failed ws ≡ true → 1 ≤ faults_after ws
+failed_sum given limits told start history place [] h e = absurd (let bad : false ≡ true = e in cc)
+failed_sum given limits told start history place (w ∷ ws) h e =
     subst (λ n. 1 ≤ n) (sym (sum_by-cons (λ (d : DoorTold). d.faults) w.door_after (map (λ (v : Shift). v.door_after) ws)))
     (either (is_door_fault w.stop) (any_failed ws) w.door_after.faults (faults_after ws)
     (faulty w.stop limits.connections w.visits w.door w.door_after h.0.stops)
-    (failed_sum site limits told start history (place + 1) ws h.1) e)
+    (failed_sum given limits told start history (place + 1) ws h.1) e)
 
 pub rose_by_one : (before now n : ℕ) → now ≡ min (before + n) (2 ^ 64 - 1) → 1 ≤ n → Rose before now
 rose_by_one before now n e some = omega (arith, e, some)

@@ -151,12 +151,12 @@ outfits_ran NoMemory settings old new mid after p opened closed words doors rose
     (unserved settings old new mid after p opened closed words, inl (ap (λ (d : DoorsTold). d.asked) doors))
 
 -- what came of serving at doors that were opened for this
-pub served_at : (e : ServeEnd) (wanted : Opening) (site : FrontSettings) (limits : WorkLimits) (start : Drawing) (p : Point) (opener opener_after : OpenerTold) (doors opened doors_after : DoorsTold) (workers before after : ℕ) → workers ≡ wanted.count
-    → AreAskedFor wanted doors opened → doors.faults ≤ opened.faults → IsEndAtDoors e site limits doors.coming start workers p opener opener_after opened doors_after before after
-    → IsEndWithOutfits e wanted site limits start p opener opener_after doors doors_after before after
-served_at (end.Unopened e) wanted site limits start p opener opener_after doors opened doors_after workers before after number asked later h = absurd h
-served_at end.EntropyFault wanted site limits start p opener opener_after doors opened doors_after workers before after number asked later h = absurd h
-served_at end.DoorFault wanted site limits start p opener opener_after doors opened doors_after workers before after number asked later h = absurd h
-served_at end.NoMemory wanted site limits start p opener opener_after doors opened doors_after workers before after number asked later (closed, same) = (closed, inr (same ∙ asked))
-served_at (end.Served failed starved) wanted site limits start p opener opener_after doors opened doors_after workers before after number asked later served =
-    (opened, asked, later, subst (λ n. IsDeskServed site limits doors.coming start failed starved n p opener opener_after opened doors_after before after) number served)
+pub served_at : (e : ServeEnd) (wanted : Opening) (given : FrontSettings) (limits : WorkLimits) (start : Drawing) (p : Point) (opener opener_after : OpenerTold) (doors opened doors_after : DoorsTold) (workers before after : ℕ) → workers ≡ wanted.count
+    → AreAskedFor wanted doors opened → doors.faults ≤ opened.faults → IsEndAtDoors e given limits doors.coming start workers p opener opener_after opened doors_after before after
+    → IsEndWithOutfits e wanted given limits start p opener opener_after doors doors_after before after
+served_at (end.Unopened e) wanted given limits start p opener opener_after doors opened doors_after workers before after number asked later h = absurd h
+served_at end.EntropyFault wanted given limits start p opener opener_after doors opened doors_after workers before after number asked later h = absurd h
+served_at end.DoorFault wanted given limits start p opener opener_after doors opened doors_after workers before after number asked later h = absurd h
+served_at end.NoMemory wanted given limits start p opener opener_after doors opened doors_after workers before after number asked later (closed, same) = (closed, inr (same ∙ asked))
+served_at (end.Served failed starved) wanted given limits start p opener opener_after doors opened doors_after workers before after number asked later served =
+    (opened, asked, later, subst (λ n. IsDeskServed given limits doors.coming start failed starved n p opener opener_after opened doors_after before after) number served)

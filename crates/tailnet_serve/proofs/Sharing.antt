@@ -72,14 +72,14 @@ opened_first at told ds h fresh = opened_each at told 0 ds (from_first at told d
 
 -- ---- shifts
 
-module _ {X : Type 0} (at : X → Standing) (report : X → Report) (site : FrontSettings) (limits : WorkLimits) (told : Option (List (List (List ℕ)))) (start : Drawing) (first : SeatView) (none_seen : first.seen ≡ []) where
+module _ {X : Type 0} (at : X → Standing) (report : X → Report) (given : FrontSettings) (limits : WorkLimits) (told : Option (List (List (List ℕ)))) (start : Drawing) (first : SeatView) (none_seen : first.seen ≡ []) where
   -- workers as they begin, the first of them at this place
   abbrev pub AreSetUp : ℕ → List X → Type 0
   AreSetUp place [] = Unit {0}
   AreSetUp place (v ∷ vs) = IsSplit first (at v).seat × IsSplitDrawing start (at v).drawing × IsOpenedAt told place (at v).door × AreSetUp (place + 1) vs
 
   abbrev pub DidWork : X → X → Type 0
-  DidWork v w = IsWorked site limits (at v) (at w) (report w)
+  DidWork v w = IsWorked given limits (at v) (at w) (report w)
 
   abbrev shift_of : (v w : X) → DidWork v w → Shift
   shift_of v w k = record {
@@ -126,7 +126,7 @@ module _ {X : Type 0} (at : X → Standing) (report : X → Report) (site : Fron
       ap (λ n. turned (lines_by n history)) (sym (name_same v w k)) ∙ ap turned e ∙ ap (λ n. turned (lines_by n (at w).seat.seen)) (name_same v w k)
       ∙ k.work.run.own ∙ ap (λ z. turns_by (at v).seat.name z ++ visit_turns k.visits) (s.seen ∙ none_seen)
 
-  pub shifts_each : (place : ℕ) (vs ws : List X) (seat joined : SeatView) → AreSetUp place vs → (h : AreBoth DidWork vs ws) → AreJoined seat (seats_of ws) joined → AreShifts site limits told start joined.seen place (shifts_of vs ws h)
+  pub shifts_each : (place : ℕ) (vs ws : List X) (seat joined : SeatView) → AreSetUp place vs → (h : AreBoth DidWork vs ws) → AreJoined seat (seats_of ws) joined → AreShifts given limits told start joined.seen place (shifts_of vs ws h)
   shifts_each place [] [] seat joined set h joining = tt
   shifts_each place [] (w ∷ ws) seat joined set h joining = absurd h
   shifts_each place (v ∷ vs) [] seat joined set h joining = absurd h
@@ -148,7 +148,7 @@ module _ {X : Type 0} (at : X → Standing) (report : X → Report) (site : Fron
 
   -- they share the history that the seats saw that were joined
   pub shared : (hub : HubView) (joined : SeatView) (vs ws : List X) → first ≡ record { hub = hub; name = 0; names = 0 ∷ []; seen = [] } → AreSetUp 0 vs → (h : AreBoth DidWork vs ws) → AreJoined first (seats_of ws) joined
-      → ((n : ℕ) → times n joined.names ≡ 0 → lines_by n joined.seen ≡ []) → IsShared site limits told start joined.seen (shifts_of vs ws h)
+      → ((n : ℕ) → times n joined.names ≡ 0 → lines_by n joined.seen ≡ []) → IsShared given limits told start joined.seen (shifts_of vs ws h)
   shared hub joined vs ws first_is set h joining named =
       let single = single_each 0 vs ws set h in
       let names = names_each vs ws h in

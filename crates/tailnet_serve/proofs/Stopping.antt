@@ -49,36 +49,36 @@ left_then connections left next vs v is more l = record {
 few_of : (connections left taken : ℕ) → IsLeft connections left taken → 0 < connections → taken ≤ connections
 few_of connections left taken l some = let p = l.limited some in omega (arith, p.1)
 
-module _ (site : FrontSettings) (limits : WorkLimits) (old mid new : Standing) (vs : List Visit) (left : ℕ) (starved : Bool)
-    (work : IsWork site limits vs old mid) (is_left : IsLeft limits.connections left (length vs)) (is : starved ≡ is_any_starved vs) where
+module _ (given : FrontSettings) (limits : WorkLimits) (old mid new : Standing) (vs : List Visit) (left : ℕ) (starved : Bool)
+    (work : IsWork given limits vs old mid) (is_left : IsLeft limits.connections left (length vs)) (is : starved ≡ is_any_starved vs) where
   -- no connection will come
-  pub worked_over : IsWork site limits [] mid new → IsWhereTold [] new.door.coming → IsWorked site limits old new (record { stop = stop.Over; starved = starved })
+  pub worked_over : IsWork given limits [] mid new → IsWhereTold [] new.door.coming → IsWorked given limits old new (record { stop = stop.Over; starved = starved })
   worked_over none told = record {
     visits = vs;
-    work = subst (λ z. IsWork site limits z old new) (append-nil vs) (work_append site limits vs [] old mid new work none);
+    work = subst (λ z. IsWork given limits z old new) (append-nil vs) (work_append given limits vs [] old mid new work none);
     stop = told;
     few = few_of limits.connections left (length vs) is_left;
     starved = is;
   }
 
   -- the door failed
-  pub worked_failed : IsWork site limits [] mid new → Rose mid.door.faults new.door.faults → IsWorked site limits old new (record { stop = stop.DoorFault; starved = starved })
+  pub worked_failed : IsWork given limits [] mid new → Rose mid.door.faults new.door.faults → IsWorked given limits old new (record { stop = stop.DoorFault; starved = starved })
   worked_failed none rose = record {
     visits = vs;
-    work = subst (λ z. IsWork site limits z old new) (append-nil vs) (work_append site limits vs [] old mid new work none);
+    work = subst (λ z. IsWork given limits z old new) (append-nil vs) (work_append given limits vs [] old mid new work none);
     stop = omega (arith, rose, work.later);
     few = few_of limits.connections left (length vs) is_left;
     starved = is;
   }
 
   -- the last one was taken
-  pub worked_full : (v : Visit) (closed : Closed) (starved_then : Bool) → v.closed ≡ closed → starved_then ≡ (starved || is_starved closed) → left ≡ 1 → IsWork site limits (v ∷ []) mid new → IsWorked site limits old new (record { stop = stop.Full; starved = starved_then })
+  pub worked_full : (v : Visit) (closed : Closed) (starved_then : Bool) → v.closed ≡ closed → starved_then ≡ (starved || is_starved closed) → left ≡ 1 → IsWork given limits (v ∷ []) mid new → IsWorked given limits old new (record { stop = stop.Full; starved = starved_then })
   worked_full v closed starved_then closed_is then_is last one =
       let all : 0 < limits.connections = some limits.connections left last is_left in
       let n : length (vs ++ v ∷ []) ≡ limits.connections = omega (arith, (is_left.limited all).1, last, snoc_length vs v) in
       record {
         visits = vs ++ v ∷ [];
-        work = work_append site limits vs (v ∷ []) old mid new work one;
+        work = work_append given limits vs (v ∷ []) old mid new work one;
         stop = (all, n);
         few = λ h. omega (arith, n);
         starved = then_is ∙ (λ i. is i || is_starved (sym closed_is i)) ∙ sym (starved_snoc vs v);

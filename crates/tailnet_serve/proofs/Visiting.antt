@@ -15,8 +15,8 @@ use Rattle.tailnet_serve.specs.declared.worker.WorkLimits.{WorkLimits}
 use Rattle.tailnet_serve.proofs.SeatRuns.{run_append, run_chain, run_none}
 
 -- the same connection, its turns those of any state
-abbrev of_any_turns : (site : FrontSettings) (more requests : ℕ) (closed : Closed) (came left : Told) (s t : SeatView) → IsConnection IsSeatStep site more closed requests [] came left s t → IsConnection IsAnyTurn site more closed requests [] came left tt tt
-of_any_turns site more requests closed came left s t serves = record {
+abbrev of_any_turns : (given : FrontSettings) (more requests : ℕ) (closed : Closed) (came left : Told) (s t : SeatView) → IsConnection IsSeatStep given more closed requests [] came left s t → IsConnection IsAnyTurn given more closed requests [] came left tt tt
+of_any_turns given more requests closed came left s t serves = record {
   exchanges = serves.exchanges;
   read = serves.read;
   rest = serves.rest;
@@ -36,13 +36,13 @@ of_any_turns site more requests closed came left s t serves = record {
 }
 
 -- a connection at a seat, as a worker's
-abbrev pub visit_of : {S : Type 0} (turn : _) (site : FrontSettings) (more requests : ℕ) (closed : Closed) (came left : Told) (s t : S) → IsConnection turn site more closed requests [] came left s t → Visit
-visit_of turn site more requests closed came left s t serves = record { came = came; left = left; turns = turns_of serves.exchanges; closed = closed }
+abbrev pub visit_of : {S : Type 0} (turn : _) (given : FrontSettings) (more requests : ℕ) (closed : Closed) (came left : Told) (s t : S) → IsConnection turn given more closed requests [] came left s t → Visit
+visit_of turn given more requests closed came left s t serves = record { came = came; left = left; turns = turns_of serves.exchanges; closed = closed }
 
-pub visited : (site : FrontSettings) (more requests : ℕ) (closed : Closed) (came left : Told) (s t : SeatView) (serves : IsConnection IsSeatStep site more closed requests [] came left s t)
-    → IsVisit site more requests (visit_of IsSeatStep site more requests closed came left s t serves)
-visited site more requests closed came left s t serves = record {
-  serves = of_any_turns site more requests closed came left s t serves;
+pub visited : (given : FrontSettings) (more requests : ℕ) (closed : Closed) (came left : Told) (s t : SeatView) (serves : IsConnection IsSeatStep given more closed requests [] came left s t)
+    → IsVisit given more requests (visit_of IsSeatStep given more requests closed came left s t serves)
+visited given more requests closed came left s t serves = record {
+  serves = of_any_turns given more requests closed came left s t serves;
   turns_are = refl;
 }
 
@@ -78,9 +78,9 @@ has_places (Some rest) (Some done) (Some all) one faults room =
 -- ---- works
 
 -- nothing was done, but that the door's count may have risen
-pub work_none : (site : FrontSettings) (limits : WorkLimits) (old new : Standing) → new.seat ≡ old.seat → new.drawing ≡ old.drawing → new.door.coming ≡ old.door.coming → new.door.finished ≡ old.door.finished → new.door.number ≡ old.door.number
-    → old.door.faults ≤ new.door.faults → IsWork site limits [] old new
-work_none site limits old new seat drawing coming finished number later = record {
+pub work_none : (given : FrontSettings) (limits : WorkLimits) (old new : Standing) → new.seat ≡ old.seat → new.drawing ≡ old.drawing → new.door.coming ≡ old.door.coming → new.door.finished ≡ old.door.finished → new.door.number ≡ old.door.number
+    → old.door.faults ≤ new.door.faults → IsWork given limits [] old new
+work_none given limits old new seat drawing coming finished number later = record {
   run = subst (λ (z : SeatView). IsSeatRun old.seat z []) (sym seat) (run_none old.seat);
   served = drawing;
   came = coming;
@@ -90,9 +90,9 @@ work_none site limits old new seat drawing coming finished number later = record
   later = later;
 }
 
-visits_append : (site : FrontSettings) (more requests : ℕ) (a b d : Drawing) (vs ws : List Visit) → AreVisits site more requests a vs b → AreVisits site more requests b ws d → AreVisits site more requests a (vs ++ ws) d
-visits_append site more requests a b d [] ws p q = subst (λ (z : Drawing). AreVisits site more requests z ws d) p q
-visits_append site more requests a b d (v ∷ vs) ws p q = (p.0, p.1, visits_append site more requests (drawing_in v.left) b d vs ws p.2 q)
+visits_append : (given : FrontSettings) (more requests : ℕ) (a b d : Drawing) (vs ws : List Visit) → AreVisits given more requests a vs b → AreVisits given more requests b ws d → AreVisits given more requests a (vs ++ ws) d
+visits_append given more requests a b d [] ws p q = subst (λ (z : Drawing). AreVisits given more requests z ws d) p q
+visits_append given more requests a b d (v ∷ vs) ws p q = (p.0, p.1, visits_append given more requests (drawing_in v.left) b d vs ws p.2 q)
 
 comers_append : (a b d : Option (List (List ℕ))) (vs ws : List Visit) → AreComers a vs b → AreComers b ws d → AreComers a (vs ++ ws) d
 comers_append a b d [] ws p q = subst (λ z. AreComers z ws d) p q
@@ -107,10 +107,10 @@ turns_append [] ws = refl
 turns_append (v ∷ vs) ws = ap (λ z. v.turns ++ z) (turns_append vs ws) ∙ sym (append_assoc v.turns (visit_turns vs) (visit_turns ws))
 
 -- one work after another
-pub work_append : (site : FrontSettings) (limits : WorkLimits) (vs ws : List Visit) (a b d : Standing) → IsWork site limits vs a b → IsWork site limits ws b d → IsWork site limits (vs ++ ws) a d
-work_append site limits vs ws a b d one two = record {
+pub work_append : (given : FrontSettings) (limits : WorkLimits) (vs ws : List Visit) (a b d : Standing) → IsWork given limits vs a b → IsWork given limits ws b d → IsWork given limits (vs ++ ws) a d
+work_append given limits vs ws a b d one two = record {
   run = subst (λ z. IsSeatRun a.seat d.seat z) (sym (turns_append vs ws)) (run_append a.seat b.seat d.seat (visit_turns vs) (visit_turns ws) one.run two.run);
-  served = visits_append site limits.more limits.requests a.drawing b.drawing d.drawing vs ws one.served two.served;
+  served = visits_append given limits.more limits.requests a.drawing b.drawing d.drawing vs ws one.served two.served;
   came = comers_append a.door.coming b.door.coming d.door.coming vs ws one.came two.came;
   given_back = two.given_back ∙ ap (λ f. and_all_finished f ws) one.given_back ∙ sym (finished_append a.door.finished vs ws);
   number = two.number ∙ one.number;
@@ -119,20 +119,20 @@ work_append site limits vs ws a b d one two = record {
 }
 
 -- a connection was taken, served and given back
-pub work_once : (site : FrontSettings) (limits : WorkLimits) (closed : Closed) (came left : Told) (old new : Standing) (between : Option (List (List ℕ))) (then_finished : Option (List Finished))
-    (serves : IsConnection IsSeatStep site limits.more closed limits.requests [] came left old.seat new.seat)
+pub work_once : (given : FrontSettings) (limits : WorkLimits) (closed : Closed) (came left : Told) (old new : Standing) (between : Option (List (List ℕ))) (then_finished : Option (List Finished))
+    (serves : IsConnection IsSeatStep given limits.more closed limits.requests [] came left old.seat new.seat)
     → drawing_in came ≡ old.drawing → new.drawing ≡ drawing_in left
     → IsNext came.left came.giving.held old.door.coming between → came.read_faults ≡ 0 → came.giving.write_faults ≡ 0
-    → new.door.coming ≡ between → new.door.finished ≡ and_finished then_finished (finished_of (visit_of IsSeatStep site limits.more limits.requests closed came left old.seat new.seat serves)) → then_finished ≡ old.door.finished
+    → new.door.coming ≡ between → new.door.finished ≡ and_finished then_finished (finished_of (visit_of IsSeatStep given limits.more limits.requests closed came left old.seat new.seat serves)) → then_finished ≡ old.door.finished
     → new.door.number ≡ old.door.number
     → old.door.faults ≤ new.door.faults
-    → IsWork site limits (visit_of IsSeatStep site limits.more limits.requests closed came left old.seat new.seat serves ∷ []) old new
-work_once site limits closed came left old new between then_finished serves begins ends next reads writes coming gives finishes number later =
-    let v = visit_of IsSeatStep site limits.more limits.requests closed came left old.seat new.seat serves in
+    → IsWork given limits (visit_of IsSeatStep given limits.more limits.requests closed came left old.seat new.seat serves ∷ []) old new
+work_once given limits closed came left old new between then_finished serves begins ends next reads writes coming gives finishes number later =
+    let v = visit_of IsSeatStep given limits.more limits.requests closed came left old.seat new.seat serves in
     let finished = gives ∙ ap (λ f. and_finished f (finished_of v)) finishes in
     record {
       run = subst (λ z. IsSeatRun old.seat new.seat z) (sym (append-nil v.turns)) (run_chain old.seat (turns_of serves.exchanges) new.seat serves.chain);
-      served = (begins, visited site limits.more limits.requests closed came left old.seat new.seat serves, ends);
+      served = (begins, visited given limits.more limits.requests closed came left old.seat new.seat serves, ends);
       came = (between, next, reads, writes, coming);
       given_back = finished;
       number = number;

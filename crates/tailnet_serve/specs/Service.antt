@@ -44,11 +44,11 @@ pub record Shift : Type 0 where
 
 -- Under the worker's name the history has exactly the turns of the requests that were served on its door's connections,
 -- in order, each connection as the loop says. Its clock and its entropy told what they told at the split.
-pub record IsShift (site : FrontSettings) (limits : WorkLimits) (told : Option (List (List (List ℕ)))) (start : Drawing) (history : List Line) (place : ℕ) (w : Shift) : Type 0 where
+pub record IsShift (given : FrontSettings) (limits : WorkLimits) (told : Option (List (List (List ℕ)))) (start : Drawing) (history : List Line) (place : ℕ) (w : Shift) : Type 0 where
   pub own : turns_by w.name history ≡ visit_turns w.visits
   pub split : IsSplitDrawing start w.drawing
   pub opened : IsOpenedAt told place w.door
-  pub served : AreVisits site limits.more limits.requests w.drawing w.visits w.drawing_after
+  pub served : AreVisits given limits.more limits.requests w.drawing w.visits w.drawing_after
   pub came : AreComers w.door.coming w.visits w.door_after.coming
   pub given_back : w.door_after.finished ≡ and_all_finished w.door.finished w.visits
   pub stops : IsStop w.stop limits.connections w.visits w.door w.door_after
@@ -56,16 +56,16 @@ pub record IsShift (site : FrontSettings) (limits : WorkLimits) (told : Option (
 
 -- so it is for the worker of each place
 abbrev pub AreShifts : FrontSettings → WorkLimits → Option (List (List (List ℕ))) → Drawing → List Line → ℕ → List Shift → Type 0
-AreShifts site limits told start history place [] = Unit {0}
-AreShifts site limits told start history place (w ∷ ws) =
-    IsShift site limits told start history place w × AreShifts site limits told start history (place + 1) ws
+AreShifts given limits told start history place [] = Unit {0}
+AreShifts given limits told start history place (w ∷ ws) =
+    IsShift given limits told start history place w × AreShifts given limits told start history (place + 1) ws
 
 abbrev pub shift_names : List Shift → List ℕ
 shift_names ws = map (λ (w : Shift). w.name) ws
 
 -- There is one history, in which stand the turns of all workers and nothing else, each under its own name.
-pub record IsShared (site : FrontSettings) (limits : WorkLimits) (told : Option (List (List (List ℕ)))) (start : Drawing) (history : List Line) (shifts : List Shift) : Type 0 where
-  pub each : AreShifts site limits told start history 0 shifts
+pub record IsShared (given : FrontSettings) (limits : WorkLimits) (told : Option (List (List (List ℕ)))) (start : Drawing) (history : List Line) (shifts : List Shift) : Type 0 where
+  pub each : AreShifts given limits told start history 0 shifts
   pub apart : (n : ℕ) → times n (shift_names shifts) ≤ 1
   pub others : (n : ℕ) → times n (shift_names shifts) ≡ 0 → lines_by n history ≡ []
 
@@ -89,11 +89,11 @@ AreOpenedAt told place [] = Unit {0}
 AreOpenedAt told place (d ∷ ds) = IsOpenedAt told place d × AreOpenedAt told (place + 1) ds
 
 -- The workers of a hub have stopped, and its desk stands at the end of the history that they share.
-pub record IsManned (site : FrontSettings) (limits : WorkLimits) (told : Option (List (List (List ℕ)))) (start : Drawing) (failed starved : Bool) (hub : HubView) (workers : ℕ) (left : List DoorTold) (final : Point) (word_faults word_faults_after : ℕ) : Type 0 where
+pub record IsManned (given : FrontSettings) (limits : WorkLimits) (told : Option (List (List (List ℕ)))) (start : Drawing) (failed starved : Bool) (hub : HubView) (workers : ℕ) (left : List DoorTold) (final : Point) (word_faults word_faults_after : ℕ) : Type 0 where
   pub history : List Line
   pub stands : IfSome hub.start (λ begin. IsReplayOf begin history final)
   pub shifts : List Shift
-  pub shared : IsShared site limits told start history shifts
+  pub shared : IsShared given limits told start history shifts
   pub failed_is : failed ≡ any_failed shifts
   pub starved_is : starved ≡ any_starved shifts
   pub left_is : left ≡ map (λ (w : Shift). w.door_after) shifts
@@ -129,7 +129,7 @@ pub record Service (failed starved : Bool) (settings : SettingsFields) (old new 
   pub rows_told : IsSome new.rows → IsWhereTold rows old.rows
   pub moment : ℤ
   pub moment_told : IsWhereTold moment (option_map clamped (old.told.giving.answers 0))
-  -- what is told of the keeper after the load, and the state and the keeper at the end
+  -- what is known of the keeper after the load, and the state and the keeper at the end
   pub keeping : Keeping
   pub final : Point
   -- a legal history from the opening state, at whose end the tables stand
@@ -154,12 +154,12 @@ pub record Service (failed starved : Bool) (settings : SettingsFields) (old new 
 
 -- What came of serving a desk at open doors: the workers have stopped, or memory was refused before they began; the
 -- opener and the doors have back what they gave.
-pub record IsDeskServed (site : FrontSettings) (limits : WorkLimits) (told : Option (List (List (List ℕ)))) (start : Drawing) (failed starved : Bool) (workers : ℕ) (at : Point) (opener opener_after : OpenerTold) (doors doors_after : DoorsTold) (word_faults word_faults_after : ℕ) : Type 0 where
+pub record IsDeskServed (given : FrontSettings) (limits : WorkLimits) (told : Option (List (List (List ℕ)))) (start : Drawing) (failed starved : Bool) (workers : ℕ) (at : Point) (opener opener_after : OpenerTold) (doors doors_after : DoorsTold) (word_faults word_faults_after : ℕ) : Type 0 where
   pub hub : HubView
   pub starts : hub.start ≡ Some at
   pub left : List DoorTold
   pub final : Point
-  pub manned : IsManned site limits told start failed starved hub workers left final word_faults word_faults_after
+  pub manned : IsManned given limits told start failed starved hub workers left final word_faults word_faults_after
   pub rows : IsWhereTold final.state.rows opener_after.rows
   pub given_back : StillTells final.keeping.told opener_after.rows
   pub asked : opener_after.asked ≡ opener.asked
@@ -175,13 +175,13 @@ pub record IsDeskClosed (at : Point) (opener opener_after : OpenerTold) : Type 0
   pub asked : opener_after.asked ≡ opener.asked
 
 abbrev pub IsEndAtDoors : ServeEnd → FrontSettings → WorkLimits → Option (List (List (List ℕ))) → Drawing → ℕ → Point → OpenerTold → OpenerTold → DoorsTold → DoorsTold → ℕ → ℕ → Type 0
-IsEndAtDoors (end.Unopened e) site limits told start workers at opener opener_after doors doors_after before after = ⊥
-IsEndAtDoors end.EntropyFault site limits told start workers at opener opener_after doors doors_after before after = ⊥
-IsEndAtDoors end.DoorFault site limits told start workers at opener opener_after doors doors_after before after = ⊥
-IsEndAtDoors end.NoMemory site limits told start workers at opener opener_after doors doors_after before after =
+IsEndAtDoors (end.Unopened e) given limits told start workers at opener opener_after doors doors_after before after = ⊥
+IsEndAtDoors end.EntropyFault given limits told start workers at opener opener_after doors doors_after before after = ⊥
+IsEndAtDoors end.DoorFault given limits told start workers at opener opener_after doors doors_after before after = ⊥
+IsEndAtDoors end.NoMemory given limits told start workers at opener opener_after doors doors_after before after =
     IsDeskClosed at opener opener_after × (doors_after.asked ≡ doors.asked)
-IsEndAtDoors (end.Served failed starved) site limits told start workers at opener opener_after doors doors_after before after =
-    IsDeskServed site limits told start failed starved workers at opener opener_after doors doors_after before after
+IsEndAtDoors (end.Served failed starved) given limits told start workers at opener opener_after doors doors_after before after =
+    IsDeskServed given limits told start failed starved workers at opener opener_after doors doors_after before after
 
 abbrev pub end_of_doors : EdgeFault → ServeEnd
 end_of_doors Failed = end.DoorFault
@@ -193,12 +193,12 @@ end_of_outfits NoMemory = end.NoMemory
 
 -- What came of opening doors and serving a desk at them.
 abbrev pub IsEndWithOutfits : ServeEnd → Opening → FrontSettings → WorkLimits → Drawing → Point → OpenerTold → OpenerTold → DoorsTold → DoorsTold → ℕ → ℕ → Type 0
-IsEndWithOutfits (end.Unopened e) wanted site limits start at opener opener_after doors doors_after before after = ⊥
-IsEndWithOutfits end.EntropyFault wanted site limits start at opener opener_after doors doors_after before after = ⊥
-IsEndWithOutfits end.DoorFault wanted site limits start at opener opener_after doors doors_after before after =
+IsEndWithOutfits (end.Unopened e) wanted given limits start at opener opener_after doors doors_after before after = ⊥
+IsEndWithOutfits end.EntropyFault wanted given limits start at opener opener_after doors doors_after before after = ⊥
+IsEndWithOutfits end.DoorFault wanted given limits start at opener opener_after doors doors_after before after =
     IsDeskClosed at opener opener_after × AreAskedFor wanted doors doors_after × Rose doors.faults doors_after.faults
-IsEndWithOutfits end.NoMemory wanted site limits start at opener opener_after doors doors_after before after =
+IsEndWithOutfits end.NoMemory wanted given limits start at opener opener_after doors doors_after before after =
     IsDeskClosed at opener opener_after × ((doors_after.asked ≡ doors.asked) ⊎ AreAskedFor wanted doors doors_after)
-IsEndWithOutfits (end.Served failed starved) wanted site limits start at opener opener_after doors doors_after before after =
+IsEndWithOutfits (end.Served failed starved) wanted given limits start at opener opener_after doors doors_after before after =
     (opened : DoorsTold) × AreAskedFor wanted doors opened × (doors.faults ≤ opened.faults)
-    × IsDeskServed site limits doors.coming start failed starved wanted.count at opener opener_after opened doors_after before after
+    × IsDeskServed given limits doors.coming start failed starved wanted.count at opener opener_after opened doors_after before after

@@ -1,4 +1,4 @@
--- What the whole program comes to.
+-- What the whole program results in.
 use Rattle.std.specs.Prelude.{◌≡◌, ◌⊎◌, ℕ, Bool, true, false, Option, None, Some, List}
 use Rattle.command_words.specs.declared.invocation.Invocation.{Invocation}
 use Rattle.command_words.specs.declared.invocation.Invocation.TheVariants as asked
@@ -69,7 +69,7 @@ pub record IsLinkedAlone (old new : Outside) : Type 0 where
   pub keeper_faults : new.keeper_faults ≡ old.keeper_faults
   pub doors : new.doors ≡ old.doors
 
--- Words that are no command do nothing but leave their line on errors; a command comes to what its status says.
+-- Words that are no command do nothing but leave their line on errors; a command results in what its status says.
 abbrev pub WordsDone : Option Invocation → Status → Outside → Outside → Type 0
 WordsDone None ended old new = (ended ≡ status.Usage) × IsNotedAlone old new × IsLine usage_line old new
 WordsDone (Some (asked.Pipe settings seed)) ended old new = Outcome ended settings seed old new
@@ -88,7 +88,7 @@ WordsDone (Some (asked.Operator call)) ended old new = IsLinkedAlone old new × 
 abbrev pub IsWordless : Status → Outside → Outside → Type 0
 IsWordless got old new = (got ≡ status.NoMemory) × IsNotedAlone old new × IsLine (ended_line ended.NoMemory) old new
 
--- what words come to
+-- what words result in
 abbrev pub Top : Option Invocation → Status → Outside → Outside → Type 0
 Top words got old new = IsWordless got old new ⊎ WordsDone words got old new
 

@@ -33,15 +33,15 @@ abbrev pub IsAnyTurn : Unit {0} → Event → Reply → Unit {0} → Type 0
 IsAnyTurn before event reply after = Unit {0}
 
 -- The connection was served behind this front, and its turns are those of its served requests.
-pub record IsVisit (site : FrontSettings) (more requests : ℕ) (v : Visit) : Type 0 where
-  pub serves : IsConnection IsAnyTurn site more v.closed requests [] v.came v.left tt tt
+pub record IsVisit (given : FrontSettings) (more requests : ℕ) (v : Visit) : Type 0 where
+  pub serves : IsConnection IsAnyTurn given more v.closed requests [] v.came v.left tt tt
   pub turns_are : v.turns ≡ turns_of serves.exchanges
 
 -- each begins with what the clock and the entropy told when the one before it was given back
 abbrev pub AreVisits : FrontSettings → ℕ → ℕ → Drawing → List Visit → Drawing → Type 0
-AreVisits site more requests before [] after = after ≡ before
-AreVisits site more requests before (v ∷ vs) after =
-    (drawing_in v.came ≡ before) × IsVisit site more requests v × AreVisits site more requests (drawing_in v.left) vs after
+AreVisits given more requests before [] after = after ≡ before
+AreVisits given more requests before (v ∷ vs) after =
+    (drawing_in v.came ≡ before) × IsVisit given more requests v × AreVisits given more requests (drawing_in v.left) vs after
 
 -- they came at a door in this order, where it tells what comes, each with nothing written and no fault
 abbrev pub AreComers : Option (List (List ℕ)) → List Visit → Option (List (List ℕ)) → Type 0

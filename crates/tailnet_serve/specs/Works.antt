@@ -21,7 +21,7 @@ pub record DoorTold : Type 0 where
   pub number : Option ℕ
   pub faults : ℕ
 
--- what is told of a worker
+-- what is known of a worker
 pub record Standing : Type 0 where
   pub seat : SeatView
   pub drawing : Drawing
@@ -45,9 +45,9 @@ abbrev pub HasPlaces : DoorTold → Type 0
 HasPlaces d = IfSome d.coming (λ some. IfSome d.finished (λ done. IfSome d.number (λ all. length some + length done ≤ all)))
 
 -- These connections were taken from the door in order, served at the seat, and given back.
-pub record IsWork (site : FrontSettings) (limits : WorkLimits) (visits : List Visit) (old new : Standing) : Type 0 where
+pub record IsWork (given : FrontSettings) (limits : WorkLimits) (visits : List Visit) (old new : Standing) : Type 0 where
   pub run : IsSeatRun old.seat new.seat (visit_turns visits)
-  pub served : AreVisits site limits.more limits.requests old.drawing visits new.drawing
+  pub served : AreVisits given limits.more limits.requests old.drawing visits new.drawing
   pub came : AreComers old.door.coming visits new.door.coming
   pub given_back : new.door.finished ≡ and_all_finished old.door.finished visits
   pub number : new.door.number ≡ old.door.number
@@ -56,9 +56,9 @@ pub record IsWork (site : FrontSettings) (limits : WorkLimits) (visits : List Vi
 
 -- what came of waiting for a connection
 abbrev pub IsTaken : Taking → FrontSettings → WorkLimits → Standing → Standing → Type 0
-IsTaken (taking.Served closed) site limits old new = (v : Visit) × (v.closed ≡ closed) × IsWork site limits (v ∷ []) old new
-IsTaken taking.Over site limits old new = IsWork site limits [] old new × IsWhereTold [] new.door.coming
-IsTaken taking.DoorFault site limits old new = IsWork site limits [] old new × Rose old.door.faults new.door.faults
+IsTaken (taking.Served closed) given limits old new = (v : Visit) × (v.closed ≡ closed) × IsWork given limits (v ∷ []) old new
+IsTaken taking.Over given limits old new = IsWork given limits [] old new × IsWhereTold [] new.door.coming
+IsTaken taking.DoorFault given limits old new = IsWork given limits [] old new × Rose old.door.faults new.door.faults
 
 -- why a worker stopped: no connection will come, or it took as many as it may, or its door failed
 abbrev pub IsStop : Stop → ℕ → List Visit → DoorTold → DoorTold → Type 0
@@ -67,9 +67,9 @@ IsStop stop.Full connections visits old new = (0 < connections) × (length visit
 IsStop stop.DoorFault connections visits old new = Rose old.faults new.faults
 
 -- What a worker did until it stopped. It takes no more connections than it may, where there is a limit.
-pub record IsWorked (site : FrontSettings) (limits : WorkLimits) (old new : Standing) (report : Report) : Type 0 where
+pub record IsWorked (given : FrontSettings) (limits : WorkLimits) (old new : Standing) (report : Report) : Type 0 where
   pub visits : List Visit
-  pub work : IsWork site limits visits old new
+  pub work : IsWork given limits visits old new
   pub stop : IsStop report.stop limits.connections visits old.door new.door
   pub few : 0 < limits.connections → length visits ≤ limits.connections
   pub starved : report.starved ≡ is_any_starved visits

@@ -201,7 +201,7 @@ fn end_of_outfits(fault: EdgeFault) -> ServeEnd
 }
 
 /// Opens a desk over what the opener keeps, and serves it at doors by workers until all have stopped.
-/// What is told of the rest of the outside, before and after, is any.
+/// What is known of the rest of the outside, before and after, is any.
 pub(crate) fn run_serve<
     R: Threads + Wait + Sync,
     P: Opener,

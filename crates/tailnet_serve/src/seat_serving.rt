@@ -13,7 +13,8 @@ use session_hub::{Hub, HubTurns, Seat};
 use std::alloc::Global;
 use std::sync::Wait;
 
-/// Serves a connection by the turns of a seat.
+/// Serves a connection by the turns of a seat. They stand at that seat still at the end, which
+/// `serve` can't say of turns of any kind, and by which the seat's loan ends.
 fn serve_turns<'a, R: Wait, K: Keeper, I: Source, O: Sink, C: Clock, N: Entropy, A: Pause>(
     alloc: Global,
     front: &Front,
@@ -43,7 +44,7 @@ fn serve_turns<'a, R: Wait, K: Keeper, I: Source, O: Sink, C: Clock, N: Entropy,
 
 /// Serves a connection at a seat of a hub: what the seat has seen before and after it is joined by the
 /// turns of the served requests. A poll that may wait has so many further drains at most; the pause is
-/// what it waits on, and what is told of events that change something.
+/// what it waits on, and what is known of events that change something.
 pub fn serve_seat<R: Wait, K: Keeper, I: Source, O: Sink, C: Clock, N: Entropy, A: Pause>(
     rt: &R,
     alloc: Global,

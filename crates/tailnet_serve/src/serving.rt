@@ -14,7 +14,7 @@ use std::thread::Threads;
 
 /// All that `serve` does once its words are read: it reads the settings file, opens a desk over what the
 /// opener keeps, and serves the connections that come at doors, each door by a worker of its own, until
-/// all workers have stopped. The line of its status goes to errors. What is told of the rest of the
+/// all workers have stopped. The line of its status goes to errors. What is known of the rest of the
 /// outside is any.
 pub fn serve_command<
     R: Threads + Wait + Sync,

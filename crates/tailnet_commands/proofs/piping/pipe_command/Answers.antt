@@ -1,4 +1,4 @@
--- How a run ended is what its settings and its connection came to; doors and the link aren't its own.
+-- How a run ended is what its settings and its connection resulted in; doors and the link aren't its own.
 use Rattle.std.proofs.Common.{◌≡◌, option_map, refl}
 use Rattle.tailnet_commands.proofs.PipeLemmas.{ran_piped, told_by_itself, unread_piped}
 use Rattle.tailnet_commands.specs.Outside.{outside}

@@ -8,7 +8,7 @@ use Rattle.tailnet_commands.proofs.running.run.Goals as goal
 pub returns-in-Ok : goal.returns-in-Ok
 returns-in-Ok g c =
     let opened = c.in-Ok.ensures.opened in
-    let serves = rw (c.fields.ensures.value, c.requires.site) at c.serve_desk-closed.ensures.serves in
+    let serves = rw (c.fields.ensures.value, c.requires.front) at c.serve_desk-closed.ensures.serves in
     record {
       ran = λ before after. conversed c.serve_desk-closed.result c.args.settings c.args.seed opened.moment _ _ (g.C.Clock.answer c.open_desk.new.clock) _ c.in-Ok.desk.state _ _ _ opened.rules opened.whole
           opened.moment_told
