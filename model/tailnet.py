@@ -1,4 +1,4 @@
-"""The Tailnet machine: its rows, and what each ask comes to by the rules of docs/PROTOCOL.md."""
+"""The Tailnet machine: its rows, and what each ask results in by the rules of docs/PROTOCOL.md."""
 
 import ipaddress
 from dataclasses import dataclass, field

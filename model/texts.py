@@ -117,7 +117,7 @@ def is_tag(text):
 
 
 def label_of_host(host):
-    """The label that a host name comes to."""
+    """The label that a host name results in."""
     label = re.sub(rb"[^a-z0-9]+", b"-", lowered(host).encode())
     return label[:63].strip(b"-").decode() or "node"
 

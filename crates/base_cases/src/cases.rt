@@ -1,4 +1,4 @@
-//! A case a line: a kind, what is read, and what it comes to.
+//! A case a line: a kind, what is read, and what it results in.
 use crate::{names, ports, sets, texts};
 use std::alloc::Global;
 use std::test::Fail;
@@ -137,7 +137,7 @@ touches 10.0.0.0/31 ::/128 | 10.0.0.2/31 ::1/128 => no
 touches 10.0.0.0/31 fd00::/8 | 10.0.0.2/31 fd00::1/128 => yes
 touches 10.0.0.0/31 10.0.0.4/30 | 10.0.0.2/31 10.0.0.7/32 => yes";
 
-/// What the text comes to, read as an address or a time.
+/// What the text results in, read as an address or a time.
 fn address_or_time(alloc: Global, kind: &str, text: &str) -> Result<Text, NoMemory> {
     let bytes = text.as_bytes();
     match kind {
@@ -153,7 +153,7 @@ fn address_or_time(alloc: Global, kind: &str, text: &str) -> Result<Text, NoMemo
     }
 }
 
-/// What the text comes to.
+/// What the text results in.
 fn found(alloc: Global, kind: &str, text: &str) -> Result<Text, NoMemory> {
     let bytes = text.as_bytes();
     match kind {
@@ -172,7 +172,7 @@ fn found(alloc: Global, kind: &str, text: &str) -> Result<Text, NoMemory> {
     }
 }
 
-/// Whether the line's text comes to what it says.
+/// Whether the line's text results in what it says.
 fn holds(alloc: Global, line: &str) -> Result<bool, NoMemory> {
     let Some((case, want)) = line.split_once(" => ") else {
         return Ok(false);

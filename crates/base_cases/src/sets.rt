@@ -87,7 +87,7 @@ fn combined_text(
     set_text(alloc, &set)
 }
 
-/// What two sets come to, with a bar between them.
+/// What two sets result in, with a bar between them.
 pub fn both(alloc: Global, kind: &str, text: &str) -> Result<Text, NoMemory> {
     let Some((left, right)) = text.split_once(" | ") else {
         return none(alloc);

@@ -1,4 +1,4 @@
-//! What the definitions of a byte string's answer and of a token come to. None of these functions does anything:
+//! What follows from the definitions of a byte string's answer and of a token. None of these functions does anything:
 //! each states a law.
 ghost use Rattle.std.specs.Prelude.{◌≡◌, ◌<◌, ◌≤◌, ℕ, Bool, not, List, [], ◌++◌, length, Option, Some};
 ghost use Rattle.percent_encoding.specs.AsciiSet.{should_percent_encode};

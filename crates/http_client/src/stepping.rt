@@ -9,7 +9,7 @@ use httparse::spans::HeaderSpan;
 use std::alloc::Global;
 use tail_base::Bytes;
 
-/// What one look at the bytes held came to.
+/// What one look at the bytes held resulted in.
 #[derive(Drop)]
 pub enum AnswerStep {
     Answer(ServerAnswer),

@@ -17,7 +17,7 @@ use tail_base::NoMemory;
 /// How many bytes are read at once.
 const PIECE: usize = 4096;
 
-/// What one look at the bytes held came to.
+/// What one look at the bytes held resulted in.
 #[derive(Drop)]
 pub enum Step {
     Request(Request),
@@ -26,7 +26,7 @@ pub enum Step {
     NoMemory,
 }
 
-/// What one read came to.
+/// What one read resulted in.
 #[derive(Clone, Copy, Debug)]
 pub enum Refill {
     Some,
@@ -66,7 +66,8 @@ fn drop_front(bytes: &mut Vec<u8>, count: usize)
 }
 
 fn read_more<I: Source>(input: &mut I, bytes: &mut Vec<u8>) -> Refill
-    ensures refills { Refills (I.left input.old) (I.left input.new) bytes.old.items bytes.new.items result }
+    ensures refills { Refills (I.left input.old)
+        (I.left input.new) bytes.old.items bytes.new.items result }
     ensures later { I.read_faults input.old ≤ I.read_faults input.new }
     ensures cause { result ≡ Failed → Rose (I.read_faults input.old) (I.read_faults input.new) }
     ensures besides { I.besides_left input.new ≡ I.besides_left input.old }

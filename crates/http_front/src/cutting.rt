@@ -48,7 +48,8 @@ pub fn cut_request(
     requires there { head.now.len + size ≤ length bytes.now }
     requires token { IsToken (span_bytes (take head_limit bytes.now) head.now.method) }
     ensures value { IfOk result (λ made. made
-        ≡ request_of (spanned_head (take head_limit bytes.now) headers.now head.now) (take size (drop head.now.len bytes.now))) }
+        ≡ request_of (spanned_head (take head_limit bytes.now) headers.now head.now)
+        (take size (drop head.now.len bytes.now))) }
 {
     let front = &bytes[..bytes.len().min(HEAD_LIMIT)];
     let lines = &headers[..head.headers];

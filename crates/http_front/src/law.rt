@@ -1,4 +1,4 @@
-//! What the definition of the requests of a byte string comes to. None of these functions does
+//! What follows from the definition of the requests of a byte string. None of these functions does
 //! anything: each states a law.
 ghost use Rattle.std.specs.Prelude.{◌≡◌, ℕ, List, [], ◌++◌};
 ghost use Rattle.http_front.specs.declared.head_fault.HeadFault.{HeadFault};

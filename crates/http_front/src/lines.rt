@@ -46,7 +46,8 @@ pub fn count_named(buffer: &[u8], headers: &[HeaderSpan], name: &[u8]) -> usize
 
 /// The value of the first line of that name.
 pub fn first_named<'b>(buffer: &'b [u8], headers: &[HeaderSpan], name: &[u8]) -> Option<&'b [u8]>
-    ensures value { option_map (λ v. v.now) result ≡ first_of (spanned_values buffer.now headers.now name.now) }
+    ensures value { option_map (λ v. v.now) result
+        ≡ first_of (spanned_values buffer.now headers.now name.now) }
 {
     let mut rest = headers;
     while let [header, more @ ..] = rest {

@@ -98,7 +98,7 @@ text_is_spelled text = record {
   alone = λ ts h e. sym (ap tokens e) ∙ tokens-text_of ts h;
 }
 
--- what tokens come to, the text that they spell comes to
+-- what tokens result in, the text that they spell results in
 pub standard_of-text_of : (ts : List Token) → AreTokens ts → standard_of (text_of ts) ≡ standard ts
 unfolding standard_of
 standard_of-text_of ts h = ap standard (tokens-text_of ts h)

@@ -1,4 +1,4 @@
--- The bytes of a text with their marks, as the scan meets them, and what they come to.
+-- The bytes of a text with their marks, as the scan meets them, and what they result in.
 use Rattle.std.proofs.Common.{ℕ, ◌+◌, ◌&&◌, List, [], ◌∷◌, get_or, Option, Some, None, cond}
 use Rattle.std.specs.Option.{option_or}
 use Rattle.hujson_read.specs.declared.fault.HujsonFault.{HujsonFault}

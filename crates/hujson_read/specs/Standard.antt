@@ -118,7 +118,7 @@ standard_of text = standard (tokens text)
 unfoldable pub fault_of : List ℕ → Option HujsonFault
 fault_of text = first_fault (tokens text)
 
--- the fault is the text's first, or tells of want of memory
+-- the fault is the text's first, or tells of lack of memory
 abbrev pub IsFault : List ℕ → HujsonFault → Type 0
 IsFault text (fault.OpenComment at) = fault_of text ≡ Some (fault.OpenComment at)
 IsFault text (fault.StrayComma at) = fault_of text ≡ Some (fault.StrayComma at)

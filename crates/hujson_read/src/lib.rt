@@ -34,7 +34,7 @@ pub fn spelling_law()
 /// `}`. All else stays, so a place in the standard text is the same place in the text.
 ///
 /// The error is the fault with the least
-/// offset, or want of memory for the text's copy. Whether the standard text is JSON is left to the
+/// offset, or lack of memory for the text's copy. Whether the standard text is JSON is left to the
 /// one who reads it, and so is what stands inside strings and comments: it needn't be UTF-8.
 #[tactic(auto, using(crate::proofs::Lengths::standard_length))]
 pub fn standardize(alloc: Global, text: &[u8]) -> Result<Vec<u8>, HujsonFault>

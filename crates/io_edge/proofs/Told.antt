@@ -1,4 +1,4 @@
--- Laws of what is told.
+-- Laws of what is known.
 use Rattle.std.proofs.Common.{◌≡◌, ◌≤◌, ◌+◌, ℕ, Option, None, Some, List, [], ◌++◌, refl, ap, sym, append_assoc, arith}
 use Rattle.std.proofs.lemmas.List.{append-nil}
 use Rattle.io_edge.specs.Edge.{and_then_left, and_held, Rose, RoseBy}

@@ -32,7 +32,9 @@ impl MemoryClock {
     /// A clock with these answers, of which there is one at least.
     pub fn new(answers: Items<i64>) -> MemoryClock
         requires some { 0 < length answers }
-        ensures told { (k : ℕ) → ⟦<MemoryClock as Clock>⟧.answer result k ≡ Some (slice_index_or answers (min k (length answers - 1)) (pos 0)) }
+        ensures told { (k : ℕ)
+            → ⟦<MemoryClock as Clock>⟧.answer result k
+            ≡ Some (slice_index_or answers (min k (length answers - 1)) (pos 0)) }
     {
         MemoryClock { answers, at: 0 }
     }

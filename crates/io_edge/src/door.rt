@@ -29,9 +29,14 @@ pub trait Door {
 
     /// Takes the next connection out. `None` says that none will come.
     fn accept(&mut self) -> Result<Option<(Self::In, Self::Out)>, Failed>
-        ensures some { IfOk result (λ next. IfSome next (λ c. IsNext (Self.In.left c.0) (Self.Out.holds c.1) (coming self.old) (coming self.new))) }
-        ensures fresh { IfOk result (λ next. IfSome next (λ c. (Self.In.read_faults c.0 ≡ 0) × (Self.Out.write_faults c.1 ≡ 0))) }
-        ensures none { result ≡ Ok None → IsWhereTold [] (coming self.old) × (coming self.new ≡ coming self.old) }
+        ensures some { IfOk result
+            (λ next. IfSome next (λ c. IsNext (Self.In.left c.0) (Self.Out.holds c.1)
+            (coming self.old) (coming self.new))) }
+        ensures fresh { IfOk result
+            (λ next. IfSome next (λ c. (Self.In.read_faults c.0 ≡ 0)
+            × (Self.Out.write_faults c.1 ≡ 0))) }
+        ensures none { result ≡ Ok None → IsWhereTold [] (coming self.old)
+            × (coming self.new ≡ coming self.old) }
         ensures err { OnErr result (coming self.new ≡ coming self.old) }
         ensures finished { finished self.new ≡ finished self.old }
         ensures number { number self.new ≡ number self.old }
@@ -40,7 +45,14 @@ pub trait Door {
     /// Takes a connection back. It takes no memory.
     fn finish(&mut self, input: Self::In, output: Self::Out)
         requires room { HasRoom (coming self.old) (finished self.old) (number self.old) }
-        ensures finished { finished self.new ≡ and_finished (finished self.old) (record { left = Self.In.left input; holds = Self.Out.holds output; read_faults = Self.In.read_faults input; write_faults = Self.Out.write_faults output }) }
+        ensures finished { finished self.new
+            ≡ and_finished (finished self.old)
+            (record {
+              left = Self.In.left input;
+              holds = Self.Out.holds output;
+              read_faults = Self.In.read_faults input;
+              write_faults = Self.Out.write_faults output;
+            }) }
         ensures coming { coming self.new ≡ coming self.old }
         ensures number { number self.new ≡ number self.old }
         ensures later { faults self.old ≤ faults self.new };
@@ -73,19 +85,29 @@ pub trait Doors {
     ) -> Result<Vec<Self::Door>, EdgeFault>
         ensures count { IfOk result (λ doors. length doors.items ≡ count) }
         ensures fresh { IfOk result (λ doors. All (λ d. Self.Door.faults d ≡ 0) doors.items) }
-        ensures opened { IfOk result (λ doors. IfSome (coming self.old) (λ told. (i : ℕ) → IfSome (slice_get doors.items i) (λ d. IsOpenedWith (for_place told i) (Self.Door.coming d) (Self.Door.finished d) (Self.Door.number d)))) }
-        ensures untold { IfOk result (λ doors. coming self.old ≡ None → All (λ d. Self.Door.coming d ≡ None) doors.items) }
-        ensures err { OnErr result ((coming self.new ≡ coming self.old) × (finished self.new ≡ finished self.old)) }
-        ensures asked { IsAsked result (record { address = address.now; count = count }) (asked self.old) (asked self.new) }
+        ensures opened { IfOk result
+            (λ doors. IfSome (coming self.old) (λ told. (i : ℕ)
+            → IfSome (slice_get doors.items i) (λ d. IsOpenedWith (for_place told i)
+            (Self.Door.coming d) (Self.Door.finished d) (Self.Door.number d)))) }
+        ensures untold { IfOk result
+            (λ doors. coming self.old ≡ None → All (λ d. Self.Door.coming d ≡ None) doors.items) }
+        ensures err { OnErr result
+            ((coming self.new ≡ coming self.old) × (finished self.new ≡ finished self.old)) }
+        ensures asked { IsAsked result (record { address = address.now; count = count })
+            (asked self.old) (asked self.new) }
         ensures later { faults self.old ≤ faults self.new }
-        ensures cause { IsErrOf result EdgeFault.Failed → Rose (faults self.old) (faults self.new) };
+        ensures cause { IsErrOf result EdgeFault.Failed
+            → Rose (faults self.old) (faults self.new) };
 
     /// Takes the doors back, with their faults and with what they tell.
     fn close(&mut self, doors: Vec<Self::Door>)
-        ensures coming { IsToldOfEach (map (λ d. Self.Door.coming d) doors.items) (coming self.new) }
-        ensures finished { IsToldOfEach (map (λ d. Self.Door.finished d) doors.items) (finished self.new) }
+        ensures coming { IsToldOfEach (map (λ d. Self.Door.coming d) doors.items)
+            (coming self.new) }
+        ensures finished { IsToldOfEach (map (λ d. Self.Door.finished d) doors.items)
+            (finished self.new) }
         ensures asked { asked self.new ≡ asked self.old }
-        ensures faults { faults self.new ≡ min (faults self.old + sum_by (λ d. Self.Door.faults d) doors.items) (2 ^ 64 - 1) }
+        ensures faults { faults self.new
+            ≡ min (faults self.old + sum_by (λ d. Self.Door.faults d) doors.items) (2 ^ 64 - 1) }
         ensures later { faults self.old ≤ faults self.new };
 }
 
@@ -110,7 +132,8 @@ impl Door for NoDoor {
 
     fn accept(&mut self) -> Result<Option<(NoLink, NoLink)>, Failed>
         ensures fails { IsErr result }
-        ensures cause { Counted (⟦<NoDoor as Door>⟧.faults self.old) (⟦<NoDoor as Door>⟧.faults self.new) true }
+        ensures cause { Counted (⟦<NoDoor as Door>⟧.faults self.old)
+            (⟦<NoDoor as Door>⟧.faults self.new) true }
     {
         self.failed = self.failed.saturating_add(1);
         Err(Failed)
@@ -152,15 +175,19 @@ impl Doors for NoDoors {
         _count: u32,
     ) -> Result<Vec<NoDoor>, EdgeFault>
         ensures fails { result ≡ Err EdgeFault.Failed }
-        ensures cause { Counted (⟦<NoDoors as Doors>⟧.faults self.old) (⟦<NoDoors as Doors>⟧.faults self.new) true }
+        ensures cause { Counted (⟦<NoDoors as Doors>⟧.faults self.old)
+            (⟦<NoDoors as Doors>⟧.faults self.new) true }
     {
         self.failed = self.failed.saturating_add(1);
         Err(EdgeFault::Failed)
     }
 
     fn close(&mut self, doors: Vec<NoDoor>)
-        ensures faults { ⟦<NoDoors as Doors>⟧.faults self.new ≡ min (⟦<NoDoors as Doors>⟧.faults self.old + sum_by (λ d. ⟦<NoDoor as Door>⟧.faults d) doors.items) (2 ^ 64 - 1) }
-        ensures later { ⟦<NoDoors as Doors>⟧.faults self.old ≤ ⟦<NoDoors as Doors>⟧.faults self.new }
+        ensures faults { ⟦<NoDoors as Doors>⟧.faults self.new
+            ≡ min (⟦<NoDoors as Doors>⟧.faults self.old
+            + sum_by (λ d. ⟦<NoDoor as Door>⟧.faults d) doors.items) (2 ^ 64 - 1) }
+        ensures later { ⟦<NoDoors as Doors>⟧.faults self.old
+            ≤ ⟦<NoDoors as Doors>⟧.faults self.new }
     {
         let mut all = self.failed;
         for door in &doors {

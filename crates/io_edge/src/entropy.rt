@@ -23,10 +23,12 @@ pub trait Entropy: Sized {
 
     /// An independent one with a count of 0 that tells the same words.
     fn split(&mut self, alloc: Global) -> Result<Self, EdgeFault>
-        ensures other { IfOk result (λ other. ((k : ℕ) → word other k ≡ word self.old k) × (faults other ≡ 0)) }
+        ensures other { IfOk result
+            (λ other. ((k : ℕ) → word other k ≡ word self.old k) × (faults other ≡ 0)) }
         ensures same { (k : ℕ) → word self.new k ≡ word self.old k }
         ensures later { faults self.old ≤ faults self.new }
-        ensures cause { IsErrOf result EdgeFault.Failed → Rose (faults self.old) (faults self.new) };
+        ensures cause { IsErrOf result EdgeFault.Failed
+            → Rose (faults self.old) (faults self.new) };
 
     /// Adds the other's count.
     fn join(&mut self, other: Self)
@@ -49,7 +51,9 @@ impl MemoryEntropy {
     /// in `fails` fail.
     pub fn new(answers: Items<[u64; 4]>, fails: Items<u32>) -> MemoryEntropy
         requires some { 0 < length answers }
-        ensures told { (k : ℕ) → ⟦<MemoryEntropy as Entropy>⟧.word result k ≡ Some (slice_index_or answers (min k (length answers - 1)) []) }
+        ensures told { (k : ℕ)
+            → ⟦<MemoryEntropy as Entropy>⟧.word result k
+            ≡ Some (slice_index_or answers (min k (length answers - 1)) []) }
         ensures faults { ⟦<MemoryEntropy as Entropy>⟧.faults result ≡ 0 }
         ensures planned { result.faults.fails ≡ fails }
     {

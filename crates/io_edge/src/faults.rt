@@ -56,7 +56,8 @@ impl Faults {
         ensures counted { Counted self.old.count self.new.count result }
         ensures calls { self.new.calls ≡ min (self.old.calls + 1) (2 ^ 64 - 1) }
         ensures planned { IsTrue result ↔ Contains self.old.fails self.new.calls }
-        ensures count { self.new.count ≡ (if result then min (self.old.count + 1) (2 ^ 64 - 1) else self.old.count) }
+        ensures count { self.new.count
+            ≡ (if result then min (self.old.count + 1) (2 ^ 64 - 1) else self.old.count) }
         ensures fails { self.new.fails ≡ self.old.fails }
     {
         self.calls = self.calls.saturating_add(1);

@@ -32,13 +32,17 @@ pub trait Files {
     /// `TooLarge` comes only where there are more. A name that isn't held is answered `Failed`.
     /// `TooLarge` and `NoMemory` needn't raise the count.
     fn read(&mut self, alloc: Global, name: &str, most: usize) -> Result<Vec<u8>, FileFault>
-        ensures value { IfOk result (λ read. IsWhereTold (Some read.items) (holds self.old name.now)) }
+        ensures value { IfOk result
+            (λ read. IsWhereTold (Some read.items) (holds self.old name.now)) }
         ensures within { IfOk result (λ read. length read.items ≤ most) }
-        ensures large { IsErrOf result FileFault.TooLarge → IfSome (holds self.old name.now) (λ file. IsSomeAnd file (λ bytes. most < length bytes)) }
+        ensures large { IsErrOf result FileFault.TooLarge
+            → IfSome (holds self.old name.now)
+            (λ file. IsSomeAnd file (λ bytes. most < length bytes)) }
         ensures missing { holds self.old name.now ≡ Some None → result ≡ Err FileFault.Failed }
         ensures same { (other : List ℕ) → holds self.new other ≡ holds self.old other }
         ensures later { faults self.old ≤ faults self.new }
-        ensures cause { IsErrOf result FileFault.Failed → Rose (faults self.old) (faults self.new) };
+        ensures cause { IsErrOf result FileFault.Failed
+            → Rose (faults self.old) (faults self.new) };
 }
 
 /// The bytes of a file, and its name.
@@ -58,7 +62,8 @@ pub struct MemoryFiles {
 impl MemoryFiles {
     /// These files, of which the reads with these numbers fail.
     pub fn new(files: Items<NamedBytes>, fails: Items<u32>) -> MemoryFiles
-        ensures holds { (name : List ℕ) → ⟦<MemoryFiles as Files>⟧.holds result name ≡ Some (bytes_of name files) }
+        ensures holds { (name : List ℕ)
+            → ⟦<MemoryFiles as Files>⟧.holds result name ≡ Some (bytes_of name files) }
         ensures faults { ⟦<MemoryFiles as Files>⟧.faults result ≡ 0 }
         ensures planned { result.faults.fails ≡ fails }
     {

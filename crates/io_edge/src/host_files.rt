@@ -55,9 +55,11 @@ fn read_file<R: rt::Files>(
 /// What a reader gives up to its end, where that is `most` bytes or fewer. Of more, one byte past
 /// them is read and no further.
 fn read_at_most<R: Read + Drop>(alloc: Global, reader: R, most: usize) -> Result<Vec<u8>, FileFault>
-    ensures value { IfOk result (λ read. IfSome (R.remaining reader) (λ bytes. read.items ≡ bytes)) }
+    ensures value { IfOk result
+        (λ read. IfSome (R.remaining reader) (λ bytes. read.items ≡ bytes)) }
     ensures within { IfOk result (λ read. length read.items ≤ most) }
-    ensures large { IsErrOf result FileFault.TooLarge → IfSome (R.remaining reader) (λ bytes. most < length bytes) }
+    ensures large { IsErrOf result FileFault.TooLarge
+        → IfSome (R.remaining reader) (λ bytes. most < length bytes) }
 {
     let mut read = Vec::new(alloc);
     let limit = (most as u64).saturating_add(1);

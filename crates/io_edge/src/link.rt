@@ -19,7 +19,8 @@ pub trait Link: Source + Sink {
         ensures holds { Self.holds self.new ≡ Self.holds self.old }
         ensures reads_later { Self.read_faults self.old ≤ Self.read_faults self.new }
         ensures writes_later { Self.write_faults self.old ≤ Self.write_faults self.new }
-        ensures cause { IsErrOf result EdgeFault.Failed → Rose (Self.read_faults self.old) (Self.read_faults self.new) };
+        ensures cause { IsErrOf result EdgeFault.Failed
+            → Rose (Self.read_faults self.old) (Self.read_faults self.new) };
 
     /// A read leaves what was written, the addresses that it was asked for, and the count of failed writes.
     ghost unread: { (l : Self) → Self.besides_left l
@@ -60,8 +61,10 @@ impl Source for NoLink {
 
     fn read(&mut self, _into: &mut [u8]) -> Result<usize, Failed>
         ensures fails { IsErr result }
-        ensures cause { Counted (⟦<NoLink as Source>⟧.read_faults self.old) (⟦<NoLink as Source>⟧.read_faults self.new) true }
-        ensures besides { ⟦<NoLink as Source>⟧.besides_left self.new ≡ ⟦<NoLink as Source>⟧.besides_left self.old }
+        ensures cause { Counted (⟦<NoLink as Source>⟧.read_faults self.old)
+            (⟦<NoLink as Source>⟧.read_faults self.new) true }
+        ensures besides { ⟦<NoLink as Source>⟧.besides_left self.new
+            ≡ ⟦<NoLink as Source>⟧.besides_left self.old }
     {
         self.failed_reads = self.failed_reads.saturating_add(1);
         Err(Failed)
@@ -77,8 +80,10 @@ impl Sink for NoLink {
 
     fn write(&mut self, _from: &[u8]) -> Result<usize, Failed>
         ensures fails { IsErr result }
-        ensures cause { Counted (⟦<NoLink as Sink>⟧.write_faults self.old) (⟦<NoLink as Sink>⟧.write_faults self.new) true }
-        ensures besides { ⟦<NoLink as Sink>⟧.besides_held self.new ≡ ⟦<NoLink as Sink>⟧.besides_held self.old }
+        ensures cause { Counted (⟦<NoLink as Sink>⟧.write_faults self.old)
+            (⟦<NoLink as Sink>⟧.write_faults self.new) true }
+        ensures besides { ⟦<NoLink as Sink>⟧.besides_held self.new
+            ≡ ⟦<NoLink as Sink>⟧.besides_held self.old }
     {
         self.failed_writes = self.failed_writes.saturating_add(1);
         Err(Failed)
@@ -94,8 +99,10 @@ impl Link for NoLink {
 
     fn connect(&mut self, _alloc: Global, _address: &str) -> Result<(), EdgeFault>
         ensures fails { result ≡ Err EdgeFault.Failed }
-        ensures cause { Counted (⟦<NoLink as Source>⟧.read_faults self.old) (⟦<NoLink as Source>⟧.read_faults self.new) true }
-        ensures writes_same { ⟦<NoLink as Sink>⟧.write_faults self.new ≡ ⟦<NoLink as Sink>⟧.write_faults self.old }
+        ensures cause { Counted (⟦<NoLink as Source>⟧.read_faults self.old)
+            (⟦<NoLink as Source>⟧.read_faults self.new) true }
+        ensures writes_same { ⟦<NoLink as Sink>⟧.write_faults self.new
+            ≡ ⟦<NoLink as Sink>⟧.write_faults self.old }
     {
         self.failed_reads = self.failed_reads.saturating_add(1);
         Err(EdgeFault::Failed)

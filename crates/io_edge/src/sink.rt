@@ -21,7 +21,8 @@ pub trait Sink {
     fn write(&mut self, from: &[u8]) -> Result<usize, Failed>
         ensures bound { IfOk result (λ n. n ≤ length from.now) }
         ensures progress { IfOk result (λ n. 0 < length from.now → 0 < n) }
-        ensures appended { IfOk result (λ n. holds self.new ≡ and_held (holds self.old) (take n from.now)) }
+        ensures appended { IfOk result
+            (λ n. holds self.new ≡ and_held (holds self.old) (take n from.now)) }
         ensures err { OnErr result (holds self.new ≡ holds self.old) }
         ensures besides { besides_held self.new ≡ besides_held self.old }
         ensures cause { Counted (write_faults self.old) (write_faults self.new) (is_err result) };

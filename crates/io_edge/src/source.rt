@@ -20,8 +20,10 @@ pub trait Source {
     /// that isn't empty is the end.
     fn read(&mut self, into: &mut [u8]) -> Result<usize, Failed>
         ensures bound { IfOk result (λ n. n ≤ length into.old) }
-        ensures moved { IfOk result (λ n. left self.old ≡ and_then_left (take n into.new) (left self.new)) }
-        ensures end { IfOk result (λ n. n ≡ 0 → 0 < length into.old → IsWhereTold [] (left self.new)) }
+        ensures moved { IfOk result
+            (λ n. left self.old ≡ and_then_left (take n into.new) (left self.new)) }
+        ensures end { IfOk result
+            (λ n. n ≡ 0 → 0 < length into.old → IsWhereTold [] (left self.new)) }
         ensures err { OnErr result (left self.new ≡ left self.old) }
         ensures besides { besides_left self.new ≡ besides_left self.old }
         ensures cause { Counted (read_faults self.old) (read_faults self.new) (is_err result) };

@@ -46,7 +46,7 @@ own_row t m (Some r) sound inside e =
     let own : row_at (λ x. x.id) t.machines m.id ≡ Some m = row_at_is (λ (x : Machine). x.id) t.machines m sound.machines.ascend inside in
     sym found ∙ ap (λ (n : ℕ). row_at (λ x. x.id) t.machines n) ids ∙ own
 
--- the steps of a registration with this row come to a repeat
+-- the steps of a registration with this row result in a repeat
 steps_repeat : (s : State) (m : Machine) (form : Register) (words : Option (List ℕ)) → IsRepeat s m form → register_as s m.machine form words (Some m) ≡ Ok (registered_again s m)
 steps_repeat s m form words h =
     second_of_two (is_logout s form.expiry) _ _ (ap not h.stays)

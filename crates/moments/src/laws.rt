@@ -1,4 +1,4 @@
-//! What the texts of moments come to. This function does nothing: it states a law.
+//! What follows from the texts of moments. This function does nothing: it states a law.
 ghost use Rattle.std.specs.Prelude.{◌≡◌, ℤ};
 ghost use Rattle.moments.specs.Moments.{IsMoment};
 ghost use Rattle.moments.specs.MomentTexts.{moment_text};

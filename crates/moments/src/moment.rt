@@ -64,6 +64,7 @@ impl Moment {
         self.seconds
     }
 
+    /// Whether this moment comes before the other.
     pub fn is_before(self, other: Moment) -> bool
         ensures value { result ≡ int_lt self other }
     {

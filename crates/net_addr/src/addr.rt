@@ -42,6 +42,7 @@ impl Addr {
         Addr { v6, bits }
     }
 
+    /// Whether this is an IPv6 address.
     pub fn is_v6(&self) -> bool
         ensures value { result ≡ self.now.v6 }
     {

@@ -32,6 +32,7 @@ impl Model for Parts {
 }
 
 impl Parts {
+    /// No parts.
     pub fn new() -> Parts
         ensures value { result ≡ [] }
     {
@@ -41,6 +42,7 @@ impl Parts {
         }
     }
 
+    /// How many parts there are.
     pub fn len(&self) -> usize
         ensures value { result ≡ length self.now }
         ensures few { length self.now ≤ 8 }
@@ -48,12 +50,14 @@ impl Parts {
         self.count
     }
 
+    /// The parts in their order.
     pub fn as_slice(&self) -> &[u16]
         ensures value { result.now ≡ self.now }
     {
         &self.list[..self.count]
     }
 
+    /// Adds a part at the end, where there are fewer than eight.
     pub fn push(&mut self, part: u16)
         requires room { length self.old < 8 }
         ensures value { self.new ≡ self.old ++ part ∷ [] }

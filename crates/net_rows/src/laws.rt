@@ -14,10 +14,12 @@ pub fn rows_are_maps<T: HasId>()
         → ((k : ℕ) → row_at T.id xs k ≡ row_at T.id ys k) → xs ≡ ys }
     ensures put { (xs : List T) (x : T) (k : ℕ)
         → row_at T.id (put_row T.id xs x) k ≡ if T.id x == k then Some x else row_at T.id xs k }
-    ensures put_ascends { (xs : List T) (x : T) → IsAscending T.id xs → IsAscending T.id (put_row T.id xs x) }
+    ensures put_ascends { (xs : List T) (x : T) → IsAscending T.id xs
+        → IsAscending T.id (put_row T.id xs x) }
     ensures removed { (xs : List T) (gone k : ℕ)
         → row_at T.id (without T.id xs gone) k ≡ if gone == k then None else row_at T.id xs k }
-    ensures removal_ascends { (xs : List T) (gone : ℕ) → IsAscending T.id xs → IsAscending T.id (without T.id xs gone) }
+    ensures removal_ascends { (xs : List T) (gone : ℕ) → IsAscending T.id xs
+        → IsAscending T.id (without T.id xs gone) }
 {}
 
 /// Tables without damage are those that keep all rules: ids, keys, names, addresses and texts differ,

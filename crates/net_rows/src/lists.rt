@@ -101,6 +101,7 @@ impl Lists {
         }
     }
 
+    /// The users, by id.
     pub fn users(&self) -> &[User]
         ensures value { result.now ≡ self.now.rows.users }
         ensures ascending { IsAscending (λ r. r.id) result.now }
@@ -108,6 +109,7 @@ impl Lists {
         self.users.as_slice()
     }
 
+    /// The pre-auth keys, by id.
     pub fn keys(&self) -> &[AuthKey]
         ensures value { result.now ≡ self.now.rows.keys }
         ensures ascending { IsAscending (λ r. r.id) result.now }
@@ -115,6 +117,7 @@ impl Lists {
         self.keys.as_slice()
     }
 
+    /// The registrations that wait for an operator, by id.
     pub fn pending(&self) -> &[Pending]
         ensures value { result.now ≡ self.now.rows.pending }
         ensures ascending { IsAscending (λ r. r.id) result.now }
@@ -122,6 +125,7 @@ impl Lists {
         self.pending.as_slice()
     }
 
+    /// The machines, by id.
     pub fn machines(&self) -> &[Machine]
         ensures value { result.now ≡ self.now.rows.machines }
         ensures ascending { IsAscending (λ r. r.id) result.now }
@@ -129,18 +133,21 @@ impl Lists {
         self.machines.as_slice()
     }
 
+    /// The extra DNS records in their order.
     pub fn extras(&self) -> &[DnsExtra]
         ensures value { result.now ≡ self.now.rows.extras }
     {
         self.extras.as_slice()
     }
 
+    /// The text of the policy, if one was saved.
     pub fn policy(&self) -> &Option<Text>
         ensures value { result.now ≡ self.now.rows.policy }
     {
         &self.policy
     }
 
+    /// The next id of each kind.
     pub fn next(&self) -> Counters
         ensures value { result ≡ self.now.rows.next }
     {
@@ -151,7 +158,8 @@ impl Lists {
     pub fn put(&mut self, row: Row)
         requires reserved { Suffices self.old.spare (row ∷ []) }
         ensures rows { self.new.rows ≡ put self.old.rows row }
-        ensures spare { (rest : List Row) → Suffices self.old.spare (row ∷ rest) → Suffices self.new.spare rest }
+        ensures spare { (rest : List Row) → Suffices self.old.spare (row ∷ rest)
+            → Suffices self.new.spare rest }
     {
         match row {
             Row::User(user) => self.users.put(user),
@@ -166,7 +174,8 @@ impl Lists {
     /// Takes one row out.
     pub fn take_out(&mut self, key: RowKey)
         ensures rows { self.new.rows ≡ take_out self.old.rows key }
-        ensures spare { (rest : List Row) → Suffices self.old.spare rest → Suffices self.new.spare rest }
+        ensures spare { (rest : List Row) → Suffices self.old.spare rest
+            → Suffices self.new.spare rest }
     {
         match key {
             RowKey::User(id) => self.users.remove(id),
@@ -178,7 +187,8 @@ impl Lists {
 
     fn take_all_out(&mut self, gone: &[RowKey])
         ensures rows { self.new.rows ≡ take_all_out self.old.rows gone.now }
-        ensures spare { (rest : List Row) → Suffices self.old.spare rest → Suffices self.new.spare rest }
+        ensures spare { (rest : List Row) → Suffices self.old.spare rest
+            → Suffices self.new.spare rest }
     {
         for key in gone {
             self.take_out(*key);

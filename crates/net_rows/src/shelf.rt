@@ -65,6 +65,7 @@ impl<T: HasId> Shelf<T> {
         }
     }
 
+    /// The rows, by id.
     pub fn as_slice(&self) -> &[T]
         ensures rows { result.now ≡ self.now.0 }
         ensures ascending { IsAscending T.id self.now.0 }
@@ -95,7 +96,8 @@ impl<T: HasId> Shelf<T> {
         requires spare { row_at T.id self.old.0 (T.id row) ≡ None → 0 < self.old.1 }
         ensures rows { self.new.0 ≡ put_row T.id self.old.0 row }
         ensures spare { self.old.1 ≤ self.new.1 + 1 }
-        ensures replaced { (row_at T.id self.old.0 (T.id row) ≡ None → ⊥) → self.old.1 ≤ self.new.1 }
+        ensures replaced { (row_at T.id self.old.0 (T.id row) ≡ None → ⊥)
+            → self.old.1 ≤ self.new.1 }
     {
         match place_of(self.rows.as_slice(), row.id()) {
             Ok(place) => self.rows[place] = row,

@@ -1,4 +1,4 @@
-//! What a definition comes to. The function does nothing: it states a law.
+//! What follows from a definition. The function does nothing: it states a law.
 ghost use Rattle.std.specs.Prelude.{◌≡◌, ◌<◌, ℕ, not};
 ghost use Rattle.percent_encoding.specs.AsciiSet.{should_percent_encode};
 ghost use Rattle.operator_requests.specs.declared.paths.TheConstants.{LOGIN_ESCAPED};

@@ -1,4 +1,4 @@
-//! Texts of policies. Each line is a text and what it comes to: `ok`, or the first fault.
+//! Texts of policies. Each line is a text and what it results in: `ok`, or the first fault.
 use policy_doc::read_policy;
 use policy_rows::fault_text;
 use std::alloc::Global;
@@ -174,7 +174,7 @@ const SOUND: &str = r#"{} => ok
 {"hosts":{"one":"10.0.0.1/32"},"tests":[{"src":"one","accept":["[fd00::1]:22-22","one:00080"]}]} => ok
 {"groups":{"group:A":["Ann@"]},"tagOwners":{"tag:W":["group:A","Ann@"]},"acls":[{"action":"accept","src":["group:A","tag:W"],"dst":[]}]} => ok"#;
 
-/// What reading a text comes to.
+/// What reading a text results in.
 pub(crate) fn comes_to(alloc: Global, text: &[u8], want: &str) -> bool {
     match read_policy(alloc, text) {
         Ok(_) => want == "ok",

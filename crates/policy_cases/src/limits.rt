@@ -68,7 +68,7 @@ const LISTS: &[(&str, &str, &str, usize, &str)] = &[
     ),
 ];
 
-/// What so many members in a section come to.
+/// What so many members in a section result in.
 fn object_comes_to(
     alloc: Global,
     key: &str,
@@ -81,7 +81,7 @@ fn object_comes_to(
     Ok(comes_to(alloc, text.as_bytes(), want))
 }
 
-/// What so many elements in a list come to.
+/// What so many elements in a list result in.
 fn list_comes_to(
     alloc: Global,
     front: &str,
@@ -131,7 +131,7 @@ fn limits_of_lists_before_elements(rt: HostRuntime) -> Result<(), Fail> {
     Ok(())
 }
 
-/// What a text of so many spaces comes to.
+/// What a text of so many spaces results in.
 fn blanks_come_to(alloc: Global, count: usize, want: &str) -> Result<bool, Fail> {
     let blanks = vec![in alloc; b' '; count]?;
     Ok(comes_to(alloc, &blanks, want))

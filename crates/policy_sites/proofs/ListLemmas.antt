@@ -6,7 +6,7 @@ use Rattle.std.proofs.Math.Seq.{take-length}
 use Rattle.std.proofs.lemmas.List.{take_more}
 use Rattle.net_rows.proofs.Members.{cut_last}
 
--- what is told of the first elements and of the next is told of one element more
+-- what is known of the first elements and of the next is told of one element more
 pub told_more : {A : Type 0} (P : A → Type 0) (xs : List A) (i : ℕ) (x : A) → i < length xs → x ≡ get_or xs i x → ((a : A) → Contains (take i xs) a → P a) → P x
     → (a : A) → Contains (take (i + 1) xs) a → P a
 told_more {A} P xs i x lt is told here a m =
@@ -36,7 +36,7 @@ gathered_more {A} {B} test f xs i out new x all lt is told put =
     let whole : out ++ map f (filter test (x ∷ drop (i + 1) xs)) ≡ all = ap (λ (zs : List A). out ++ map f (filter test zs)) (sym cut) ∙ told in
     ap (λ (zs : List B). zs ++ map f (filter test (drop (i + 1) xs))) put ∙ (step ∙ whole)
 
--- what is told of the elements up to the end is told of all
+-- what is known of the elements up to the end is told of all
 pub told_all : {A : Type 0} (P : A → Type 0) (xs : List A) (i : ℕ) → i ≤ length xs → length xs ≤ i → ((a : A) → Contains (take i xs) a → P a) → (a : A) → Contains xs a → P a
 told_all {A} P xs i below past told a m =
     let end : i ≡ length xs = omega arith in

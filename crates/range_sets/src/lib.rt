@@ -1,4 +1,4 @@
-//! Sets of addresses, and the prefixes that they come to.
+//! Sets of addresses, and the prefixes that they result in.
 #![tactic(auto)]
 
 mod gaps;

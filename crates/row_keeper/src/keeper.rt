@@ -40,18 +40,23 @@ pub trait Keeper: Drop {
     /// the call, as a store does whose disk lies: then nothing is said of them.
     fn load(&mut self, alloc: Global) -> Result<Tables, LoadFault>
         ensures loaded { IfOk result (λ tables. IsWhereTold tables.rows (told self.new)) }
-        ensures whole { IfErr result (λ e. (kind : Kind) (id : ℕ) → e ≡ LoadFault.Damaged kind id → told self.new ≡ None) }
+        ensures whole { IfErr result
+            (λ e. (kind : Kind) (id : ℕ) → e ≡ LoadFault.Damaged kind id → told self.new ≡ None) }
         ensures same { StillTells (told self.old) (told self.new) }
         ensures later { faults self.old ≤ faults self.new }
         ensures called { calls self.new ≡ one_more (calls self.old) }
-        ensures cause { IsErrOf result LoadFault.Failed → Rose (faults self.old) (faults self.new) };
+        ensures cause { IsErrOf result LoadFault.Failed
+            → Rose (faults self.old) (faults self.new) };
 
     /// Keeps the change, or leaves what it keeps as it was.
     fn commit(&mut self, alloc: Global, change: &Change) -> Result<(), EdgeFault>
         requires sound { IfSome (told self.old) (λ rows. damage (after rows change.now) ≡ None) }
-        ensures ok { OnOk result (StillTells (option_map (λ rows. after rows change.now) (told self.old)) (told self.new)) }
+        ensures ok { OnOk result
+            (StillTells (option_map (λ rows. after rows change.now) (told self.old))
+            (told self.new)) }
         ensures err { OnErr result (StillTells (told self.old) (told self.new)) }
         ensures later { faults self.old ≤ faults self.new }
         ensures called { calls self.new ≡ one_more (calls self.old) }
-        ensures cause { IsErrOf result EdgeFault.Failed → Rose (faults self.old) (faults self.new) };
+        ensures cause { IsErrOf result EdgeFault.Failed
+            → Rose (faults self.old) (faults self.new) };
 }

@@ -59,7 +59,8 @@ impl MemoryOpener {
 
 /// A keeper of equal tables, of which the calls with these numbers fail.
 fn keeper_of(alloc: Global, tables: &Tables, fails: &Items<u32>) -> Result<MemoryKeeper, NoMemory>
-    ensures told { IfOk result (λ keeper. ⟦<MemoryKeeper as Keeper>⟧.told keeper ≡ Some tables.now.rows) }
+    ensures told { IfOk result
+        (λ keeper. ⟦<MemoryKeeper as Keeper>⟧.told keeper ≡ Some tables.now.rows) }
     ensures faults { IfOk result (λ keeper. ⟦<MemoryKeeper as Keeper>⟧.faults keeper ≡ 0) }
     ensures calls { IfOk result (λ keeper. ⟦<MemoryKeeper as Keeper>⟧.calls keeper ≡ 0) }
     ensures planned { IfOk result (λ keeper. keeper.faults.fails ≡ fails.now) }

@@ -24,17 +24,20 @@ pub trait Opener {
     /// A keeper of these rows that was not called yet. While it is open, nothing is said of what the
     /// opener tells to be kept.
     fn open(&mut self, alloc: Global, name: &str) -> Result<Self::Keeper, EdgeFault>
-        ensures gives { IfOk result (λ keeper. IfSome (told self.old) (λ rows. Self.Keeper.told keeper ≡ Some rows)) }
+        ensures gives { IfOk result
+            (λ keeper. IfSome (told self.old) (λ rows. Self.Keeper.told keeper ≡ Some rows)) }
         ensures fresh { IfOk result (λ keeper. Self.Keeper.faults keeper ≡ 0) }
         ensures uncalled { IfOk result (λ keeper. Self.Keeper.calls keeper ≡ 0) }
         ensures asked { IsAsked result name.now (asked self.old) (asked self.new) }
         ensures same { OnErr result (StillTells (told self.old) (told self.new)) }
         ensures later { faults self.old ≤ faults self.new }
-        ensures cause { IsErrOf result EdgeFault.Failed → Rose (faults self.old) (faults self.new) };
+        ensures cause { IsErrOf result EdgeFault.Failed
+            → Rose (faults self.old) (faults self.new) };
 
     /// Takes a keeper back, with its faults and with what it keeps.
     fn close(&mut self, keeper: Self::Keeper)
         ensures told { StillTells (Self.Keeper.told keeper) (told self.new) }
         ensures asked { asked self.new ≡ asked self.old }
-        ensures faults { faults self.new ≡ min (faults self.old + Self.Keeper.faults keeper) (2 ^ 64 - 1) };
+        ensures faults { faults self.new
+            ≡ min (faults self.old + Self.Keeper.faults keeper) (2 ^ 64 - 1) };
 }

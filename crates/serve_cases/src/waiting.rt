@@ -364,7 +364,7 @@ fn written_at<R>(doors: &ReadyDoors<R>, place: usize) -> Option<&OpeningSink<R>>
     }
 }
 
-/// The server at these doors, and what it comes to.
+/// The server at these doors, and what it results in.
 fn run_two<R: Threads + Wait + Clock + Copy + Send + Sync + Drop>(
     rt: R,
     alloc: Global,

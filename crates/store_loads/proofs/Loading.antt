@@ -74,7 +74,7 @@ read_held old new rows done seen well has live clean back none opened =
     subst (λ (d : Database). Holds d rows) (sym (seen.same clean has well))
     (record { keeps = record { schema = has; stored = found.0; ordered = by_id_of rows none }; readable = found.1; sound = none })
 
--- ---- what the answers say of what is told
+-- ---- what the answers say of what is known
 
 pub tells_read : (new : State) (rows : Rows) → (HasCleanDisk new → IsTrue new.is_open → Holds new.now rows) → IsWhereTold rows (store_tells new)
 tells_read new rows held = go (store_tells new) refl

@@ -153,7 +153,7 @@ tables_again trees rows stored by good =
     let policy = ap policy_in_rows stored.policy ∙ policy_again rows.policy good.policy in
     rw (a, users, keys, pending, machines, extras, policy) refl
 
--- ---- what is told
+-- ---- what is known
 
 pub by_id_of : (rows : Rows) → damage rows ≡ None → AreById rows
 by_id_of rows none = let sound = sound_of rows none in record { users = sound.users.ascend; keys = sound.keys.ascend; pending = sound.pending.ascend; machines = sound.machines.ascend }

@@ -1,4 +1,4 @@
--- What the statements of schema 1 come to: queries over a tree, and the table, by its place in the schema, that is
+-- What the statements of schema 1 result in: queries over a tree, and the table, by its place in the schema, that is
 -- written to.
 use Rattle.std.specs.Prelude.{ℕ, pos, negsuc, false, List, [], ◌∷◌, codes, None}
 use Rattle.sqlite_schema.specs.declared.command.Command.{Command}

@@ -53,6 +53,7 @@ impl Bytes {
         bytes
     }
 
+    /// The bytes.
     pub fn as_slice(&self) -> &[u8]
         ensures value { result.now ≡ self.now }
     {

@@ -24,7 +24,8 @@ pub struct DiscoKey(pub [u8; 32]);
 fn key_bytes(head: &[u8], text: &[u8]) -> Option<[u8; 32]>
     ensures value { result ≡ key_of_text head.now text.now }
     ensures found { IfSome result (λ key. SpellsKey head.now text.now key) }
-    ensures none { IfNone result ((key : List ℕ) → length key ≡ 32 → SpellsKey head.now text.now key → ⊥) }
+    ensures none { IfNone result
+        ((key : List ℕ) → length key ≡ 32 → SpellsKey head.now text.now key → ⊥) }
 {
     match text.strip_prefix(head) {
         Some(digits) => <[u8; 32] as FromHex>::from_hex(digits).ok(),
@@ -48,7 +49,8 @@ impl MachineKey {
     pub fn read(text: &[u8]) -> Option<MachineKey>
         ensures value { option_map (λ key. key.0) result ≡ key_of_text (codes "mkey:") text.now }
         ensures found { IfSome result (λ key. SpellsKey (codes "mkey:") text.now key.0) }
-        ensures none { IfNone result ((key : List ℕ) → length key ≡ 32 → SpellsKey (codes "mkey:") text.now key → ⊥) }
+        ensures none { IfNone result
+            ((key : List ℕ) → length key ≡ 32 → SpellsKey (codes "mkey:") text.now key → ⊥) }
     {
         Some(MachineKey(key_bytes(b"mkey:", text)?))
     }
@@ -56,11 +58,13 @@ impl MachineKey {
     /// `mkey:` and 64 digits in lower case.
     pub fn write(&self, alloc: Global) -> Result<Text, NoMemory>
         ensures value { IfOk result (λ text. text ≡ key_text (codes "mkey:") self.now.0) }
-        ensures read_again { IfOk result (λ text. key_of_text (codes "mkey:") text ≡ Some self.now.0) }
+        ensures read_again { IfOk result
+            (λ text. key_of_text (codes "mkey:") text ≡ Some self.now.0) }
     {
         written(alloc, "mkey:", &self.0)
     }
 
+    /// Whether all 32 bytes are 0, which stands for no key.
     pub fn is_zero(&self) -> bool
         ensures value { IsTrue result ↔ (self.now.0 ≡ replicate 32 0) }
     {
@@ -73,7 +77,8 @@ impl NodeKey {
     pub fn read(text: &[u8]) -> Option<NodeKey>
         ensures value { option_map (λ key. key.0) result ≡ key_of_text (codes "nodekey:") text.now }
         ensures found { IfSome result (λ key. SpellsKey (codes "nodekey:") text.now key.0) }
-        ensures none { IfNone result ((key : List ℕ) → length key ≡ 32 → SpellsKey (codes "nodekey:") text.now key → ⊥) }
+        ensures none { IfNone result
+            ((key : List ℕ) → length key ≡ 32 → SpellsKey (codes "nodekey:") text.now key → ⊥) }
     {
         Some(NodeKey(key_bytes(b"nodekey:", text)?))
     }
@@ -81,11 +86,13 @@ impl NodeKey {
     /// `nodekey:` and 64 digits in lower case.
     pub fn write(&self, alloc: Global) -> Result<Text, NoMemory>
         ensures value { IfOk result (λ text. text ≡ key_text (codes "nodekey:") self.now.0) }
-        ensures read_again { IfOk result (λ text. key_of_text (codes "nodekey:") text ≡ Some self.now.0) }
+        ensures read_again { IfOk result
+            (λ text. key_of_text (codes "nodekey:") text ≡ Some self.now.0) }
     {
         written(alloc, "nodekey:", &self.0)
     }
 
+    /// Whether all 32 bytes are 0, which stands for no key.
     pub fn is_zero(&self) -> bool
         ensures value { IsTrue result ↔ (self.now.0 ≡ replicate 32 0) }
     {
@@ -96,9 +103,11 @@ impl NodeKey {
 impl DiscoKey {
     /// The key that `discokey:` and 64 hexadecimal digits of either case spell.
     pub fn read(text: &[u8]) -> Option<DiscoKey>
-        ensures value { option_map (λ key. key.0) result ≡ key_of_text (codes "discokey:") text.now }
+        ensures value { option_map (λ key. key.0) result
+            ≡ key_of_text (codes "discokey:") text.now }
         ensures found { IfSome result (λ key. SpellsKey (codes "discokey:") text.now key.0) }
-        ensures none { IfNone result ((key : List ℕ) → length key ≡ 32 → SpellsKey (codes "discokey:") text.now key → ⊥) }
+        ensures none { IfNone result
+            ((key : List ℕ) → length key ≡ 32 → SpellsKey (codes "discokey:") text.now key → ⊥) }
     {
         Some(DiscoKey(key_bytes(b"discokey:", text)?))
     }
@@ -106,11 +115,13 @@ impl DiscoKey {
     /// `discokey:` and 64 digits in lower case.
     pub fn write(&self, alloc: Global) -> Result<Text, NoMemory>
         ensures value { IfOk result (λ text. text ≡ key_text (codes "discokey:") self.now.0) }
-        ensures read_again { IfOk result (λ text. key_of_text (codes "discokey:") text ≡ Some self.now.0) }
+        ensures read_again { IfOk result
+            (λ text. key_of_text (codes "discokey:") text ≡ Some self.now.0) }
     {
         written(alloc, "discokey:", &self.0)
     }
 
+    /// Whether all 32 bytes are 0, which stands for no key.
     pub fn is_zero(&self) -> bool
         ensures value { IsTrue result ↔ (self.now.0 ≡ replicate 32 0) }
     {

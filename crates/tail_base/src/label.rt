@@ -101,6 +101,7 @@ impl Label {
         Ok(Label { text })
     }
 
+    /// The label as text.
     pub fn as_str(&self) -> &str
         ensures value { result.now ≡ self.now }
         ensures label { is_label self.now ≡ true }
@@ -108,6 +109,7 @@ impl Label {
         self.text.as_str()
     }
 
+    /// The label's bytes.
     pub fn as_slice(&self) -> &[u8]
         ensures value { result.now ≡ self.now }
         ensures label { is_label self.now ≡ true }

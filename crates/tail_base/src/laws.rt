@@ -34,8 +34,10 @@ pub fn tags_are_read_again()
 
 /// A search below a bound finds a number that passes the test, wherever one does, and no other.
 pub fn searches_find()
-    ensures found { (n : ℕ) (test : ℕ → Bool) (y : ℕ) → y < n → test y ≡ true → some_below n test ≡ true }
-    ensures finds { (n : ℕ) (test : ℕ → Bool) → some_below n test ≡ true → (y : ℕ) × (y < n) × (test y ≡ true) }
+    ensures found { (n : ℕ) (test : ℕ → Bool) (y : ℕ) → y < n → test y ≡ true
+        → some_below n test ≡ true }
+    ensures finds { (n : ℕ) (test : ℕ → Bool) → some_below n test ≡ true → (y : ℕ) × (y < n)
+        × (test y ≡ true) }
 {}
 
 /// What `sorted_once` gives rises strictly; and where only equal elements compare as equal, it is what
@@ -43,5 +45,6 @@ pub fn searches_find()
 pub fn sorted_lists_rise<T: Ord>()
     ensures rise { (xs : List T) → IsStrictlySortedBy T.cmp (sorted_once T.cmp xs) }
     ensures same { ((a b : T) → T.cmp a b ≡ Equal → a ≡ b)
-        → (test : T → Bool) (xs : List T) → list_any test (sorted_once T.cmp xs) ≡ list_any test xs }
+        → (test : T → Bool) (xs : List T)
+        → list_any test (sorted_once T.cmp xs) ≡ list_any test xs }
 {}

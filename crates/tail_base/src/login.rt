@@ -105,6 +105,7 @@ impl Login {
         login_of(alloc, text)
     }
 
+    /// The login as text.
     pub fn as_str(&self) -> &str
         ensures value { result.now ≡ self.now }
         ensures login { is_login self.now ≡ true }
@@ -112,6 +113,7 @@ impl Login {
         self.text.as_str()
     }
 
+    /// The login's bytes.
     pub fn as_slice(&self) -> &[u8]
         ensures value { result.now ≡ self.now }
         ensures login { is_login self.now ≡ true }

@@ -1,4 +1,4 @@
-//! Want of memory, and values that are copied.
+//! Lack of memory, and values that are copied.
 ghost use Rattle.std.specs.Prelude.{◌≡◌, IfOk};
 
 use std::alloc::{AllocError, AllocFailed, Global};

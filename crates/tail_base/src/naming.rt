@@ -9,7 +9,8 @@ use std::alloc::Global;
 
 /// Letters and digits in lower case, with one hyphen for each run of other bytes.
 pub(crate) fn squeezed(alloc: Global, host: &[u8]) -> Result<Vec<u8>, NoMemory>
-    ensures value { IfOk result (λ text. text.items ≡ squeezed false (map to_ascii_lowercase host.now)) }
+    ensures value { IfOk result
+        (λ text. text.items ≡ squeezed false (map to_ascii_lowercase host.now)) }
 {
     let mut text = Vec::new(alloc);
     let mut in_run = false;

@@ -88,6 +88,7 @@ impl Tag {
         tag_of(alloc, text)
     }
 
+    /// The tag as text.
     pub fn as_str(&self) -> &str
         ensures value { result.now ≡ self.now }
         ensures tag { is_tag self.now ≡ true }
@@ -95,6 +96,7 @@ impl Tag {
         self.text.as_str()
     }
 
+    /// The tag's bytes.
     pub fn as_slice(&self) -> &[u8]
         ensures value { result.now ≡ self.now }
         ensures tag { is_tag self.now ≡ true }

@@ -58,12 +58,14 @@ impl Text {
         Text { text }
     }
 
+    /// The text as a string slice.
     pub fn as_str(&self) -> &str
         ensures value { result.now ≡ self.now }
     {
         self.text.as_str()
     }
 
+    /// The text's bytes.
     pub fn as_slice(&self) -> &[u8]
         ensures value { result.now ≡ self.now }
     {

@@ -20,18 +20,18 @@ use Rattle.tail_words.specs.declared.rule.Rule.{Rule}
 use Rattle.tail_words.specs.declared.rule.Rule.TheVariants.{Number, Prefix, Text}
 use Rattle.tail_words.specs.declared.rule.TextRule.TheVariants.{Any, BaseDomain, Visible}
 
--- the settings that were read are those, and so is the fault, but want of memory, which is free
+-- the settings that were read are those, and so is the fault, but lack of memory, which is free
 abbrev pub IsRead : Result SettingsFields SettingsFault → Result SettingsFields SettingsFault → Type 0
 IsRead (Ok s) read = read ≡ Ok s
 IsRead (Err (Refused rule key)) read = read ≡ Err (Refused rule key)
 IsRead (Err NoMemory) read = Unit {0}
 
--- a fault is that one, but want of memory
+-- a fault is that one, but lack of memory
 abbrev pub IsFault : SettingsFault → SettingsFault → Type 0
 IsFault (Refused rule key) fault = fault ≡ Refused rule key
 IsFault NoMemory fault = Unit {0}
 
--- a fault is the one that reading gives, but want of memory
+-- a fault is the one that reading gives, but lack of memory
 abbrev pub Fails : {A : Type 0} → SettingsFault → Result A SettingsFault → Type 0
 Fails (Refused rule key) read = read ≡ Err (Refused rule key)
 Fails NoMemory read = Unit {0}

@@ -12,7 +12,8 @@ use toml::{Table, Value};
 
 /// The value at a key.
 pub(crate) fn member<'a>(table: &'a Table, key: &str) -> Option<&'a Value>
-    ensures value { option_map (λ v. view v.now) result ≡ get_member key.now (table_view table.now) }
+    ensures value { option_map (λ v. view v.now) result
+        ≡ get_member key.now (table_view table.now) }
 {
     table.get(key)
 }

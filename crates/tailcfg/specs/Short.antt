@@ -11,7 +11,7 @@ pub record IsShortForm (r : Register) : Type 0 where
   pub routes : length r.routes ≤ ROUTE_LIMIT
   pub tags : length r.tags ≤ ASKED_TAG_LIMIT
 
--- what is told of a host, within the limits of rows
+-- what is known of a host, within the limits of rows
 pub record IsShortHost (h : HostUpdate) : Type 0 where
   pub name : IfSome h.name (λ text. length text ≤ HOST_LIMIT)
   pub routes : length h.routes ≤ ROUTE_LIMIT

@@ -20,13 +20,13 @@ pub record IsHeld (rows : Rows) (policy : Option Policy) (told : Option Rows) : 
   pub kept : IsWhereTold rows told
   pub in_force : IsInForce rows policy
 
--- what is told of a keeper: its rows, if it tells them, how often a call has failed, and how often it was called
+-- what is known of a keeper: its rows, if it tells them, how often a call has failed, and how often it was called
 pub record Keeping : Type 0 where
   pub told : Option Rows
   pub faults : ℕ
   pub calls : ℕ
 
--- the state of the Tailnet machine, and what is told of its keeper
+-- the state of the Tailnet machine, and what is known of its keeper
 pub record Point : Type 0 where
   pub state : State
   pub keeping : Keeping

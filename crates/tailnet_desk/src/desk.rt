@@ -122,7 +122,7 @@ fn unless_decided<A>(moment: Option<Moment>, decision: &Decision<A>) -> Option<M
     if rests { moment } else { None }
 }
 
-/// An answer that isn't given is let go here.
+/// An answer that isn't given is dropped here.
 fn let_go(_answer: Answer) {}
 
 /// The reply to an ask whose decision was carried out, or wasn't.

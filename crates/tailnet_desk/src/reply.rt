@@ -53,7 +53,7 @@ pub enum Reply {
     Lost(Loss),
 }
 
-/// What a drain comes to.
+/// What a drain results in.
 #[derive(Drop)]
 pub enum Drained {
     /// What is new in the session.
@@ -77,7 +77,7 @@ impl Drained {
         }
     }
 
-    /// What a drain came to that was replied so.
+    /// What a drain resulted in that was replied so.
     pub fn of_reply(reply: Reply) -> Drained
         requires kind { IsDrainReply reply }
         ensures value { drain_reply result ≡ reply }

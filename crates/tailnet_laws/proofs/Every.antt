@@ -1,4 +1,4 @@
--- What holds of each decision that steps may come to.
+-- What holds of each decision that steps may result in.
 use Rattle.std.proofs.Common.{◌≡◌, Bool, true, false, Option, Some, None, Result, Ok, Err, if◌then◌else◌, refl, subst}
 use Rattle.net_rows.specs.declared.machine.Machine.{Machine}
 use Rattle.tail_base.specs.Steps.{◌>>=◌, or_fault, refuse_if}

@@ -19,7 +19,8 @@ ghost use Rattle.tailnet_desk.specs.declared.entry.Entry.{Entry};
 ghost use Rattle.tailnet_laws.specs.Entrances.{HasMachine};
 ghost use Rattle.tailnet_laws.specs.KeyUse.{IsByKey, PutsByText};
 
-/// A key that was used and isn't reusable is refused, and so is each registration by it.
+/// A key that was used and isn't reusable is refused as used or as expired, and so is a registration
+/// whose rules get as far as its key.
 pub fn used_keys_are_refused()
     ensures refused { (s : State) (k : AuthKey) → AreSound s.rows → Contains s.rows.keys k
         → k.used ≡ true → k.reusable ≡ false

@@ -69,7 +69,7 @@ fn parts_of(line: &str) -> Option<(Plan, Status, &'static [u8], &str)> {
     Some((plan_of(plan)?, status_of(status), output_of(output), errors))
 }
 
-/// Whether a run comes to this where that fails.
+/// Whether a run results in this where that fails.
 fn comes_to(
     alloc: Global,
     plan: &Plan,

@@ -55,7 +55,7 @@ const ROWS: [(&[u8], Status, &[u8], usize); 8] = [
     (b"x\r\n\r\n", Status::Early, BAD_HEAD, 0),
 ];
 
-/// Whether a run over the input comes to this.
+/// Whether a run over the input results in this.
 fn comes_to(
     alloc: Global,
     input: &[u8],

@@ -1,4 +1,4 @@
-//! Polls: what their streams hold, when a session goes on, and what a fault of a write comes to.
+//! Polls: what their streams hold, when a session goes on, and what a fault of a write results in.
 
 /// Each write of a poll fails in turn.
 pub const FAULTED_POLLS: &str = r#"= head

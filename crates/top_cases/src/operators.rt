@@ -113,7 +113,7 @@ fn is_left<R: Threads + Wait + Sync>(
         && is_written(given, row.written)
 }
 
-/// Whether a run over a link that gives these bytes comes to what the row has.
+/// Whether a run over a link that gives these bytes results in what the row has.
 fn runs_so<R: Threads + Wait + Sync>(
     rt: &R,
     alloc: Global,
@@ -151,7 +151,7 @@ const FAULTS: [(u32, u8, &[u8]); 4] = [
     (4, 4, READ_FAULT),
 ];
 
-/// Whether a run comes to such a fault.
+/// Whether a run results in such a fault.
 fn fails_so<R: Threads + Wait + Sync>(
     rt: &R,
     alloc: Global,

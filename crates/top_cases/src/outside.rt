@@ -109,7 +109,7 @@ pub(crate) fn run_over<
     )
 }
 
-/// What the top call comes to.
+/// What the top call results in.
 pub(crate) fn status_of<R: Threads + Wait + Sync>(
     rt: &R,
     alloc: Global,

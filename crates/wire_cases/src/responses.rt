@@ -155,7 +155,7 @@ fn a_frame_has_the_length_of_its_text(rt: HostRuntime) -> Result<(), Fail> {
     Ok(())
 }
 
-/// The copy of a part, which is let go.
+/// The copy of a part, which is dropped.
 fn copied<T: Duplicate + Drop>(alloc: Global, part: T) -> Result<T, NoMemory> {
     part.copy(alloc)
 }

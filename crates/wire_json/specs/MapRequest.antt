@@ -31,7 +31,7 @@ abbrev pub derp_of : Option Data → Result (Option ℕ) WireFault
 derp_of None = Ok None
 derp_of (Some net) = optional field.PreferredDerp 0 (whole_up_to REGION_LIMIT) (Some net) >>= (λ derp. Ok (Some derp))
 
--- what is told of the host
+-- what is known of the host
 unfoldable pub host_at : Data → Result HostUpdate WireFault
 host_at d = do
   name ← optional field.Hostname None (some_short_text HOST_LIMIT) (Some d)

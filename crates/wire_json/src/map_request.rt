@@ -18,7 +18,8 @@ use tailcfg::{ENDPOINT_LIMIT, HOST_LIMIT, HostUpdate, MapAsk, REGION_LIMIT, ROUT
 
 /// Refuses a compression, unless it has the empty name.
 fn uncompressed(value: Option<&Value>) -> Result<(), WireFault>
-    ensures value { Gives (λ _. tt) result (uncompressed (option_map (λ v. view v.now) value.entry)) }
+    ensures value { Gives (λ _. tt) result
+        (uncompressed (option_map (λ v. view v.now) value.entry)) }
 {
     let Some(value) = value else {
         return Ok(());

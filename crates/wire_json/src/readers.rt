@@ -15,7 +15,8 @@ use tail_base::{DiscoKey, NodeKey, Text};
 
 /// A truth value; false where it is absent.
 pub fn flag_of(object: Option<&Value>, field: Field) -> Result<bool, WireFault>
-    ensures value { Gives (λ b. b) result (optional field false as_bool (option_map (λ v. view v.now) object.entry)) }
+    ensures value { Gives (λ b. b) result
+        (optional field false as_bool (option_map (λ v. view v.now) object.entry)) }
 {
     match field_of(object, field) {
         Some(value) => value.as_bool().ok_or(WireFault::BadField(field)),
@@ -29,7 +30,8 @@ pub(crate) fn text_of(
     object: Option<&Value>,
     field: Field,
 ) -> Result<Text, WireFault>
-    ensures value { Gives (λ t. t) result (optional field [] as_str (option_map (λ v. view v.now) object.entry)) }
+    ensures value { Gives (λ t. t) result
+        (optional field [] as_str (option_map (λ v. view v.now) object.entry)) }
 {
     let Some(value) = field_of(object, field) else {
         return Ok(Text::new(alloc));
@@ -47,7 +49,8 @@ pub(crate) fn short_text_of(
     field: Field,
     limit: usize,
 ) -> Result<Option<Text>, WireFault>
-    ensures value { Gives (λ t. t) result (optional field None (some_short_text limit) (option_map (λ v. view v.now) object.entry)) }
+    ensures value { Gives (λ t. t) result
+        (optional field None (some_short_text limit) (option_map (λ v. view v.now) object.entry)) }
     ensures short { IfOk result (λ t. IfSome t (λ text. length text ≤ limit)) }
 {
     let Some(value) = field_of(object, field) else {
@@ -61,7 +64,8 @@ pub(crate) fn short_text_of(
 
 /// A number in plain digits up to a greatest; 0 where it is absent.
 pub(crate) fn number_of(object: Option<&Value>, field: Field, limit: u64) -> Result<u64, WireFault>
-    ensures value { Gives (λ n. n) result (optional field 0 (whole_up_to limit) (option_map (λ v. view v.now) object.entry)) }
+    ensures value { Gives (λ n. n) result
+        (optional field 0 (whole_up_to limit) (option_map (λ v. view v.now) object.entry)) }
     ensures limited { IfOk result (λ n. n ≤ limit) }
 {
     let Some(value) = field_of(object, field) else {
@@ -75,7 +79,8 @@ pub(crate) fn number_of(object: Option<&Value>, field: Field, limit: u64) -> Res
 
 /// A node key that isn't zero.
 pub(crate) fn node_key_of(object: Option<&Value>, field: Field) -> Result<NodeKey, WireFault>
-    ensures value { Gives (λ k. k) result (required field node_key (option_map (λ v. view v.now) object.entry)) }
+    ensures value { Gives (λ k. k) result
+        (required field node_key (option_map (λ v. view v.now) object.entry)) }
 {
     let Some(value) = field_of(object, field) else {
         return Err(WireFault::Missing(field));
@@ -94,7 +99,8 @@ pub(crate) fn some_node_key_of(
     object: Option<&Value>,
     field: Field,
 ) -> Result<Option<NodeKey>, WireFault>
-    ensures value { Gives (λ k. k) result (optional field None some_node_key (option_map (λ v. view v.now) object.entry)) }
+    ensures value { Gives (λ k. k) result
+        (optional field None some_node_key (option_map (λ v. view v.now) object.entry)) }
 {
     let Some(value) = field_of(object, field) else {
         return Ok(None);
@@ -114,7 +120,8 @@ pub(crate) fn some_disco_key_of(
     object: Option<&Value>,
     field: Field,
 ) -> Result<Option<DiscoKey>, WireFault>
-    ensures value { Gives (λ k. k) result (optional field None some_disco_key (option_map (λ v. view v.now) object.entry)) }
+    ensures value { Gives (λ k. k) result
+        (optional field None some_disco_key (option_map (λ v. view v.now) object.entry)) }
 {
     let Some(value) = field_of(object, field) else {
         return Ok(None);
@@ -142,7 +149,8 @@ fn unless_zero_time(moment: Moment) -> Option<Moment>
 
 /// A time in the form of RFC 3339; None where it is absent or Go's zero time.
 pub fn some_time_of(object: Option<&Value>, field: Field) -> Result<Option<Moment>, WireFault>
-    ensures value { Gives (λ t. t) result (optional field None some_time (option_map (λ v. view v.now) object.entry)) }
+    ensures value { Gives (λ t. t) result
+        (optional field None some_time (option_map (λ v. view v.now) object.entry)) }
 {
     let Some(value) = field_of(object, field) else {
         return Ok(None);

@@ -7,7 +7,7 @@ use Rattle.tailcfg.specs.declared.patch.Patch.{Patch}
 use Rattle.tailcfg.specs.declared.profile.Profile.{Profile}
 use Rattle.wire_text.specs.Parts.{number_data, array_data, some_member, node_key_data, machine_key_data, disco_key_data, prefix_data, endpoint_data, moment_data, time_data}
 
--- what is told of the host (`tailcfg.Hostinfo`)
+-- what is known of the host (`tailcfg.Hostinfo`)
 abbrev pub host_data : List ℕ → Data
 host_data name = object (member (codes "Hostname") (string name) no_members)
 

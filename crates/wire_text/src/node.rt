@@ -14,7 +14,7 @@ use json::Writer;
 use tail_base::{NoMemory, Text};
 use tailcfg::NodeRow;
 
-/// Writes what is told of the host.
+/// Writes what is known of the host.
 fn write_host(host: &Text, room: &mut String, out: &mut Writer) -> Result<(), NoMemory>
     ensures adds { OnOk result
         (Adds (key (codes "Hostinfo") ∷ data_tokens (host_data host.now)) out.old out.new) }
