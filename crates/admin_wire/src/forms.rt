@@ -4,7 +4,7 @@ ghost use Rattle.serde_json.specs.Find.{as_str};
 ghost use Rattle.serde_json.specs.View.{view};
 ghost use Rattle.tailcfg.specs.declared.limits.TheConstants.{ASKED_TAG_LIMIT, ROUTE_LIMIT};
 ghost use Rattle.net_rows.specs.declared.limits.TheConstants.{TAG_LIMIT};
-ghost use Rattle.wire_json.specs.Body.{Gives};
+ghost use Rattle.tail_base.specs.Steps.{Gives};
 ghost use Rattle.admin_wire.specs.Forms.{admit_form_at, admit_form_of_body, empty_form_of_body, expiry_form_of_body, key_form_at, key_form_of_body, needed_routes, needed_tags, needed_text, rename_form_of_body, routes_form_at, routes_form_of_body, tags_form_of_body, user_form_of_body};
 
 use desk_state::KeyForm;
@@ -13,7 +13,7 @@ use net_addr::{Prefix, sorted_routes};
 use net_rows::TAG_LIMIT;
 use serde_json::Value;
 use std::alloc::Global;
-use tail_base::{Items, Tag, Text};
+use tail_base::{Failure, Items, Tag, Text};
 use tailcfg::{ASKED_TAG_LIMIT, ROUTE_LIMIT};
 use wire_json::{
     AdminField, Field, WireFault, field_of, flag_of, list_of, object_of_body, some_time_of,
@@ -29,45 +29,45 @@ pub struct AdmitForm {
 }
 
 /// A text that has to be there.
-fn needed_text(alloc: Global, body: &Value, field: AdminField) -> Result<Text, WireFault>
+fn needed_text(alloc: Global, body: &Value, field: AdminField) -> Result<Text, Failure<WireFault>>
     ensures value { Gives (λ t. t) result (needed_text field (view body.now)) }
 {
     let field = Field::Admin(field);
     let Some(value) = field_of(Some(body), field) else {
-        return Err(WireFault::Missing(field));
+        return Err(Failure::Fault(WireFault::Missing(field)));
     };
     match value.as_str() {
         Some(text) => Ok(Text::from_str(alloc, text)?),
-        None => Err(WireFault::BadField(field)),
+        None => Err(Failure::Fault(WireFault::BadField(field))),
     }
 }
 
 /// Tags that have to be there.
-fn needed_tags(alloc: Global, body: &Value) -> Result<Items<Tag>, WireFault>
+fn needed_tags(alloc: Global, body: &Value) -> Result<Items<Tag>, Failure<WireFault>>
     ensures value { Gives (λ tags. tags) result (needed_tags (view body.now)) }
     ensures short { IfOk result (λ tags. length tags ≤ TAG_LIMIT) }
 {
     let field = Field::Admin(AdminField::Tags);
     if field_of(Some(body), field).is_none() {
-        return Err(WireFault::Missing(field));
+        return Err(Failure::Fault(WireFault::Missing(field)));
     }
     list_of(alloc, Some(body), field, TAG_LIMIT)
 }
 
 /// Routes that have to be there.
-fn needed_routes(alloc: Global, body: &Value) -> Result<Items<Prefix>, WireFault>
+fn needed_routes(alloc: Global, body: &Value) -> Result<Items<Prefix>, Failure<WireFault>>
     ensures value { Gives (λ routes. routes) result (needed_routes (view body.now)) }
     ensures short { IfOk result (λ routes. length routes ≤ ROUTE_LIMIT) }
 {
     let field = Field::Admin(AdminField::Routes);
     if field_of(Some(body), field).is_none() {
-        return Err(WireFault::Missing(field));
+        return Err(Failure::Fault(WireFault::Missing(field)));
     }
     list_of(alloc, Some(body), field, ROUTE_LIMIT)
 }
 
 /// Such routes in order, each once.
-fn routes_form_of(alloc: Global, body: &Value) -> Result<Items<Prefix>, WireFault>
+fn routes_form_of(alloc: Global, body: &Value) -> Result<Items<Prefix>, Failure<WireFault>>
     ensures value { Gives (λ routes. routes) result (routes_form_at (view body.now)) }
     ensures short { IfOk result (λ routes. length routes ≤ ROUTE_LIMIT) }
 {
@@ -76,7 +76,7 @@ fn routes_form_of(alloc: Global, body: &Value) -> Result<Items<Prefix>, WireFaul
 }
 
 #[tactic(auto, unfolding(crate::specs::Forms::key_form_at))]
-fn key_form_of(alloc: Global, body: &Value) -> Result<KeyForm, WireFault>
+fn key_form_of(alloc: Global, body: &Value) -> Result<KeyForm, Failure<WireFault>>
     ensures value { Gives (λ f. f) result (key_form_at (view body.now)) }
     ensures short { IfOk result (λ f. length f.tags ≤ ASKED_TAG_LIMIT) }
 {
@@ -100,7 +100,7 @@ fn key_form_of(alloc: Global, body: &Value) -> Result<KeyForm, WireFault>
 }
 
 #[tactic(auto, unfolding(crate::specs::Forms::admit_form_at))]
-fn admit_form_of(alloc: Global, body: &Value) -> Result<AdmitForm, WireFault>
+fn admit_form_of(alloc: Global, body: &Value) -> Result<AdmitForm, Failure<WireFault>>
     ensures value { Gives (λ f. f) result (admit_form_at (view body.now)) }
 {
     let pending = needed_text(alloc, body, AdminField::Id)?;
@@ -112,7 +112,7 @@ fn admit_form_of(alloc: Global, body: &Value) -> Result<AdmitForm, WireFault>
 // null is as absent, of fields of one name the last counts, and fields of other names aren't read.
 
 /// The name of a new user: `name`, which has to be there.
-pub fn read_user_form(alloc: Global, body: &[u8]) -> Result<Text, WireFault>
+pub fn read_user_form(alloc: Global, body: &[u8]) -> Result<Text, Failure<WireFault>>
     ensures value { Gives (λ t. t) result (user_form_of_body body.now) }
 {
     let value = object_of_body(alloc, body)?;
@@ -121,7 +121,7 @@ pub fn read_user_form(alloc: Global, body: &[u8]) -> Result<Text, WireFault>
 
 /// What is asked of a new pre-auth key: the login `user`, which has to be there, `reusable` and
 /// `ephemeral`, which are false unless given, `expiry`, and up to 16 `tags`.
-pub fn read_key_form(alloc: Global, body: &[u8]) -> Result<KeyForm, WireFault>
+pub fn read_key_form(alloc: Global, body: &[u8]) -> Result<KeyForm, Failure<WireFault>>
     ensures value { Gives (λ f. f) result (key_form_of_body body.now) }
     ensures short { IfOk result (λ f. length f.tags ≤ ASKED_TAG_LIMIT) }
 {
@@ -130,7 +130,7 @@ pub fn read_key_form(alloc: Global, body: &[u8]) -> Result<KeyForm, WireFault>
 }
 
 /// The time at which a node key expires: `expiry`; None where it is absent or Go's zero time.
-pub fn read_expiry_form(alloc: Global, body: &[u8]) -> Result<Option<Moment>, WireFault>
+pub fn read_expiry_form(alloc: Global, body: &[u8]) -> Result<Option<Moment>, Failure<WireFault>>
     ensures value { Gives (λ t. t) result (expiry_form_of_body body.now) }
 {
     let value = object_of_body(alloc, body)?;
@@ -138,7 +138,7 @@ pub fn read_expiry_form(alloc: Global, body: &[u8]) -> Result<Option<Moment>, Wi
 }
 
 /// The new name of a machine: `name`, which has to be there.
-pub fn read_rename_form(alloc: Global, body: &[u8]) -> Result<Text, WireFault>
+pub fn read_rename_form(alloc: Global, body: &[u8]) -> Result<Text, Failure<WireFault>>
     ensures value { Gives (λ t. t) result (rename_form_of_body body.now) }
 {
     let value = object_of_body(alloc, body)?;
@@ -146,7 +146,7 @@ pub fn read_rename_form(alloc: Global, body: &[u8]) -> Result<Text, WireFault>
 }
 
 /// The new tags of a machine: up to 32 `tags`, which have to be there.
-pub fn read_tags_form(alloc: Global, body: &[u8]) -> Result<Items<Tag>, WireFault>
+pub fn read_tags_form(alloc: Global, body: &[u8]) -> Result<Items<Tag>, Failure<WireFault>>
     ensures value { Gives (λ tags. tags) result (tags_form_of_body body.now) }
     ensures short { IfOk result (λ tags. length tags ≤ TAG_LIMIT) }
 {
@@ -156,7 +156,7 @@ pub fn read_tags_form(alloc: Global, body: &[u8]) -> Result<Items<Tag>, WireFaul
 
 /// The routes of a machine that are approved: up to 32 `routes`, which have to be there, by family,
 /// base and length, each once.
-pub fn read_routes_form(alloc: Global, body: &[u8]) -> Result<Items<Prefix>, WireFault>
+pub fn read_routes_form(alloc: Global, body: &[u8]) -> Result<Items<Prefix>, Failure<WireFault>>
     ensures value { Gives (λ routes. routes) result (routes_form_of_body body.now) }
     ensures short { IfOk result (λ routes. length routes ≤ ROUTE_LIMIT) }
 {
@@ -166,7 +166,7 @@ pub fn read_routes_form(alloc: Global, body: &[u8]) -> Result<Items<Prefix>, Wir
 
 /// Who is admitted, and for whom: the text `id` of the pending entry and then the login `user`, which
 /// both have to be there.
-pub fn read_admit_form(alloc: Global, body: &[u8]) -> Result<AdmitForm, WireFault>
+pub fn read_admit_form(alloc: Global, body: &[u8]) -> Result<AdmitForm, Failure<WireFault>>
     ensures value { Gives (λ f. f) result (admit_form_of_body body.now) }
 {
     let value = object_of_body(alloc, body)?;
@@ -174,7 +174,7 @@ pub fn read_admit_form(alloc: Global, body: &[u8]) -> Result<AdmitForm, WireFaul
 }
 
 /// An object, of which no field is read.
-pub fn read_empty_form(alloc: Global, body: &[u8]) -> Result<(), WireFault>
+pub fn read_empty_form(alloc: Global, body: &[u8]) -> Result<(), Failure<WireFault>>
     ensures value { Gives (λ _. tt) result (empty_form_of_body body.now) }
 {
     object_of_body(alloc, body)?;

@@ -16,7 +16,7 @@ use http::StatusCode;
 use path_routes::text_of;
 use policy_asks::PolicyAsk;
 use std::alloc::Global;
-use tail_base::{Bytes, NoMemory, Text};
+use tail_base::{Bytes, Failure, NoMemory, Text};
 use tailnet_desk::Ask;
 use wire_json::WireFault;
 
@@ -166,7 +166,7 @@ fn save_policy_wants(alloc: Global, body: &[u8]) -> Result<Wanted, NoMemory>
         Some(text) => Ok(policy_ask(PolicyAsk::SavePolicy {
             text: Text::from_str(alloc, text)?,
         })),
-        None => body_answer(alloc, WireFault::NotJson),
+        None => body_answer(alloc, Failure::Fault(WireFault::NotJson)),
     }
 }
 

@@ -1,14 +1,14 @@
 //! Fixed answers.
-ghost use Rattle.std.specs.Prelude.{◌≡◌, IfOk, IsErr};
-ghost use Rattle.wire_json.specs.declared.fault.WireFault.TheVariants as faults;
+ghost use Rattle.std.specs.Prelude.{◌≡◌, IfOk};
 ghost use Rattle.desk_front.specs.Faults as spec;
+ghost use Rattle.desk_front.specs.Faults.{IsAnswerTo};
 ghost use Rattle.desk_front.specs.Wants.{IsSound};
 ghost use Rattle.desk_front.specs.declared.want.Wanted.TheVariants as wants;
 
 use crate::want::Wanted;
 use http::StatusCode;
 use std::alloc::Global;
-use tail_base::{NoMemory, Text};
+use tail_base::{Failure, NoMemory, Text};
 use wire_json::WireFault;
 
 /// The body that names a fault.
@@ -68,17 +68,18 @@ fn named_fault(alloc: Global, name: &str) -> Result<Wanted, NoMemory>
     })
 }
 
-/// The answer to a fault of a body.
-pub(crate) fn body_answer(alloc: Global, fault: WireFault) -> Result<Wanted, NoMemory>
-    ensures value { IfOk result (λ w. w ≡ spec.body_answer fault) }
-    ensures memory { fault ≡ faults.NoMemory → IsErr result }
+/// The answer to a fault of a body; out of memory has none.
+pub(crate) fn body_answer(alloc: Global, failure: Failure<WireFault>) -> Result<Wanted, NoMemory>
+    ensures value { IsAnswerTo failure result }
     ensures sound { IfOk result IsSound }
 {
-    match fault {
-        WireFault::NotJson => named_fault(alloc, "NotJson"),
-        WireFault::Compressed => named_fault(alloc, "Compressed"),
-        WireFault::Missing(field) => field_answer(alloc, "Missing", field.name()),
-        WireFault::BadField(field) => field_answer(alloc, "BadField", field.name()),
-        WireFault::NoMemory => Err(NoMemory),
+    match failure {
+        Failure::Fault(WireFault::NotJson) => named_fault(alloc, "NotJson"),
+        Failure::Fault(WireFault::Compressed) => named_fault(alloc, "Compressed"),
+        Failure::Fault(WireFault::Missing(field)) => field_answer(alloc, "Missing", field.name()),
+        Failure::Fault(WireFault::BadField(field)) => {
+            field_answer(alloc, "BadField", field.name())
+        }
+        Failure::NoMemory => Err(NoMemory),
     }
 }

@@ -1,18 +1,18 @@
 -- The fields that are read of a table keep their rules.
 use Rattle.std.proofs.Common.{◌≡◌, ℕ, ℤ, pos, negsuc, Bool, true, false, ◌&&◌, ◌≤◌, nat_le, List, [], ◌∷◌, length, Option, Some, None, option_map, cond, refl, sym, ap, ◌∙◌, arith}
-use Rattle.std.specs.Prelude.{Result, Ok, Err, codes, option_and_then, unwrap_or}
+use Rattle.std.specs.Prelude.{Ok, codes, option_and_then, unwrap_or}
 use Rattle.std.specs.List.{list_all}
 use Rattle.std.specs.Result.{result_ok}
 use Rattle.std.proofs.lemmas.Bool.{and_parts}
 use Rattle.std.proofs.lemmas.Bool.Decides.{nat_tests}
-use Rattle.toml.specs.Data.{Data, Members, as_integer, as_str, get_member}
+use Rattle.toml.specs.Data.{Members, as_integer, as_str, get_member}
 use Rattle.tail_base.specs.Steps.{or_fault}
 use Rattle.net_addr.specs.Bits.{Address, Block}
 use Rattle.net_addr.specs.PrefixTexts.{prefix_of_text}
 use Rattle.net_addr.specs.Tailnet.{tailnet_v4, tailnet_v6}
 use Rattle.settings.specs.Settings.{AreDnsSettings, AreSettings, IsFrom, is_base_domain, is_domain, is_domain_route, is_visible}
 use Rattle.settings.specs.declared.defaults.TheConstants.{CONNECTIONS_DEFAULT, EPHEMERAL_SECONDS_DEFAULT, KEY_SECONDS_DEFAULT, PENDING_SECONDS_DEFAULT, POLL_TURNS_DEFAULT, REQUESTS_DEFAULT, WORKERS_DEFAULT}
-use Rattle.settings.specs.declared.limits.TheConstants.{BASE_DOMAIN_LIMIT, COUNT_LIMIT, DNS_ROUTE_LIMIT, PREFIX_V4_LEN_LIMIT, PREFIX_V6_LEN_LIMIT, RESOLVER_LIMIT, SEARCH_LIMIT, SECONDS_LIMIT, WORKER_LIMIT}
+use Rattle.settings.specs.declared.limits.TheConstants.{COUNT_LIMIT, DNS_ROUTE_LIMIT, PREFIX_V4_LEN_LIMIT, PREFIX_V6_LEN_LIMIT, RESOLVER_LIMIT, SEARCH_LIMIT, SECONDS_LIMIT, WORKER_LIMIT}
 use Rattle.tailcfg.specs.declared.dns.DnsRoute.{DnsRoute}
 use Rattle.tail_words.specs.SettingsText.{dns_at, dns_settings_of, fields_of, number_at, number_by, prefix_at, prefix_by, required, rule_of, text_at, text_by}
 use Rattle.tail_words.specs.SettingsValues.{addresses, are_domains, before, each_address, each_route, number, number_within, passes, passing, prefix, prefix_fits, prefix_within, reading, resolvers, route, routes, routes_within, search_domains, table_texts, text, texts}
@@ -20,10 +20,9 @@ use Rattle.tail_words.specs.declared.fault.SettingsFault.{SettingsFault}
 use Rattle.tail_words.specs.declared.fault.SettingsRule.{SettingsRule}
 use Rattle.tail_words.specs.declared.fault.SettingsRule.TheVariants.{KeyRule}
 use Rattle.tail_words.specs.declared.lists.RouteTexts.{RouteTexts}
-use Rattle.tail_words.specs.declared.rule.Rule.{Rule}
 use Rattle.tail_words.specs.declared.rule.Rule.TheVariants.{Number, Prefix, Text}
 use Rattle.tail_words.specs.declared.rule.TextRule.{TextRule}
-use Rattle.tail_words.specs.declared.rule.TextRule.TheVariants.{Any, BaseDomain, Visible}
+use Rattle.tail_words.specs.declared.rule.TextRule.TheVariants.{BaseDomain, Visible}
 
 -- a value that was read is what the rule gave
 ruled : {B : Type 0} (o : Option B) (b : B) → result_ok {E = SettingsRule} (or_fault KeyRule o) ≡ Some b → o ≡ Some b

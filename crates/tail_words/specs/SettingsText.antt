@@ -1,5 +1,5 @@
 -- The settings file, a TOML document: its first fault counts.
-use Rattle.std.specs.Prelude.{◌≡◌, ℕ, Bool, true, false, List, [], ◌∷◌, ◌++◌, if◌then◌else◌, Option, Some, None, Result, Ok, Err, codes, option_and_then, unwrap_or}
+use Rattle.std.specs.Prelude.{ℕ, true, false, List, [], ◌∷◌, ◌++◌, if◌then◌else◌, Option, Some, None, Result, Ok, Err, codes, option_and_then, unwrap_or}
 use Rattle.std.specs.Result.{result_ok, result_err}
 use Rattle.std.specs.Str.{bytes_eq, is_utf8}
 use Rattle.toml.specs.Data.{Data, Members, no_members, member, as_bool, as_table, get_member}
@@ -13,33 +13,11 @@ use Rattle.settings.specs.declared.fields.SettingsFields.{SettingsFields}
 use Rattle.settings.specs.declared.limits.TheConstants.{COUNT_LIMIT, SECONDS_LIMIT, WORKER_LIMIT}
 use Rattle.tail_words.specs.SettingsValues.{number, prefix, resolvers, routes, search_domains, text}
 use Rattle.tail_words.specs.declared.fault.SettingsFault.{SettingsFault}
-use Rattle.tail_words.specs.declared.fault.SettingsFault.TheVariants.{Refused, NoMemory}
 use Rattle.tail_words.specs.declared.fault.SettingsRule.{SettingsRule}
 use Rattle.tail_words.specs.declared.fault.SettingsRule.TheVariants.{Toml, KnownKey, KeyType, KeyRule, RequiredKey}
 use Rattle.tail_words.specs.declared.rule.Rule.{Rule}
 use Rattle.tail_words.specs.declared.rule.Rule.TheVariants.{Number, Prefix, Text}
 use Rattle.tail_words.specs.declared.rule.TextRule.TheVariants.{Any, BaseDomain, Visible}
-
--- the settings that were read are those, and so is the fault, but lack of memory, which is free
-abbrev pub IsRead : Result SettingsFields SettingsFault → Result SettingsFields SettingsFault → Type 0
-IsRead (Ok s) read = read ≡ Ok s
-IsRead (Err (Refused rule key)) read = read ≡ Err (Refused rule key)
-IsRead (Err NoMemory) read = Unit {0}
-
--- a fault is that one, but lack of memory
-abbrev pub IsFault : SettingsFault → SettingsFault → Type 0
-IsFault (Refused rule key) fault = fault ≡ Refused rule key
-IsFault NoMemory fault = Unit {0}
-
--- a fault is the one that reading gives, but lack of memory
-abbrev pub Fails : {A : Type 0} → SettingsFault → Result A SettingsFault → Type 0
-Fails (Refused rule key) read = read ≡ Err (Refused rule key)
-Fails NoMemory read = Unit {0}
-
--- what a part returned is what reading gives, unless memory ran out
-abbrev pub Gives : {A B : Type 0} → (A → B) → Result A SettingsFault → Result B SettingsFault → Type 0
-Gives view (Ok x) read = read ≡ Ok (view x)
-Gives view (Err e) read = Fails e read
 
 -- the number of a rule, as it is reported
 abbrev pub rule_number : SettingsRule → ℕ
@@ -84,10 +62,14 @@ broken_in_dns key d =
     else if bytes_eq key (codes "search") then result_err (search_domains d)
     else Some KnownKey
 
+-- the fault that a rule is broken at a key
+abbrev pub broken_at : SettingsRule → List ℕ → SettingsFault
+broken_at rule key = record { rule = rule; key = key }
+
 -- no rule is broken at a key
 abbrev pub kept : List ℕ → Option SettingsRule → Result (Unit {0}) SettingsFault
 kept key None = Ok tt
-kept key (Some rule) = Err (Refused rule key)
+kept key (Some rule) = Err (broken_at rule key)
 
 -- the entries of `dns` in byte order keep their rules
 abbrev pub dns_checked : Members → Result (Unit {0}) SettingsFault
@@ -97,7 +79,7 @@ dns_checked (member key d more) = kept (codes "dns." ++ key) (broken_in_dns key 
 -- an entry keeps its rule; that of `dns` is a table whose entries do
 abbrev pub entry_checked : List ℕ → Data → Result (Unit {0}) SettingsFault
 entry_checked key d =
-    if bytes_eq key (codes "dns") then or_fault (Refused KeyType (codes "dns")) (as_table d) >>= dns_checked
+    if bytes_eq key (codes "dns") then or_fault (broken_at KeyType (codes "dns")) (as_table d) >>= dns_checked
     else kept key (broken_by (rule_of key) d)
 
 -- the entries in byte order keep their rules
@@ -108,15 +90,21 @@ checked (member key d more) = entry_checked key d >>= (λ _. checked more)
 -- the value of a rule's kind
 abbrev pub number_by : Option Rule → Data → Option ℕ
 number_by (Some (Number least greatest)) d = result_ok (number least greatest d)
-number_by _ d = None
+number_by (Some (Prefix v6)) d = None
+number_by (Some (Text rule)) d = None
+number_by None d = None
 
 abbrev pub prefix_by : Option Rule → Data → Option Block
 prefix_by (Some (Prefix v6)) d = result_ok (prefix v6 d)
-prefix_by _ d = None
+prefix_by (Some (Number least greatest)) d = None
+prefix_by (Some (Text rule)) d = None
+prefix_by None d = None
 
 abbrev pub text_by : Option Rule → Data → Option (List ℕ)
 text_by (Some (Text rule)) d = result_ok (text rule d)
-text_by _ d = None
+text_by (Some (Number least greatest)) d = None
+text_by (Some (Prefix v6)) d = None
+text_by None d = None
 
 -- the value at a key, if there is one
 abbrev pub number_at : List ℕ → Members → Option ℕ
@@ -134,7 +122,7 @@ dns_at key table = option_and_then (get_member key) (option_and_then as_table (g
 
 -- a text that has to be there
 abbrev pub required : List ℕ → Members → Result (List ℕ) SettingsFault
-required key table = or_fault (Refused RequiredKey key) (text_at key table)
+required key table = or_fault (broken_at RequiredKey key) (text_at key table)
 
 -- the DNS settings, with their defaults
 abbrev pub dns_settings_of : List ℕ → Members → DnsSettings
@@ -180,4 +168,4 @@ table_of text = if is_utf8 text then parse_document text else None
 
 -- the settings that a file gives, or its first fault
 unfoldable pub settings_of : List ℕ → Result SettingsFields SettingsFault
-settings_of text = or_fault (Refused Toml (codes "text")) (table_of text) >>= settings_at
+settings_of text = or_fault (broken_at Toml (codes "text")) (table_of text) >>= settings_at

@@ -1,5 +1,5 @@
 -- The values of settings: each is read by its type first, and then by its rule.
-use Rattle.std.specs.Prelude.{ℕ, ℤ, pos, negsuc, Bool, true, false, List, [], ◌∷◌, length, if◌then◌else◌, nat_le, ◌&&◌, Option, Some, None, Result, Ok, Err, option_and_then, option_map}
+use Rattle.std.specs.Prelude.{ℕ, ℤ, pos, negsuc, Bool, true, false, List, [], ◌∷◌, length, if◌then◌else◌, nat_le, ◌&&◌, Option, Some, None, Result, Err, option_and_then, option_map}
 use Rattle.std.specs.List.{list_all}
 use Rattle.std.specs.Result.{result_ok}
 use Rattle.tail_base.specs.Steps.{or_fault}
@@ -11,7 +11,7 @@ use Rattle.net_addr.specs.Tailnet.{tailnet_v4, tailnet_v6}
 use Rattle.settings.specs.Settings.{is_base_domain, is_domain, is_visible}
 use Rattle.settings.specs.declared.limits.TheConstants.{DNS_ROUTE_LIMIT, PREFIX_V4_LEN_LIMIT, PREFIX_V6_LEN_LIMIT, RESOLVER_LIMIT, SEARCH_LIMIT}
 use Rattle.tailcfg.specs.declared.dns.DnsRoute.{DnsRoute}
-use Rattle.toml.specs.Data.{Data, Items, no_items, item, Members, no_members, member, as_array, as_bool, as_integer, as_str, as_table}
+use Rattle.toml.specs.Data.{Data, Items, no_items, item, Members, no_members, member, as_array, as_integer, as_str, as_table}
 use Rattle.tail_words.specs.declared.lists.RouteTexts.{RouteTexts}
 use Rattle.tail_words.specs.declared.fault.SettingsRule.{SettingsRule}
 use Rattle.tail_words.specs.declared.fault.SettingsRule.TheVariants.{KeyType, KeyRule}

@@ -3,7 +3,8 @@ ghost use Rattle.std.specs.Prelude.{◌≡◌, ◌++◌, List, ℕ, [], IfOk, co
 ghost use Rattle.std.specs.Result.{result_ok};
 ghost use Rattle.toml.specs.View.{table_view, view};
 ghost use Rattle.tail_words.specs.SettingsValues.{resolvers, routes, search_domains};
-ghost use Rattle.tail_words.specs.SettingsText.{Gives, IsFault, broken_in_dns, dns_at, dns_checked, dns_settings_of};
+ghost use Rattle.tail_base.specs.Steps.{Gives};
+ghost use Rattle.tail_words.specs.SettingsText.{broken_in_dns, dns_at, dns_checked, dns_settings_of};
 
 use crate::fault::{SettingsFault, SettingsRule, refused};
 use crate::lists::{resolvers, routes, search_domains};
@@ -11,7 +12,7 @@ use crate::table::member;
 use net_addr::Addr;
 use settings::PROXIED_DEFAULT;
 use std::alloc::Global;
-use tail_base::{Duplicate, Items, NoMemory, Text};
+use tail_base::{Duplicate, Failure, Items, NoMemory, Text};
 use tailcfg::{DnsRoute, DnsSettings};
 use toml::{Table, Value};
 
@@ -36,16 +37,6 @@ fn broken_in_dns(alloc: Global, key: &str, value: &Value) -> Result<Option<Setti
     }
 }
 
-/// The fault that a rule is broken by a key of `dns`.
-fn refused_in_dns(alloc: Global, rule: SettingsRule, key: &str) -> SettingsFault
-    ensures value { IsFault result (SettingsFault.Refused rule (codes "dns." ++ key.now)) }
-{
-    match dns_name(alloc, key) {
-        Ok(name) => SettingsFault::Refused { rule, key: name },
-        Err(_) => SettingsFault::NoMemory,
-    }
-}
-
 /// The name of a key of `dns`.
 fn dns_name(alloc: Global, key: &str) -> Result<Text, NoMemory>
     ensures value { IfOk result (λ name. name ≡ codes "dns." ++ key.now) }
@@ -56,13 +47,14 @@ fn dns_name(alloc: Global, key: &str) -> Result<Text, NoMemory>
 }
 
 /// Checks the entries of `dns` in their order.
-#[tactic(auto, using(crate::proofs::FaultLemmas::fails_first))]
-pub(crate) fn check_dns(alloc: Global, table: &Table) -> Result<(), SettingsFault>
+#[tactic(auto, using(tail_base::proofs::StepLemmas::fails_first))]
+pub(crate) fn check_dns(alloc: Global, table: &Table) -> Result<(), Failure<SettingsFault>>
     ensures value { Gives (λ _. tt) result (dns_checked (table_view table.now)) }
 {
     for (key, value) in table.iter() {
         if let Some(rule) = broken_in_dns(alloc, key.as_str(), value)? {
-            return Err(refused_in_dns(alloc, rule, key.as_str()));
+            let name = dns_name(alloc, key.as_str())?;
+            return refused(alloc, rule, name.as_str());
         }
     }
     Ok(())

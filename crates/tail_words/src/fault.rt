@@ -1,9 +1,10 @@
 //! What is wrong with a settings file.
-ghost use Rattle.std.specs.Prelude.{◌≡◌};
-ghost use Rattle.tail_words.specs.SettingsText.{IsFault, rule_number};
+ghost use Rattle.std.specs.Prelude.{◌≡◌, Err};
+ghost use Rattle.tail_base.specs.Steps.{Gives};
+ghost use Rattle.tail_words.specs.SettingsText.{broken_at, rule_number};
 
-use std::alloc::{AllocError, Global};
-use tail_base::{NoMemory, Text};
+use std::alloc::Global;
+use tail_base::{Failure, Text};
 
 /// A rule of a settings file.
 #[derive(Clone, Copy, Debug, PartialEq, Eq, Drop)]
@@ -35,42 +36,23 @@ impl SettingsRule {
     }
 }
 
-/// The first fault of a settings file.
+/// The first fault of a settings file: the rule that is broken, and the key of its entry.
 #[derive(Drop)]
-pub enum SettingsFault {
-    /// A rule that is broken, and the key of its entry, which is `dns.KEY` in the table `dns`, and
-    /// `text` where the file is no TOML document.
-    Refused { rule: SettingsRule, key: Text },
-    /// Memory was refused.
-    NoMemory,
+pub struct SettingsFault {
+    /// The rule.
+    pub rule: SettingsRule,
+    /// The key, which is `dns.KEY` in the table `dns`, and `text` where the file is no TOML document.
+    pub key: Text,
 }
 
-impl From<AllocError> for SettingsFault {
-    ghost use Rattle.tail_words.specs.declared.fault.SettingsFault.TheVariants.{NoMemory};
-
-    ghost from_gives = { λ _ e. e ≡ NoMemory };
-
-    fn from(_: AllocError) -> SettingsFault {
-        SettingsFault::NoMemory
-    }
-}
-
-impl From<NoMemory> for SettingsFault {
-    ghost use Rattle.tail_words.specs.declared.fault.SettingsFault.TheVariants.{NoMemory};
-
-    ghost from_gives = { λ _ e. e ≡ NoMemory };
-
-    fn from(_: NoMemory) -> SettingsFault {
-        SettingsFault::NoMemory
-    }
-}
-
-/// The fault that a rule is broken by a key.
-pub(crate) fn refused(alloc: Global, rule: SettingsRule, key: &str) -> SettingsFault
-    ensures value { IsFault result (SettingsFault.Refused rule key.now) }
+/// The answer that a rule is broken at a key.
+pub(crate) fn refused<T>(
+    alloc: Global,
+    rule: SettingsRule,
+    key: &str,
+) -> Result<T, Failure<SettingsFault>>
+    ensures value { Gives (λ x. x) result (Err (broken_at rule key.now)) }
 {
-    match Text::from_str(alloc, key) {
-        Ok(key) => SettingsFault::Refused { rule, key },
-        Err(_) => SettingsFault::NoMemory,
-    }
+    let key = Text::from_str(alloc, key)?;
+    Err(Failure::Fault(SettingsFault { rule, key }))
 }

@@ -1,7 +1,8 @@
 //! The settings file.
 ghost use Rattle.std.specs.Prelude.{◌≡◌, IfOk, unwrap_or};
 ghost use Rattle.toml.specs.View.{table_view, view};
-ghost use Rattle.tail_words.specs.SettingsText.{Gives, IsRead, checked, entry_checked, fields_of, required, settings_at, settings_of, text_at};
+ghost use Rattle.tail_base.specs.Steps.{Gives};
+ghost use Rattle.tail_words.specs.SettingsText.{checked, entry_checked, fields_of, required, settings_at, settings_of, text_at};
 
 use crate::dns::{check_dns, dns_settings_of};
 use crate::fault::{SettingsFault, SettingsRule, refused};
@@ -14,28 +15,28 @@ use settings::{
     SettingsFields, WORKERS_DEFAULT,
 };
 use std::alloc::Global;
-use tail_base::{NoMemory, Text};
+use tail_base::{Failure, NoMemory, Text};
 use toml::{Table, Value};
 
 /// Checks an entry.
-fn check_entry(alloc: Global, key: &str, value: &Value) -> Result<(), SettingsFault>
+fn check_entry(alloc: Global, key: &str, value: &Value) -> Result<(), Failure<SettingsFault>>
     ensures value { Gives (λ _. tt) result (entry_checked key.now (view value.now)) }
 {
     if key == "dns" {
         return match value.as_table() {
             Some(table) => check_dns(alloc, table),
-            None => Err(refused(alloc, SettingsRule::KeyType, "dns")),
+            None => refused(alloc, SettingsRule::KeyType, "dns"),
         };
     }
     match broken_by(rule_of(key), value) {
-        Some(rule) => Err(refused(alloc, rule, key)),
+        Some(rule) => refused(alloc, rule, key),
         None => Ok(()),
     }
 }
 
 /// Checks the entries in their order.
-#[tactic(auto, using(crate::proofs::FaultLemmas::fails_first))]
-fn check_entries(alloc: Global, table: &Table) -> Result<(), SettingsFault>
+#[tactic(auto, using(tail_base::proofs::StepLemmas::fails_first))]
+fn check_entries(alloc: Global, table: &Table) -> Result<(), Failure<SettingsFault>>
     ensures value { Gives (λ _. tt) result (checked (table_view table.now)) }
 {
     for (key, value) in table.iter() {
@@ -45,12 +46,12 @@ fn check_entries(alloc: Global, table: &Table) -> Result<(), SettingsFault>
 }
 
 /// The text of a key that has to be there.
-fn required(alloc: Global, table: &Table, key: &str) -> Result<Text, SettingsFault>
+fn required(alloc: Global, table: &Table, key: &str) -> Result<Text, Failure<SettingsFault>>
     ensures value { Gives (λ t. t) result (required key.now (table_view table.now)) }
 {
     match text_at(table, key) {
         Some(text) => Ok(Text::from_str(alloc, text)?),
-        None => Err(refused(alloc, SettingsRule::RequiredKey, key)),
+        None => refused(alloc, SettingsRule::RequiredKey, key),
     }
 }
 
@@ -98,7 +99,7 @@ fn fields_of(
 }
 
 #[tactic(auto, unfolding(crate::specs::SettingsText::settings_at))]
-fn settings_from(alloc: Global, table: &Table) -> Result<Settings, SettingsFault>
+fn settings_from(alloc: Global, table: &Table) -> Result<Settings, Failure<SettingsFault>>
     ensures value { Gives (λ s. s) result (settings_at (table_view table.now)) }
 {
     check_entries(alloc, table)?;
@@ -127,12 +128,12 @@ fn settings_from(alloc: Global, table: &Table) -> Result<Settings, SettingsFault
 /// key is unknown, its value or an element of it has another type, or it is against the key's rule; or
 /// a key is missing, in byte order. The keys of `dns` go in its place, and are named `dns.KEY`.
 #[tactic(auto, unfolding(crate::specs::SettingsText::settings_of))]
-pub fn read_settings(alloc: Global, text: &[u8]) -> Result<Settings, SettingsFault>
-    ensures value { IsRead result (settings_of text.now) }
+pub fn read_settings(alloc: Global, text: &[u8]) -> Result<Settings, Failure<SettingsFault>>
+    ensures value { Gives (λ s. s) result (settings_of text.now) }
 {
     match toml::table_from_slice(alloc, text) {
         Ok(table) => settings_from(alloc, &table),
-        Err(error) if error.is_memory() => Err(SettingsFault::NoMemory),
-        Err(_) => Err(refused(alloc, SettingsRule::Toml, "text")),
+        Err(error) if error.is_memory() => Err(Failure::NoMemory),
+        Err(_) => refused(alloc, SettingsRule::Toml, "text"),
     }
 }

@@ -1,9 +1,8 @@
--- What the command `pipe` results in.
+-- The outcome of the command `pipe`.
 use Rattle.std.specs.Prelude.{◌≡◌, ◌<◌, ◌≤◌, ◌⊎◌, ℕ, Option, List, length, Result, Ok, Err, IfSome, IsSomeAnd}
 use Rattle.io_edge.specs.Edge.{Rose}
 use Rattle.settings.specs.declared.fields.SettingsFields.{SettingsFields}
-use Rattle.tail_words.specs.SettingsText.{settings_of}
-use Rattle.tail_words.specs.declared.fault.SettingsFault.TheVariants.{Refused}
+use Rattle.tail_words.specs.SettingsText.{broken_at, settings_of}
 use Rattle.tail_words.specs.declared.fault.SettingsRule.{SettingsRule}
 use Rattle.run_ends.specs.Lines.{Noted, is_made, ended_line}
 use Rattle.run_ends.specs.Statuses.{status_of}
@@ -25,7 +24,7 @@ IsTooLarge file = IfSome file (λ held. IsSomeAnd held (λ text. FILE_LIMIT < le
 
 -- where the file is told, it has at most 1 MiB, and this is the first rule that its settings break, at this key
 abbrev pub IsFaulty : SettingsRule → List ℕ → Option (Option (List ℕ)) → Type 0
-IsFaulty rule key file = IfSome file (λ held. IsSomeAnd held (λ text. (length text ≤ FILE_LIMIT) × (settings_of text ≡ Err (Refused rule key))))
+IsFaulty rule key file = IfSome file (λ held. IsSomeAnd held (λ text. (length text ≤ FILE_LIMIT) × (settings_of text ≡ Err (broken_at rule key))))
 
 -- this holds under the settings of the file
 abbrev pub IsUnder : Option (Option (List ℕ)) → (SettingsFields → Type 0) → Type 0

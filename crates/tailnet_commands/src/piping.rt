@@ -13,8 +13,8 @@ use row_keeper::Opener;
 use run_ends::{Ended, Status, note, status_of};
 use settings::Settings;
 use std::alloc::Global;
-use tail_base::{NoMemory, Text};
-use tail_words::{SettingsFault, read_settings};
+use tail_base::{Failure, NoMemory, Text};
+use tail_words::read_settings;
 
 /// The settings of a file.
 pub fn settings_file<F: Files>(alloc: Global, files: &mut F, name: &str) -> Result<Settings, Ended>
@@ -29,8 +29,11 @@ pub fn settings_file<F: Files>(alloc: Global, files: &mut F, name: &str) -> Resu
     };
     match read_settings(alloc, &text) {
         Ok(settings) => Ok(settings),
-        Err(SettingsFault::Refused { rule, key }) => Err(Ended::Settings { rule, key }),
-        Err(SettingsFault::NoMemory) => Err(Ended::NoMemory),
+        Err(Failure::Fault(fault)) => Err(Ended::Settings {
+            rule: fault.rule,
+            key: fault.key,
+        }),
+        Err(Failure::NoMemory) => Err(Ended::NoMemory),
     }
 }
 

@@ -1,13 +1,13 @@
 //! Bodies of requests that a conversation's text can't hold, and copies of those that it can.
 use std::alloc::Global;
 use std::test::Fail;
-use tail_base::{Duplicate, NoMemory};
+use tail_base::{Duplicate, Failure, NoMemory};
 use wire_json::{WireFault, read_map_request};
 
 #[test]
 fn bodies_that_are_not_utf8(rt: HostRuntime) {
     let fault = read_map_request(rt.alloc(), b"{\"a\":\"\xff\"}").err();
-    assert_eq!(rt; fault, Some(WireFault::NotJson));
+    assert_eq!(rt; fault, Some(Failure::Fault(WireFault::NotJson)));
 }
 
 /// A map request with what a machine tells of itself.

@@ -2,14 +2,15 @@
 use settings::SettingsFields;
 use std::alloc::Global;
 use std::test::Fail;
+use tail_base::Failure;
 use tail_words::{SettingsFault, read_settings};
 use tailcfg::DnsSettings;
 
 /// Whether the fault is that of this rule at this key.
-fn is_fault(fault: &SettingsFault, rule: u8, key: &str) -> bool {
-    match fault {
-        SettingsFault::Refused { rule: r, key: k } => r.number() == rule && k.as_str() == key,
-        SettingsFault::NoMemory => false,
+fn is_fault(failure: &Failure<SettingsFault>, rule: u8, key: &str) -> bool {
+    match failure {
+        Failure::Fault(fault) => fault.rule.number() == rule && fault.key.as_str() == key,
+        Failure::NoMemory => false,
     }
 }
 

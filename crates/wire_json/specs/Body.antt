@@ -1,5 +1,5 @@
 -- Bodies as functions of the value that their JSON text has: the first fault counts.
-use Rattle.std.specs.Prelude.{◌≡◌, ℕ, List, if◌then◌else◌, Option, Some, None, Result, Ok, Err, option_and_then, is_some}
+use Rattle.std.specs.Prelude.{ℕ, List, if◌then◌else◌, Option, Some, None, Result, Ok, Err, option_and_then, is_some}
 use Rattle.std.specs.Str.{is_utf8}
 use Rattle.serde_json.specs.Data.{Data}
 use Rattle.serde_json.specs.Read.{read}
@@ -9,19 +9,6 @@ use Rattle.wire_json.specs.Fields.{field_name}
 use Rattle.wire_json.specs.declared.field.Field.{Field}
 use Rattle.wire_json.specs.declared.fault.WireFault.{WireFault}
 use Rattle.wire_json.specs.declared.fault.WireFault.TheVariants as fault
-
--- a fault is the one that reading gives, but refused memory, which is free
-abbrev pub Fails : {Y : Type 0} → WireFault → Result Y WireFault → Type 0
-Fails fault.NoMemory read = Unit {0}
-Fails fault.NotJson read = read ≡ Err fault.NotJson
-Fails fault.Compressed read = read ≡ Err fault.Compressed
-Fails (fault.Missing f) read = read ≡ Err (fault.Missing f)
-Fails (fault.BadField f) read = read ≡ Err (fault.BadField f)
-
--- what a call returned, seen by view, is what reading gives, unless memory ran out
-abbrev pub Gives : {X Y : Type 0} → (X → Y) → Result X WireFault → Result Y WireFault → Type 0
-Gives view (Ok x) read = read ≡ Ok (view x)
-Gives view (Err e) read = Fails e read
 
 -- `null` is as absent
 abbrev pub unless_null : Data → Option Data

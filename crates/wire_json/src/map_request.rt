@@ -1,7 +1,7 @@
 //! Map requests, read.
 ghost use Rattle.std.specs.Prelude.{option_map, IfOk, IfSome};
 ghost use Rattle.serde_json.specs.View.{view};
-ghost use Rattle.wire_json.specs.Body.{Gives};
+ghost use Rattle.tail_base.specs.Steps.{Gives};
 ghost use Rattle.wire_json.specs.MapRequest.{derp_of, host_at, map_ask_at, map_ask_of_body, some_host, uncompressed, update_at};
 ghost use Rattle.tailcfg.specs.Short.{IsShortHost, IsShortUpdate};
 
@@ -13,11 +13,11 @@ use crate::spelled::list_of;
 use net_addr::{Prefix, sorted_routes};
 use serde_json::Value;
 use std::alloc::Global;
-use tail_base::Items;
+use tail_base::{Failure, Items};
 use tailcfg::{ENDPOINT_LIMIT, HOST_LIMIT, HostUpdate, MapAsk, REGION_LIMIT, ROUTE_LIMIT, Update};
 
 /// Refuses a compression, unless it has the empty name.
-fn uncompressed(value: Option<&Value>) -> Result<(), WireFault>
+fn uncompressed(value: Option<&Value>) -> Result<(), Failure<WireFault>>
     ensures value { Gives (λ _. tt) result
         (uncompressed (option_map (λ v. view v.now) value.entry)) }
 {
@@ -26,12 +26,12 @@ fn uncompressed(value: Option<&Value>) -> Result<(), WireFault>
     };
     match value.as_str() {
         Some(name) if name.len() == 0 => Ok(()),
-        _ => Err(WireFault::Compressed),
+        _ => Err(Failure::Fault(WireFault::Compressed)),
     }
 }
 
 /// The DERP region, where the machine tells of its network.
-fn derp_of(net: Option<&Value>) -> Result<Option<u32>, WireFault>
+fn derp_of(net: Option<&Value>) -> Result<Option<u32>, Failure<WireFault>>
     ensures value { Gives (λ d. d) result (derp_of (option_map (λ v. view v.now) net.entry)) }
 {
     if net.is_none() {
@@ -42,7 +42,7 @@ fn derp_of(net: Option<&Value>) -> Result<Option<u32>, WireFault>
 }
 
 #[tactic(auto, unfolding(crate::specs::MapRequest::host_at))]
-fn host_of(alloc: Global, info: &Value) -> Result<HostUpdate, WireFault>
+fn host_of(alloc: Global, info: &Value) -> Result<HostUpdate, Failure<WireFault>>
     ensures value { Gives (λ h. h) result (host_at (view info.now)) }
     ensures short { IfOk result IsShortHost }
 {
@@ -57,7 +57,7 @@ fn host_of(alloc: Global, info: &Value) -> Result<HostUpdate, WireFault>
     })
 }
 
-fn some_host(alloc: Global, info: Option<&Value>) -> Result<Option<HostUpdate>, WireFault>
+fn some_host(alloc: Global, info: Option<&Value>) -> Result<Option<HostUpdate>, Failure<WireFault>>
     ensures value { Gives (λ h. h) result (some_host (option_map (λ v. view v.now) info.entry)) }
     ensures short { IfOk result (λ host. IfSome host IsShortHost) }
 {
@@ -68,7 +68,7 @@ fn some_host(alloc: Global, info: Option<&Value>) -> Result<Option<HostUpdate>, 
 }
 
 #[tactic(auto, unfolding(crate::specs::MapRequest::update_at))]
-fn update_of(alloc: Global, body: &Value) -> Result<Update, WireFault>
+fn update_of(alloc: Global, body: &Value) -> Result<Update, Failure<WireFault>>
     ensures value { Gives (λ u. u) result (update_at (view body.now)) }
     ensures short { IfOk result IsShortUpdate }
 {
@@ -83,7 +83,7 @@ fn update_of(alloc: Global, body: &Value) -> Result<Update, WireFault>
 }
 
 #[tactic(auto, unfolding(crate::specs::MapRequest::map_ask_at))]
-fn map_ask_of(alloc: Global, body: &Value) -> Result<MapAsk, WireFault>
+fn map_ask_of(alloc: Global, body: &Value) -> Result<MapAsk, Failure<WireFault>>
     ensures value { Gives (λ a. a) result (map_ask_at (view body.now)) }
     ensures short { IfOk result (λ m. IsShortUpdate m.update) }
 {
@@ -109,7 +109,7 @@ fn map_ask_of(alloc: Global, body: &Value) -> Result<MapAsk, WireFault>
 /// answers, and then the fields in the order `NodeKey`, `Stream`, `OmitPeers`, `ReadOnly`,
 /// `MapSessionHandle`, `MapSessionSeq`, `Endpoints`, `DiscoKey`, and `Hostinfo` with `Hostname`,
 /// `NetInfo` with `PreferredDERP`, and `RoutableIPs`. Fields of other names aren't read.
-pub fn read_map_request(alloc: Global, body: &[u8]) -> Result<MapAsk, WireFault>
+pub fn read_map_request(alloc: Global, body: &[u8]) -> Result<MapAsk, Failure<WireFault>>
     ensures value { Gives (λ a. a) result (map_ask_of_body body.now) }
     ensures short { IfOk result (λ m. IsShortUpdate m.update) }
 {

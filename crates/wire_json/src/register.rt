@@ -1,7 +1,7 @@
 //! Registrations, read.
 ghost use Rattle.std.specs.Prelude.{IfOk};
 ghost use Rattle.serde_json.specs.View.{view};
-ghost use Rattle.wire_json.specs.Body.{Gives};
+ghost use Rattle.tail_base.specs.Steps.{Gives};
 ghost use Rattle.wire_json.specs.Register.{register_at, register_of_body};
 ghost use Rattle.tailcfg.specs.Short.{IsShortForm};
 
@@ -15,11 +15,11 @@ use crate::spelled::list_of;
 use net_addr::{Prefix, sorted_routes};
 use serde_json::Value;
 use std::alloc::Global;
-use tail_base::{Items, Text};
+use tail_base::{Failure, Items, Text};
 use tailcfg::{ASKED_TAG_LIMIT, HOST_LIMIT, ROUTE_LIMIT, Register};
 
 #[tactic(auto, unfolding(crate::specs::Register::register_at))]
-fn register_of(alloc: Global, body: &Value) -> Result<Register, WireFault>
+fn register_of(alloc: Global, body: &Value) -> Result<Register, Failure<WireFault>>
     ensures value { Gives (λ r. r) result (register_at (view body.now)) }
     ensures short { IfOk result IsShortForm }
 {
@@ -48,7 +48,7 @@ fn register_of(alloc: Global, body: &Value) -> Result<Register, WireFault>
 /// The registration that a body is, or its first fault: it is no JSON object, and then the fields in
 /// the order `NodeKey`, `OldNodeKey`, `Auth` with `AuthKey`, `Expiry`, `Ephemeral`, and `Hostinfo`
 /// with `Hostname`, `RoutableIPs` and `RequestTags`. Fields of other names aren't read.
-pub fn read_register(alloc: Global, body: &[u8]) -> Result<Register, WireFault>
+pub fn read_register(alloc: Global, body: &[u8]) -> Result<Register, Failure<WireFault>>
     ensures value { Gives (λ r. r) result (register_of_body body.now) }
     ensures short { IfOk result IsShortForm }
 {

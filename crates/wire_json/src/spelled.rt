@@ -5,8 +5,7 @@ ghost use Rattle.serde_json.specs.Find.{as_str};
 ghost use Rattle.serde_json.specs.View.{view, items_view};
 ghost use Rattle.net_addr.specs.EndpointTexts.{endpoint_of_text};
 ghost use Rattle.tail_base.specs.Tags.{tag_of};
-ghost use Rattle.tail_base.specs.Steps.{or_fault};
-ghost use Rattle.wire_json.specs.Body.{Gives};
+ghost use Rattle.tail_base.specs.Steps.{Gives, or_fault};
 ghost use Rattle.wire_json.specs.Readers.{all_spelled, optional, short_array, short_list};
 ghost use Rattle.wire_json.specs.Register.{prefix_spelled};
 ghost use Rattle.wire_json.specs.declared.fault.WireFault.TheVariants.{BadField};
@@ -17,7 +16,7 @@ use crate::field::Field;
 use net_addr::{Endpoint, Prefix};
 use serde_json::Value;
 use std::alloc::Global;
-use tail_base::{Items, NoMemory, Tag};
+use tail_base::{Failure, Items, NoMemory, Tag};
 
 /// What a text spells.
 pub trait Spelled: Drop + Sized {
@@ -53,21 +52,25 @@ impl Spelled for Tag {
 }
 
 /// The element that a value of a list is.
-fn element_of<T: Spelled>(alloc: Global, field: Field, value: &Value) -> Result<T, WireFault>
+fn element_of<T: Spelled>(
+    alloc: Global,
+    field: Field,
+    value: &Value,
+) -> Result<T, Failure<WireFault>>
     ensures value { Gives (λ x. x) result
         (or_fault (BadField field) (option_and_then T.spelled (as_str (view value.now)))) }
 {
     let Some(text) = value.as_str() else {
-        return Err(WireFault::BadField(field));
+        return Err(Failure::Fault(WireFault::BadField(field)));
     };
-    T::read_text(alloc, text.as_bytes())?.ok_or(WireFault::BadField(field))
+    T::read_text(alloc, text.as_bytes())?.ok_or(Failure::Fault(WireFault::BadField(field)))
 }
 
 fn elements_of<T: Spelled>(
     alloc: Global,
     field: Field,
     values: &[Value],
-) -> Result<Items<T>, WireFault>
+) -> Result<Items<T>, Failure<WireFault>>
     ensures value { Gives (λ made. made) result
         (or_fault (BadField field) (all_spelled T.spelled (items_view values.now))) }
     ensures count { IfOk result (λ made. length made ≡ length values.now) }
@@ -100,7 +103,7 @@ pub fn list_of<T: Spelled>(
     object: Option<&Value>,
     field: Field,
     limit: usize,
-) -> Result<Items<T>, WireFault>
+) -> Result<Items<T>, Failure<WireFault>>
     ensures value { Gives (λ xs. xs) result (optional field [] (short_list limit T.spelled)
         (option_map (λ v. view v.now) object.entry)) }
     ensures short { IfOk result (λ xs. length xs ≤ limit) }
@@ -110,6 +113,6 @@ pub fn list_of<T: Spelled>(
     };
     match short_array(value, limit) {
         Some(values) => elements_of(alloc, field, values),
-        None => Err(WireFault::BadField(field)),
+        None => Err(Failure::Fault(WireFault::BadField(field))),
     }
 }
