@@ -175,7 +175,12 @@ fn is_test_end(text: &[u8], selector: &Selector) -> bool
 {
     match selector {
         Selector::Net(net) => is_one_address(net) && !has_slash(text),
-        other => is_approver(other),
+        Selector::User(_) | Selector::Group(_) | Selector::Tagged(_) => true,
+        Selector::All
+        | Selector::Member
+        | Selector::AllTagged
+        | Selector::Internet
+        | Selector::OwnDevices => false,
     }
 }
 

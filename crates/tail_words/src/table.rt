@@ -37,7 +37,7 @@ pub(crate) fn number_at(table: &Table, key: &str) -> Option<u32>
     let value = member(table, key)?;
     match rule_of(key) {
         Some(Rule::Number { least, greatest }) => number(value, least, greatest).ok(),
-        _ => None,
+        Some(Rule::Prefix { .. } | Rule::Text(_)) | None => None,
     }
 }
 
@@ -48,7 +48,7 @@ pub(crate) fn prefix_at(table: &Table, key: &str) -> Option<Prefix>
     let value = member(table, key)?;
     match rule_of(key) {
         Some(Rule::Prefix { v6 }) => prefix(value, v6).ok(),
-        _ => None,
+        Some(Rule::Number { .. } | Rule::Text(_)) | None => None,
     }
 }
 
@@ -59,6 +59,6 @@ pub(crate) fn text_at<'a>(table: &'a Table, key: &str) -> Option<&'a str>
     let value = member(table, key)?;
     match rule_of(key) {
         Some(Rule::Text(rule)) => text(value, rule),
-        _ => None,
+        Some(Rule::Number { .. } | Rule::Prefix { .. }) | None => None,
     }
 }
