@@ -133,6 +133,10 @@ pub fn tested(
     ensures value { Gives (λ t. t) result
         (tested policy.now (sites_of (Some policy.now) tables.now.rows live.now)) }
 {
+    // The policy's rules are expanded for its tests alone, which takes as long as reading it.
+    if policy.tests.is_empty() {
+        return Ok(());
+    }
     match first_failure(alloc, policy, tables, live)? {
         Some(failure) => {
             let place = place_of(alloc, failure)?;
