@@ -1,4 +1,4 @@
--- What an operator's ask results in.
+-- The outcome of an operator's ask.
 use Rattle.std.specs.Prelude.{ℕ, List, Option, Result}
 use Rattle.desk_state.specs.State.{State}
 use Rattle.desk_state.specs.declared.decision.Decision.{Decision}

@@ -16,7 +16,7 @@ use desk_state::{Decision, Refusal, Snapshot};
 use std::alloc::Global;
 use tail_base::Failure;
 
-/// What an operator's ask results in, at the moment of the state. The words are for the text of a
+/// The outcome of an operator's ask, at the moment of the state. The words are for the text of a
 /// new pre-auth key.
 pub fn decide(
     alloc: Global,

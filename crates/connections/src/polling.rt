@@ -199,7 +199,7 @@ fn send_frames<T: Turns, O: Sink, C: Clock, P: Pause>(
     }
 }
 
-/// Answers what the first drain resulted in, but for what ends the answer.
+/// Answers with the outcome of the first drain, but for what ends the answer.
 fn answer_drain<T: Turns, O: Sink, C: Clock, P: Pause>(
     alloc: Global,
     front: &Front,

@@ -130,7 +130,7 @@ pub(crate) fn send_first<O: Sink>(
     }
 }
 
-/// Writes what a further drain resulted in, and says whether another may follow.
+/// Writes the outcome of a further drain, and says whether another may follow.
 pub(crate) fn send_drained<O: Sink>(
     alloc: Global,
     texts: &mut NodeTexts,
@@ -154,7 +154,7 @@ pub(crate) fn send_drained<O: Sink>(
     }
 }
 
-/// What ends the answer to a poll, by what its first drain resulted in.
+/// What ends the answer to a poll, by the outcome of its first drain.
 fn ending_of(drained: &Drained) -> &'static [u8]
     ensures value { result.now ≡ stream_ending (drain_reply drained.now) }
 {

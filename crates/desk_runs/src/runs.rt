@@ -7,7 +7,7 @@ use settings::Settings;
 use std::alloc::Global;
 use tailnet_desk::{Desk, OpenFault};
 
-/// What a run resulted in.
+/// The outcome of a run.
 #[derive(Clone, Copy, Debug, PartialEq, Eq, Drop)]
 pub enum Ending {
     /// The database or its tables didn't open, so that nothing was asked.
@@ -21,7 +21,7 @@ pub enum Ending {
     Broken,
 }
 
-/// What a run found and what it resulted in.
+/// What a run found, and its outcome.
 #[derive(Drop)]
 pub struct DeskRun {
     /// The tables that its desk began with, as a text.
@@ -39,7 +39,7 @@ impl DeskRun {
     }
 }
 
-/// What a desk resulted in that did so many of these asks.
+/// The outcome of a desk that did so many of these asks.
 fn ending_of_asks(done: Option<usize>, asks: &str) -> Ending {
     match done {
         Some(done) if done < asks.lines().count() => Ending::Stopped(done),

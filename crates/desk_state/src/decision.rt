@@ -1,4 +1,4 @@
-//! What an ask results in, before anything is kept.
+//! The outcome of an ask, before anything is kept.
 ghost use Rattle.std.specs.Prelude.{◌≡◌};
 ghost use Rattle.desk_state.specs.Decisions.{answered, changing, only};
 
@@ -7,7 +7,7 @@ use policy_rows::Policy;
 use std::alloc::Global;
 use tail_base::Items;
 
-/// What an ask that isn't refused results in: a change of rows or none, the policy that it puts in
+/// The outcome of an ask that isn't refused: a change of rows or none, the policy that it puts in
 /// force, the machines that it touches, also if no row changes, and the answer.
 #[derive(Drop)]
 pub struct Decision<A> {

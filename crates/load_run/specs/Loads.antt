@@ -1,4 +1,4 @@
--- What the command `load` results in.
+-- The outcome of the command `load`.
 use Rattle.std.specs.Prelude.{◌≡◌, ℕ, ℤ, pos, ◌+◌, Bool, true, false, Option, None, Some, List, [], ◌∷◌, ◌++◌, codes, if◌then◌else◌}
 use Rattle.moments.specs.Moments.{clamped}
 use Rattle.net_rows.specs.Rows.{empty_rows}

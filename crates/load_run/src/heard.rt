@@ -76,7 +76,7 @@ impl Heard {
         }
     }
 
-    /// What a drain resulted in.
+    /// The outcome of a drain.
     pub(crate) fn hear_drained(&mut self, drained: &Drained)
         ensures heard { IsHeard self.old (drain_reply drained.now) self.new }
     {

@@ -1,4 +1,4 @@
--- What a machine's ask results in.
+-- The outcome of a machine's ask.
 use Rattle.std.specs.Prelude.{ℕ, Bool, false, List, Option, Result, length, ◌==◌}
 use Rattle.desk_state.specs.State.{State}
 use Rattle.desk_state.specs.declared.decision.Decision.{Decision}
@@ -16,7 +16,7 @@ draws (ask.Register machine form) = length form.auth == 0
 draws (ask.Update machine node told) = false
 draws (ask.OneMap machine node told) = false
 
--- what the ask results in, in a state that is at its moment, with the random words that were drawn
+-- the outcome of the ask, in a state that is at its moment, with the random words that were drawn
 abbrev pub decision : State → MachineAsk → Option (List ℕ) → Result (Decision MachineAnswer) Refusal
 decision s (ask.Register machine form) words = register s machine form words
 decision s (ask.Update machine node told) words = update s machine node told

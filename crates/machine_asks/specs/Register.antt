@@ -1,4 +1,4 @@
--- What the registration of a machine results in: its steps in their order.
+-- The outcome of the registration of a machine: its steps in their order.
 use Rattle.std.specs.Prelude.{ℕ, List, Bool, false, Option, Some, None, Result, Ok, Err, length, nat_lt, ◌&&◌, if◌then◌else◌}
 use Rattle.std.specs.Str.{bytes_eq}
 use Rattle.tail_base.specs.declared.key.MachineKey.{MachineKey}

@@ -45,7 +45,7 @@ seed_change rows text = record {
   next = record rows.next { user = rows.next.user + 1; key = rows.next.key + 1 };
 }
 
--- what a seed with this text results in
+-- the outcome of a seed with this text
 abbrev pub seed : State → List ℕ → Result (Decision (Unit {0})) Refusal
 seed s text =
     if is_past_seed s.rows text then Ok (only tt)

@@ -1,4 +1,4 @@
-//! What a machine's ask results in.
+//! The outcome of a machine's ask.
 ghost use Rattle.std.specs.Prelude.{◌≡◌};
 ghost use Rattle.tail_base.specs.Steps.{Gives};
 ghost use Rattle.machine_asks.specs.Decision as spec;
@@ -22,7 +22,7 @@ pub fn draws(ask: &MachineAsk) -> bool
     }
 }
 
-/// What a machine's ask results in, with the random words that were drawn for it.
+/// The outcome of a machine's ask, with the random words that were drawn for it.
 pub fn decide(
     alloc: Global,
     at: &Snapshot<'_>,

@@ -12,7 +12,7 @@ use desk_state::{Attachment, Refusal, Scarce, Session, Snapshot, session_handle}
 use std::alloc::Global;
 use tail_base::{Duplicate, Failure, MachineKey, NoMemory, NodeKey, Text};
 
-/// What an attach that isn't refused results in.
+/// The outcome of an attach that isn't refused.
 #[derive(Drop)]
 pub struct AttachDecision {
     /// The id of the machine. From now on it is online, and its session attached.
@@ -189,7 +189,7 @@ fn attach_to(
     }
 }
 
-/// What a poll's attach results in. The machine has to be one with these keys, and live. Its session goes
+/// The outcome of a poll's attach. The machine has to be one with these keys, and live. Its session goes
 /// on if no poll holds it and the client names its handle and its last number; else a new one begins,
 /// whose handle has the next number and the first of the words.
 pub fn attach(

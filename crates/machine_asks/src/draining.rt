@@ -19,7 +19,7 @@ use std::alloc::Global;
 use tail_base::{Duplicate, Items, MachineKey, NoMemory, Text};
 use tailcfg::Response;
 
-/// What a drain of a session that hasn't ended results in.
+/// The outcome of a drain of a session that hasn't ended.
 #[derive(Drop)]
 pub struct DrainDecision {
     /// The session as it is from now on.
@@ -152,7 +152,7 @@ fn drain_due(
     drain_session(alloc, at, handle, row, session)
 }
 
-/// What a poll's drain results in; None if its session has ended: the machine isn't live, or its session
+/// The outcome of a poll's drain; None if its session has ended: the machine isn't live, or its session
 /// isn't attached under this handle, or no number is left for a response.
 pub fn drain(
     alloc: Global,

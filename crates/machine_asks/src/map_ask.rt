@@ -190,7 +190,7 @@ fn map_decision(
     }
 }
 
-/// What a machine's ask for its map results in: the whole map, computed afresh, after what it tells
+/// The outcome of a machine's ask for its map: the whole map, computed afresh, after what it tells
 /// of itself. The machine has to be one with these keys, and live.
 pub fn one_map(
     alloc: Global,

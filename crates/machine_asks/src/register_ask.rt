@@ -1,4 +1,4 @@
-//! What the registration of a machine results in: its steps in their order.
+//! The outcome of the registration of a machine: its steps in their order.
 ghost use Rattle.std.specs.Prelude.{◌≡◌, IfOk};
 ghost use Rattle.std.specs.Option.{option_copied};
 ghost use Rattle.tail_base.specs.Steps.{Gives};
@@ -35,7 +35,7 @@ fn registered_again(
     Ok(Decision::only(alloc, answer))
 }
 
-/// What the registration of a machine results in: the first of six rules that fits decides.
+/// The outcome of the registration of a machine: the first of six rules that fits decides.
 ///
 /// An expiry that has passed logs the machine out. A live machine that has this node key already is
 /// registered as it stands. Else the node key has to be no other machine's, and the machine enters

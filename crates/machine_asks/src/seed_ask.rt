@@ -63,7 +63,7 @@ fn seed_change(alloc: Global, tables: &Tables, text: &Text) -> Result<Change, No
     })
 }
 
-/// What a seed results in: in tables without users a user `seed@` and a reusable key of that user
+/// The outcome of a seed: in tables without users a user `seed@` and a reusable key of that user
 /// with this text. In other tables, and with a text that begins as the server's own keys do
 /// (`tnkey-`), it changes nothing.
 pub fn seed(alloc: Global, at: &Snapshot<'_>, text: &Text) -> Result<Decision<()>, Failure<Refusal>>

@@ -1,4 +1,4 @@
--- What writes and reads of a link result in.
+-- The outcome of writes and reads of a link.
 use Rattle.std.proofs.Common.{◌≡◌, ◌≤◌, ℕ, Bool, true, false, Option, List, [], ◌++◌, Result, Ok, Err, refl, sym, ap, ◌∙◌, subst, inr, inl, arith}
 use Rattle.run_ends.specs.Pieces.{Wrote}
 use Rattle.run_ends.proofs.Writes.{wrote_more}

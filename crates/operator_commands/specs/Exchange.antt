@@ -35,7 +35,7 @@ pub record Unmet (old new : LinkTold) : Type 0 where
   pub left : new.left ≡ old.left
   pub holds : new.holds ≡ old.holds
 
--- what a connect results in
+-- the outcome of a connect
 abbrev pub IsConnected : List ℕ → LinkTold → LinkTold → Result (Unit {0}) Unanswered → Type 0
 IsConnected address old new (Ok done) = Met address old new
 IsConnected address old new (Err fault.ReadFault) = Met address old new × Rose old.read_faults new.read_faults
@@ -51,7 +51,7 @@ pub record RequestWritten (bytes : List ℕ) (failed : Bool) (old new : LinkTold
   pub read_faults : new.read_faults ≡ old.read_faults
   pub wrote : Wrote old.holds new.holds old.write_faults new.write_faults bytes failed
 
--- what writing a request results in
+-- the outcome of writing a request
 abbrev pub IsRequestSent : List ℕ → LinkTold → LinkTold → Result (Unit {0}) Unanswered → Type 0
 IsRequestSent bytes old new (Ok done) = RequestWritten bytes false old new
 IsRequestSent bytes old new (Err fault.WriteFault) = RequestWritten bytes true old new
@@ -73,7 +73,7 @@ pub record ReadNone (left left_after : Option (List ℕ)) : Type 0 where
   pub moved : left ≡ and_then_left read left_after
   pub none : (IsPartOfAnswer read × IsWhereTold [] left_after) ⊎ IsBadAnswer read
 
--- what reading an answer results in
+-- the outcome of reading an answer
 abbrev pub IsAnswerRead : Option (List ℕ) → Option (List ℕ) → ℕ → ℕ → Result ServerAnswer Unanswered → Type 0
 IsAnswerRead left left_after faults faults_after (Ok answer) = ReadWhole left left_after answer
 IsAnswerRead left left_after faults faults_after (Err fault.ReadFault) = Rose faults faults_after ⊎ ReadNone left left_after

@@ -1,4 +1,4 @@
--- What an answer is told as, and what a command results in.
+-- What an answer is told as, and the outcome of a command.
 use Rattle.std.specs.Prelude.{◌≡◌, ◌⊎◌, ℕ, Bool, false, true, Option, List, [], ◌∷◌, ◌++◌, codes, if◌then◌else◌, nat_le, ◌&&◌, Result, Ok, Err}
 use Rattle.command_words.specs.declared.invocation.OperatorCall.{OperatorCall}
 use Rattle.http_client.specs.declared.answer.ServerAnswer.{ServerAnswer}

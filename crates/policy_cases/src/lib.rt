@@ -1,4 +1,4 @@
-//! Tests of what reads policies: tables of texts, and what they result in. They stand here since a crate
+//! Tests of what reads policies: tables of texts, and what is read from them. They stand here since a crate
 //! with tests is proved twice.
 #![tactic(auto)]
 

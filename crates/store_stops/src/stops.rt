@@ -150,7 +150,7 @@ fn ending_of(
 /// More calls than a run makes.
 const MANY: u64 = 10_000;
 
-/// What the runs result in that stop at the first call of a disk, at the second and so on, until one
+/// The outcomes of the runs that stop at the first call of a disk, at the second and so on, until one
 /// runs to its end.
 fn endings_until(
     alloc: Global,
@@ -169,7 +169,7 @@ fn endings_until(
     Err(Fail::from("each run stops"))
 }
 
-/// What all runs result in of which a disk stops, one call later each time.
+/// The outcomes of all runs in which a disk stops, one call later each time.
 pub(crate) fn endings(alloc: Global, stopping: Stopping) -> Result<Vec<Ending>, Fail> {
     let front = front_of(alloc)?;
     let texts = texts_in_memory(alloc, &front)?;

@@ -21,7 +21,7 @@ unopened fault.NoMemory e settings old new is kept asked rose damaged = rw is (k
 abbrev pub opener_in : Outside → OpenerTold
 opener_in o = record { rows = o.rows; asked = o.asked; faults = o.keeper_faults }
 
--- and nothing else was touched: what a run results in
+-- and nothing else was touched: the outcome of a run
 pub unopened_ran : (e : Ended) (settings : SettingsFields) (seed : Option (List ℕ)) (old new : Outside) → IsDeskFault e settings (opener_in old) (opener_in new) → (KeepsRows (opener_in old) (opener_in new) → Untouched old new) → Ran e settings seed old new
 unopened_ran ended.KeeperFault settings seed old new (kept, asked, rose) quiet = (quiet kept, asked, rose)
 unopened_ran (ended.Damaged kind id) settings seed old new (kept, asked, is) quiet = (quiet kept, asked, is)

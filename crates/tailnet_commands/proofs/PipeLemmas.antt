@@ -1,4 +1,4 @@
--- What the command `pipe` results in.
+-- The outcome of the command `pipe`.
 use Rattle.std.proofs.Common.{ℕ, Option, None, Some, List, IfSome, inl, inr, refl}
 use Rattle.io_edge.specs.Edge.{IsWhereTold}
 use Rattle.net_rows.specs.declared.rows.Rows.{Rows}

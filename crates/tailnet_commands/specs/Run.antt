@@ -83,7 +83,7 @@ pub record Conversation (closed : Closed) (settings : SettingsFields) (seed : Op
   pub final_rows : IsWhereTold final.state.rows new.rows
   pub rose : RoseBy final.keeping.faults old.keeper_faults new.keeper_faults
 
--- What a run over settings results in: a connection, or a fault before anything was read.
+-- The outcome of a run over settings: a connection, or a fault before anything was read.
 abbrev pub Ran : Ended → SettingsFields → Option (List ℕ) → Outside → Outside → Type 0
 Ran (ended.Closed closed) settings seed old new = Conversation closed settings seed old new
 Ran (ended.Settings rule key) settings seed old new = ⊥

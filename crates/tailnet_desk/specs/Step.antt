@@ -32,7 +32,7 @@ use Rattle.tailnet_desk.specs.declared.reply.Drained.TheVariants as drained
 use Rattle.tailnet_desk.specs.declared.reply.Loss.TheVariants.{NoMemory}
 use Rattle.tailnet_desk.specs.declared.reply.Reply.TheVariants.{Done, Attached, Frames, Ended, Detached, Refused, Lost}
 
--- what an ask results in, in a state that is at its moment, with the random words that were drawn
+-- the outcome of an ask, in a state that is at its moment, with the random words that were drawn
 abbrev pub decision : State → Ask → Option (List ℕ) → Result (Decision Answer) Refusal
 decision s (ask.Seed text) words = seed s text >>= λ d. Ok (answered (λ nothing. answer.Seeded) d)
 decision s (ask.Machine x) words = machine.decision s x words >>= λ d. Ok (answered answer.Machine d)
@@ -97,13 +97,13 @@ moment_of (event.Attach mk node handle seq moment words) = moment
 moment_of (event.Drain mk handle moment) = moment
 moment_of (event.Detach mk handle moment) = moment
 
--- what an event results in, in a state that is at its moment
+-- the outcome of an event, in a state that is at its moment
 abbrev pub turn_of : State → Event → Turn
 turn_of s (event.Ask x moment words) = outcome s (decision s x words)
 turn_of s (event.Attach mk node handle seq moment words) = attach_turn s (attach s mk node handle seq words)
 turn_of s (event.Drain mk handle moment) = drain_turn s (drain s mk handle)
 turn_of s (event.Detach mk handle moment) = detach_turn s (detach s mk handle)
 
--- what an event results in: first its moment comes
+-- the outcome of an event: first its moment comes
 abbrev pub step : State → Event → Turn
 step s e = turn_of (at_moment s (moment_of e)) e

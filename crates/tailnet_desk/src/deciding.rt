@@ -1,4 +1,4 @@
-//! What asks result in, by who asks.
+//! The decisions on asks, by who asks.
 ghost use Rattle.std.specs.Prelude.{◌≡◌, ℕ, List, Option};
 ghost use Rattle.tail_base.specs.Steps.{Gives};
 ghost use Rattle.desk_state.specs.Decisions.{answered};
@@ -91,7 +91,7 @@ fn of_policy(decision: Decision<PolicyAnswer>) -> Decision<Answer>
     }
 }
 
-/// What an ask results in, by its own rules.
+/// The outcome of an ask, by its own rules.
 pub(crate) fn decide(
     alloc: Global,
     at: &Snapshot<'_>,

@@ -53,7 +53,7 @@ pub enum Reply {
     Lost(Loss),
 }
 
-/// What a drain results in.
+/// The outcome of a drain.
 #[derive(Drop)]
 pub enum Drained {
     /// What is new in the session.
@@ -77,7 +77,7 @@ impl Drained {
         }
     }
 
-    /// What a drain resulted in that was replied so.
+    /// The outcome of a drain that was replied so.
     pub fn of_reply(reply: Reply) -> Drained
         requires kind { IsDrainReply reply }
         ensures value { drain_reply result ≡ reply }

@@ -1,4 +1,4 @@
--- What an attach results in: a session goes on, or one begins.
+-- The outcome of an attach: a session goes on, or one begins.
 use Rattle.std.proofs.Common.{◌≡◌, ◌<◌, ◌^◌, ◌∙◌, ◌==◌, ◌⊎◌, ℕ, Bool, true, false, not, List, Option, Some, None, Ok, inl, inr, refl, ap, if◌then◌else◌}
 use Rattle.std.proofs.lemmas.Bool.{eqb-true, ltb-true}
 use Rattle.tail_base.specs.declared.key.MachineKey.{MachineKey}

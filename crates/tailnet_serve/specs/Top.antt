@@ -1,4 +1,4 @@
--- What the whole program results in.
+-- The outcome of the whole program.
 use Rattle.std.specs.Prelude.{◌≡◌, ◌⊎◌, ℕ, Bool, true, false, Option, None, Some, List}
 use Rattle.command_words.specs.declared.invocation.Invocation.{Invocation}
 use Rattle.command_words.specs.declared.invocation.Invocation.TheVariants as asked
@@ -88,7 +88,7 @@ WordsDone (Some (asked.Operator call)) ended old new = IsLinkedAlone old new × 
 abbrev pub IsWordless : Status → Outside → Outside → Type 0
 IsWordless got old new = (got ≡ status.NoMemory) × IsNotedAlone old new × IsLine (ended_line ended.NoMemory) old new
 
--- what words result in
+-- the outcome of words
 abbrev pub Top : Option Invocation → Status → Outside → Outside → Type 0
 Top words got old new = IsWordless got old new ⊎ WordsDone words got old new
 
