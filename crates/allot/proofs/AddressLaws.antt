@@ -1,12 +1,11 @@
 -- What is known of an address that is given.
-use Rattle.std.proofs.Common.{◌≡◌, ◌≢◌, ◌<◌, ◌≤◌, ◌+◌, Bool, true, false, not, ◌&&◌, List, Option, Some, None, nat_le, nat_lt, arith, ap, ◌∙◌, refl, inl, inr, lit<, lit≤}
+use Rattle.std.proofs.Common.{◌≡◌, ◌≢◌, ◌<◌, Bool, true, false, not, List, Option, Some, None, arith, ap, ◌∙◌, refl, inl, inr}
 use Rattle.std.specs.Prelude.{◌↔◌, Contains}
-use Rattle.std.specs.Bool.{beq}
 use Rattle.std.specs.Option.{option_map}
 use Rattle.std.proofs.Math.Pow.{pow_pos}
-use Rattle.std.proofs.lemmas.Bool.{and_cases, and_from, and_parts, both_ways, eq-eqb, leb-true, ltb-true, not-false, not-true, or_parts}
-use Rattle.tail_base.proofs.Bools.{beq-from, beq-true}
-use Rattle.net_addr.specs.Bits.{Address, Block, IsBlock, size_of}
+use Rattle.std.proofs.lemmas.Bool.{and_cases, and_from, and_parts, both_ways, eq-eqb, not-false, not-true, or_parts}
+use Rattle.tail_base.proofs.Bools.{beq-from}
+use Rattle.net_addr.specs.Bits.{Address, Block, size_of}
 use Rattle.net_addr.specs.Blocks.{holds, is_within}
 use Rattle.net_addr.proofs.BlockLemmas.{holds_from, holds_parts, within_is}
 use Rattle.net_addr.proofs.PartLemmas.{map_some}

@@ -1,5 +1,7 @@
 -- The search for the least number that passes a test.
-use Rattle.std.proofs.Common.{◌≡◌, ◌<◌, ◌≤◌, ◌+◌, ◌-◌, ℕ, zero, suc, Bool, true, false, Option, Some, None, ◌⊎◌, inl, inr, arith, sym, ap, ◌∙◌, refl}
+use Rattle.std.proofs.Common.{◌≡◌, ◌<◌, ◌≤◌, ◌+◌, ◌-◌, ◌||◌, ℕ, zero, suc, Bool, true, false, List, [], ◌∷◌, slice_get, Option, Some, None, ◌⊎◌, inl, inr, arith, sym, ap, ◌∙◌, refl}
+use Rattle.std.specs.List.{list_any}
+use Rattle.std.specs.Option.{option_map_or}
 use Rattle.std.proofs.lemmas.Bool.{cases_Bool}
 use Rattle.allot.specs.Addresses.{least_from}
 
@@ -100,3 +102,13 @@ least_from-none test (suc more) n h k low high =
             | inr past ↦ least_from-none test more (n + 1) (rw fails at h) k past (omega arith)
           ]
     ]
+
+or_true : (b : Bool) → (b || true) ≡ true
+or_true true = refl
+or_true false = refl
+
+-- the element at one place settles the answer
+pub any_by_place : {A : Type 0} (test : A → Bool) (xs : List A) (place : ℕ) → option_map_or test (slice_get xs place) false ≡ true → list_any test xs ≡ true
+any_by_place test [] place h = absurd (cc)
+any_by_place test (x ∷ xs) zero h = ap (λ b. b || list_any test xs) h
+any_by_place test (x ∷ xs) (suc place) h = ap (λ b. test x || b) (any_by_place test xs place h) ∙ or_true (test x)

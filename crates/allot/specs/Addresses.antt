@@ -15,9 +15,13 @@ is_reserved a =
     if a.v6 then a.bits == SERVICE_V6
     else a.bits == SERVICE_V4 || (nat_le CHROMEOS_FIRST a.bits && nat_le a.bits CHROMEOS_LAST)
 
+-- the machine has the address
+abbrev pub holds_address : Address → Machine → Bool
+holds_address a m = address_eq m.v4 a || address_eq m.v6 a
+
 -- a machine has the address
 abbrev pub has_address : List Machine → Address → Bool
-has_address machines a = list_any (λ m. address_eq m.v4 a || address_eq m.v6 a) machines
+has_address machines a = list_any (holds_address a) machines
 
 -- the address is neither the first nor the last of the prefix, and isn't reserved
 abbrev pub may_be_given : Block → Address → Bool

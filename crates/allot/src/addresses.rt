@@ -1,6 +1,7 @@
 //! Addresses for new machines.
-ghost use Rattle.std.specs.Prelude.{◌≡◌};
-ghost use Rattle.allot.specs.Addresses.{free_address, has_address, is_free, is_reserved, may_be_given, set_prefix};
+ghost use Rattle.std.specs.Prelude.{◌≡◌, false, slice_get};
+ghost use Rattle.std.specs.Option.{option_map_or};
+ghost use Rattle.allot.specs.Addresses.{free_address, has_address, holds_address, is_free, is_reserved, may_be_given, set_prefix};
 
 use net_addr::{Addr, Prefix};
 use net_rows::{Machine, Tables};
@@ -29,12 +30,41 @@ fn is_reserved(addr: Addr) -> bool
     }
 }
 
-fn has_address(machines: &[Machine], addr: Addr) -> bool
+fn holds(machine: &Machine, addr: Addr) -> bool
+    ensures value { result ≡ holds_address addr machine.now }
+{
+    machine.v4 == addr || machine.v6 == addr
+}
+
+/// Whether the machine at that place has the address.
+fn is_holder(machines: &[Machine], place: usize, addr: Addr) -> bool
+    ensures value { result
+        ≡ option_map_or (holds_address addr) (slice_get machines.now place) false }
+{
+    match machines.get(place) {
+        Some(machine) => holds(machine, addr),
+        None => false,
+    }
+}
+
+/// Whether a machine has the address. The guessed place is tried first.
+#[tactic(auto, using(crate::proofs::SearchLemmas::any_by_place))]
+fn has_address(machines: &[Machine], guess: usize, addr: Addr) -> bool
     ensures value { result ≡ has_address machines.now addr }
 {
-    machines
-        .iter()
-        .any(|machine| machine.v4 == addr || machine.v6 == addr)
+    is_holder(machines, guess, addr) || machines.iter().any(|machine| holds(machine, addr))
+}
+
+/// Where the next address is looked for first: behind the machine that has this one, since machines
+/// mostly have their addresses in their order. Any place would do.
+fn next_guess(machines: &[Machine], guess: usize, addr: Addr) -> usize {
+    if is_holder(machines, guess, addr) {
+        return guess.saturating_add(1);
+    }
+    match machines.iter().position(|machine| holds(machine, addr)) {
+        Some(place) => place.saturating_add(1),
+        None => guess,
+    }
 }
 
 /// Whether the address may be given: it is neither the first nor the last of the prefix, and isn't
@@ -45,10 +75,10 @@ fn may_be_given(prefix: &Prefix, addr: Addr) -> bool
     addr.bits() != prefix.base().bits() && addr.bits() != prefix.last() && !is_reserved(addr)
 }
 
-fn is_free(prefix: &Prefix, machines: &[Machine], addr: Addr) -> bool
+fn is_free(prefix: &Prefix, machines: &[Machine], guess: usize, addr: Addr) -> bool
     ensures value { result ≡ is_free prefix.now machines.now addr }
 {
-    may_be_given(prefix, addr) && !has_address(machines, addr)
+    may_be_given(prefix, addr) && !has_address(machines, guess, addr)
 }
 
 /// The least address of the prefix that is free: it isn't the first or the last, isn't reserved, and
@@ -57,11 +87,13 @@ fn least_free(prefix: &Prefix, machines: &[Machine]) -> Option<Addr>
     ensures value { result ≡ free_address prefix.now machines.now }
 {
     let v6 = prefix.base().is_v6();
+    let mut guess = 0;
     for bits in prefix.base().bits()..prefix.last() {
         let addr = Addr::new(v6, bits);
-        if is_free(prefix, machines, addr) {
+        if is_free(prefix, machines, guess, addr) {
             return Some(addr);
         }
+        guess = next_guess(machines, guess, addr);
     }
     None
 }
