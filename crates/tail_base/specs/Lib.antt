@@ -2,6 +2,7 @@ pub mod Keys
 pub mod Labels
 pub mod Logins
 pub mod Numerals
+pub mod OptionSteps
 pub mod Places
 pub mod Searches
 pub mod Sorted

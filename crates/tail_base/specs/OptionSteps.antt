@@ -1,0 +1,8 @@
+-- Steps that may give nothing: the first that does ends them.
+use Rattle.std.specs.Prelude.{Option}
+use Rattle.std.specs.Option.{option_and_then}
+
+-- the second step, of the first one's value
+infixl 10 ◌>>=◌
+abbrev pub ◌>>=◌ : {A B : Type 0} → Option A → (A → Option B) → Option B
+o >>= f = option_and_then f o
