@@ -1,8 +1,8 @@
 -- The search for the least number that passes a test.
-use Rattle.std.proofs.Common.{◌≡◌, ◌<◌, ◌≤◌, ◌+◌, ◌-◌, ◌||◌, ℕ, zero, suc, Bool, true, false, List, [], ◌∷◌, slice_get, Option, Some, None, ◌⊎◌, inl, inr, arith, sym, ap, ◌∙◌, refl}
-use Rattle.std.specs.List.{list_any}
-use Rattle.std.specs.Option.{option_map_or}
+use Rattle.std.proofs.Common.{◌≡◌, ◌<◌, ◌≤◌, ◌+◌, ◌-◌, ◌||◌, ℕ, zero, suc, Bool, true, false, List, [], ◌∷◌, Option, Some, None, is_some, length, position, nat_lt, if◌then◌else◌, ◌⊎◌, inl, inr, arith, sym, ap, ◌∙◌, refl}
+use Rattle.std.specs.List.{list_any, position_or_len}
 use Rattle.std.proofs.lemmas.Bool.{cases_Bool}
+use Rattle.std.proofs.lemmas.Bool.Decides.{nat_tests}
 use Rattle.allot.specs.Addresses.{least_from}
 
 -- a number that is no greater is equal, or at least one less
@@ -103,12 +103,21 @@ least_from-none test (suc more) n h k low high =
           ]
     ]
 
-or_true : (b : Bool) → (b || true) ≡ true
-or_true true = refl
-or_true false = refl
+-- there is a first that passes exactly where one does
+some_cond : (b : Bool) (n : ℕ) → is_some (if b then Some n else None) ≡ b
+some_cond true n = refl
+some_cond false n = refl
 
--- the element at one place settles the answer
-pub any_by_place : {A : Type 0} (test : A → Bool) (xs : List A) (place : ℕ) → option_map_or test (slice_get xs place) false ≡ true → list_any test xs ≡ true
-any_by_place test [] place h = absurd (cc)
-any_by_place test (x ∷ xs) zero h = ap (λ b. b || list_any test xs) h
-any_by_place test (x ∷ xs) (suc place) h = ap (λ b. test x || b) (any_by_place test xs place h) ∙ or_true (test x)
+lt_next : (a b : ℕ) → nat_lt (1 + a) (suc b) ≡ nat_lt a b
+lt_next a b = grind (arith, nat_tests)
+
+before_end : {A : Type 0} (test : A → Bool) (xs : List A) → nat_lt (position_or_len test xs) (length xs) ≡ list_any test xs
+before_end test [] = refl
+before_end test (x ∷ xs) =
+    elim (cases_Bool (test x)) [
+      | inl passes ↦ rw passes (grind (arith, nat_tests))
+      | inr fails ↦ rw fails (lt_next (position_or_len test xs) (length xs) ∙ before_end test xs)
+    ]
+
+pub some_position : {A : Type 0} (test : A → Bool) (xs : List A) → is_some (position test xs) ≡ list_any test xs
+some_position test xs = some_cond (nat_lt (position_or_len test xs) (length xs)) (position_or_len test xs) ∙ before_end test xs

@@ -7,12 +7,12 @@ use Rattle.net_rows.specs.declared.machine.Machine.{Machine}
 use Rattle.allot.specs.Addresses.{least_from}
 
 -- the machine has the name
-abbrev pub bears_name : List ℕ → Machine → Bool
-bears_name name m = bytes_eq m.name name
+abbrev pub holds_name : List ℕ → Machine → Bool
+holds_name name m = bytes_eq m.name name
 
 -- a machine has the name
 abbrev pub has_name : List Machine → List ℕ → Bool
-has_name machines name = list_any (bears_name name) machines
+has_name machines name = list_any (holds_name name) machines
 
 -- The least number from 1 on with which no machine has the label. It is one of the first, of which there is
 -- one more than machines, since labels of different numbers differ.

@@ -1,7 +1,6 @@
 //! Addresses for new machines.
-ghost use Rattle.std.specs.Prelude.{◌≡◌, false, slice_get};
-ghost use Rattle.std.specs.Option.{option_map_or};
-ghost use Rattle.allot.specs.Addresses.{free_address, has_address, holds_address, is_free, is_reserved, may_be_given, set_prefix};
+ghost use Rattle.std.specs.Prelude.{◌≡◌, ◌<◌, is_some, length, position, IfSome};
+ghost use Rattle.allot.specs.Addresses.{free_address, has_address, holds_address, is_reserved, may_be_given, set_prefix};
 
 use net_addr::{Addr, Prefix};
 use net_rows::{Machine, Tables};
@@ -36,35 +35,26 @@ fn holds(machine: &Machine, addr: Addr) -> bool
     machine.v4 == addr || machine.v6 == addr
 }
 
-/// Whether the machine at that place has the address.
-fn is_holder(machines: &[Machine], place: usize, addr: Addr) -> bool
-    ensures value { result
-        ≡ option_map_or (holds_address addr) (slice_get machines.now place) false }
+/// The place of the first machine that has the address.
+fn first_with_address(machines: &[Machine], addr: Addr) -> Option<usize>
+    ensures value { result ≡ position (holds_address addr) machines.now }
 {
-    match machines.get(place) {
-        Some(machine) => holds(machine, addr),
-        None => false,
-    }
+    machines.iter().position(|machine| holds(machine, addr))
 }
 
-/// Whether a machine has the address. The guessed place is tried first.
-#[tactic(auto, using(crate::proofs::SearchLemmas::any_by_place))]
-fn has_address(machines: &[Machine], guess: usize, addr: Addr) -> bool
-    ensures value { result ≡ has_address machines.now addr }
+/// The place of a machine that has the address, if one has it. The guessed place is looked at first:
+/// machines mostly have their addresses in their order.
+#[tactic(auto, using(crate::proofs::SearchLemmas::some_position))]
+fn place_with_address(machines: &[Machine], guess: usize, addr: Addr) -> Option<usize>
+    ensures value { is_some result ≡ has_address machines.now addr }
+    ensures place { IfSome result (λ place. place < length machines.now) }
 {
-    is_holder(machines, guess, addr) || machines.iter().any(|machine| holds(machine, addr))
-}
-
-/// Where the next address is looked for first: behind the machine that has this one, since machines
-/// mostly have their addresses in their order. Any place would do.
-fn next_guess(machines: &[Machine], guess: usize, addr: Addr) -> usize {
-    if is_holder(machines, guess, addr) {
-        return guess.saturating_add(1);
+    if let Some(machine) = machines.get(guess)
+        && holds(machine, addr)
+    {
+        return Some(guess);
     }
-    match machines.iter().position(|machine| holds(machine, addr)) {
-        Some(place) => place.saturating_add(1),
-        None => guess,
-    }
+    first_with_address(machines, addr)
 }
 
 /// Whether the address may be given: it is neither the first nor the last of the prefix, and isn't
@@ -73,12 +63,6 @@ fn may_be_given(prefix: &Prefix, addr: Addr) -> bool
     ensures value { result ≡ may_be_given prefix.now addr }
 {
     addr.bits() != prefix.base().bits() && addr.bits() != prefix.last() && !is_reserved(addr)
-}
-
-fn is_free(prefix: &Prefix, machines: &[Machine], guess: usize, addr: Addr) -> bool
-    ensures value { result ≡ is_free prefix.now machines.now addr }
-{
-    may_be_given(prefix, addr) && !has_address(machines, guess, addr)
 }
 
 /// The least address of the prefix that is free: it isn't the first or the last, isn't reserved, and
@@ -90,10 +74,12 @@ fn least_free(prefix: &Prefix, machines: &[Machine]) -> Option<Addr>
     let mut guess = 0;
     for bits in prefix.base().bits()..prefix.last() {
         let addr = Addr::new(v6, bits);
-        if is_free(prefix, machines, guess, addr) {
-            return Some(addr);
+        if may_be_given(prefix, addr) {
+            match place_with_address(machines, guess, addr) {
+                Some(place) => guess = place + 1,
+                None => return Some(addr),
+            }
         }
-        guess = next_guess(machines, guess, addr);
     }
     None
 }

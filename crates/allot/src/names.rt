@@ -1,49 +1,41 @@
 //! Names for new machines.
-ghost use Rattle.std.specs.Prelude.{◌≡◌, ◌≤◌, false, length, slice_get, IfOk};
-ghost use Rattle.std.specs.Option.{option_map_or};
+ghost use Rattle.std.specs.Prelude.{◌≡◌, ◌<◌, ◌≤◌, is_some, length, position, IfOk, IfSome};
 ghost use Rattle.tail_base.specs.Labels.{numbered_label};
 ghost use Rattle.net_rows.specs.declared.limits.TheConstants.{MACHINE_LIMIT};
-ghost use Rattle.allot.specs.Names.{bears_name, has_name, free_number, free_label, free_name};
+ghost use Rattle.allot.specs.Names.{holds_name, has_name, free_number, free_label, free_name};
 
 use net_rows::{Machine, Tables};
 use std::alloc::Global;
 use tail_base::{Label, NoMemory};
 
-fn bears(machine: &Machine, name: &Label) -> bool
-    ensures value { result ≡ bears_name name.now machine.now }
+fn holds_name(machine: &Machine, name: &Label) -> bool
+    ensures value { result ≡ holds_name name.now machine.now }
 {
     machine.name.as_str() == name.as_str()
 }
 
-/// Whether the machine at that place has the name.
-fn is_bearer(machines: &[Machine], place: usize, name: &Label) -> bool
-    ensures value { result
-        ≡ option_map_or (bears_name name.now) (slice_get machines.now place) false }
+/// The place of the first machine that has the name.
+fn first_with_name(machines: &[Machine], name: &Label) -> Option<usize>
+    ensures value { result ≡ position (holds_name name.now) machines.now }
 {
-    match machines.get(place) {
-        Some(machine) => bears(machine, name),
-        None => false,
-    }
+    machines
+        .iter()
+        .position(|machine| holds_name(machine, name))
 }
 
-/// Whether a machine has the name. The guessed place is tried first.
-#[tactic(auto, using(crate::proofs::SearchLemmas::any_by_place))]
-fn has_name(machines: &[Machine], guess: usize, name: &Label) -> bool
-    ensures value { result ≡ has_name machines.now name.now }
+/// The place of a machine that has the name, if one has it. The guessed place is looked at first:
+/// machines mostly have their numbers in their order.
+#[tactic(auto, using(crate::proofs::SearchLemmas::some_position))]
+fn place_with_name(machines: &[Machine], guess: usize, name: &Label) -> Option<usize>
+    ensures value { is_some result ≡ has_name machines.now name.now }
+    ensures place { IfSome result (λ place. place < length machines.now) }
 {
-    is_bearer(machines, guess, name) || machines.iter().any(|machine| bears(machine, name))
-}
-
-/// Where the next number's label is looked for first: behind the machine that has this one, since
-/// machines mostly have their numbers in their order. Any place would do.
-fn next_guess(machines: &[Machine], guess: usize, name: &Label) -> usize {
-    if is_bearer(machines, guess, name) {
-        return guess.saturating_add(1);
+    if let Some(machine) = machines.get(guess)
+        && holds_name(machine, name)
+    {
+        return Some(guess);
     }
-    match machines.iter().position(|machine| bears(machine, name)) {
-        Some(place) => place.saturating_add(1),
-        None => guess,
-    }
+    first_with_name(machines, name)
 }
 
 /// The label with the least number from 1 on with which no machine has it.
@@ -55,10 +47,10 @@ fn numbered(alloc: Global, machines: &[Machine], base: &Label) -> Result<Label, 
     let mut guess = 0;
     for n in 1..machines.len() as u32 + 2 {
         let name = base.numbered(alloc, n)?;
-        if !has_name(machines, guess, &name) {
-            return Ok(name);
+        match place_with_name(machines, guess, &name) {
+            Some(place) => guess = place + 1,
+            None => return Ok(name),
         }
-        guess = next_guess(machines, guess, &name);
     }
     unreachable!()
 }
@@ -69,7 +61,7 @@ fn free_label(alloc: Global, machines: &[Machine], base: Label) -> Result<Label,
     requires few { length machines.now ≤ MACHINE_LIMIT }
     ensures value { IfOk result (λ name. name ≡ free_label machines.now base) }
 {
-    if has_name(machines, 0, &base) {
+    if place_with_name(machines, 0, &base).is_some() {
         numbered(alloc, machines, &base)
     } else {
         Ok(base)
