@@ -94,6 +94,15 @@ def hides_variants(patterns, enums):
     return False
 
 
+def tests_of_variants(source):
+    """Each `matches!` of a source, but of tests, which want one variant: what is matched, and the pattern."""
+    text = "" if "#[test]" in source else blanked(source)
+    for found in re.finditer(r"\bmatches!\(", text):
+        end = end_of(text, found.end() - 1)
+        comma = place_of(text, ",", found.end(), end)
+        yield " ".join(source[found.end() : comma].split()), " ".join(text[comma + 1 : end].split())
+
+
 def catch_all_arms(repository):
     """No arm stands for all other variants of an enum of our own: a new variant has to be decided."""
     found = set()
@@ -102,6 +111,9 @@ def catch_all_arms(repository):
             for matched, patterns in matches_of(source):
                 if hides_variants(patterns, repository.enums):
                     found.add(f"crates/{crate.name}/{path} match {matched}")
+            for matched, pattern in tests_of_variants(source):
+                if hides_variants([pattern, "_"], repository.enums):
+                    found.add(f"crates/{crate.name}/{path} matches! {matched}")
     return unlisted(repository, found, "catch-all-arms", "has an arm for all other variants")
 
 

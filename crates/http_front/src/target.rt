@@ -73,7 +73,10 @@ fn after(place: Place, byte: u8) -> Place
 fn is_target(place: Place) -> bool
     ensures value { result ≡ is_target place }
 {
-    matches!(place, Place::Target)
+    match place {
+        Place::Target => true,
+        Place::LineStart | Place::LineBreak | Place::Method | Place::Elsewhere => false,
+    }
 }
 
 fn scan(bytes: &[u8]) -> bool

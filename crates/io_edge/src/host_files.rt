@@ -30,8 +30,9 @@ impl<R: rt::Files> Files for HostFiles<R> {
 
     fn read(&mut self, alloc: Global, name: &str, most: usize) -> Result<Vec<u8>, FileFault> {
         let read = read_file(&self.rt, alloc, name, most);
-        if matches!(read, Err(FileFault::Failed)) {
-            self.failed = self.failed.saturating_add(1);
+        match read {
+            Err(FileFault::Failed) => self.failed = self.failed.saturating_add(1),
+            Err(FileFault::TooLarge | FileFault::NoMemory) | Ok(_) => {}
         }
         read
     }

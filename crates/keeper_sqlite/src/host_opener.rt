@@ -118,8 +118,9 @@ impl Opener for HostOpener {
 
     fn open(&mut self, alloc: Global, name: &str) -> Result<HostKeeper, EdgeFault> {
         let opened = open_named(&self.rt, alloc, name);
-        if matches!(opened, Err(EdgeFault::Failed)) {
-            self.faults = self.faults.saturating_add(1);
+        match opened {
+            Err(EdgeFault::Failed) => self.faults = self.faults.saturating_add(1),
+            Err(EdgeFault::NoMemory) | Ok(_) => {}
         }
         opened
     }

@@ -78,7 +78,10 @@ pub fn has_one_opener<O: Opener>(
 
 /// Whether nothing is opened by this name, at a fault of the opener.
 pub fn fails_by<O: Opener>(alloc: Global, opener: &mut O, name: &str) -> bool {
-    matches!(opener.open(alloc, name), Err(EdgeFault::Failed))
+    match opener.open(alloc, name) {
+        Err(EdgeFault::Failed) => true,
+        Err(EdgeFault::NoMemory) | Ok(_) => false,
+    }
 }
 
 /// Why the tables of this name aren't loaded.

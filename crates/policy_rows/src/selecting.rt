@@ -117,7 +117,16 @@ pub fn read_selector(
 fn is_source(selector: &Selector) -> bool
     ensures value { result ≡ is_source selector.now }
 {
-    !matches!(selector, Selector::Internet | Selector::OwnDevices)
+    match selector {
+        Selector::All
+        | Selector::Net(_)
+        | Selector::User(_)
+        | Selector::Group(_)
+        | Selector::Tagged(_)
+        | Selector::Member
+        | Selector::AllTagged => true,
+        Selector::Internet | Selector::OwnDevices => false,
+    }
 }
 
 /// The source of a rule that a text names: any selector but `autogroup:internet` and `autogroup:self`.
@@ -140,10 +149,15 @@ pub fn read_source(
 fn is_approver(selector: &Selector) -> bool
     ensures value { result ≡ is_approver selector.now }
 {
-    matches!(
-        selector,
-        Selector::User(_) | Selector::Group(_) | Selector::Tagged(_)
-    )
+    match selector {
+        Selector::User(_) | Selector::Group(_) | Selector::Tagged(_) => true,
+        Selector::All
+        | Selector::Net(_)
+        | Selector::Member
+        | Selector::AllTagged
+        | Selector::Internet
+        | Selector::OwnDevices => false,
+    }
 }
 
 /// The approver of routes that a text names: a login, a group or a tag.

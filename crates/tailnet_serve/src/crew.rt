@@ -176,7 +176,10 @@ pub(crate) struct Leaving<D> {
 fn has_failed(failed: bool, stop: Stop) -> bool
     ensures value { result ≡ (failed || is_door_fault stop) }
 {
-    failed || matches!(stop, Stop::DoorFault)
+    match stop {
+        Stop::DoorFault => true,
+        Stop::Over | Stop::Full => failed,
+    }
 }
 
 fn either(one: bool, other: bool) -> bool

@@ -81,8 +81,9 @@ impl<R: Net<Listener = TcpListener, Stream = TcpStream> + Clock + Copy + Send> D
         count: u32,
     ) -> Result<Vec<TcpDoor<R>>, EdgeFault> {
         let opened = self.listen(alloc, address, count);
-        if matches!(opened, Err(EdgeFault::Failed)) {
-            self.failed = self.failed.saturating_add(1);
+        match opened {
+            Err(EdgeFault::Failed) => self.failed = self.failed.saturating_add(1),
+            Err(EdgeFault::NoMemory) | Ok(_) => {}
         }
         opened
     }
