@@ -1,13 +1,14 @@
 //! Listeners: what comes at them, and what fails.
-use crate::runs::{NOTHING, ServeFails, ServeRun, door_with, served};
 use memory_edge::{DoorPlan, MemoryDoors};
 use run_ends::Status;
+use serve_runs::{
+    NOTHING, ServeFails, ServeRun, answers_of, door_with, one_door, requests_of, served,
+};
 use std::alloc::Global;
 use std::sync::Wait;
 use std::test::Fail;
 use std::thread::Threads;
 use tail_base::{Items, NoMemory};
-use talk_runs::talk_bytes;
 
 /// A user is added, on one connection.
 const ADDED: &str = r#"> POST /api/v1/user Bearer/secret {"name":"ann"}
@@ -29,26 +30,26 @@ const LISTEN: &[u8] = b"127.0.0.1:8080";
 
 /// One door, at which both come.
 fn both(alloc: Global, accept: u32) -> Result<Items<DoorPlan>, NoMemory> {
-    let (first, _answer) = talk_bytes(alloc, ADDED)?;
-    let (second, _list) = talk_bytes(alloc, LISTED)?;
-    let mut plans = Items::new(alloc);
-    plans.push(door_with(alloc, &[first.as_slice(), second.as_slice()], accept)?)?;
-    Ok(plans)
+    let first = requests_of(alloc, ADDED)?;
+    let second = requests_of(alloc, LISTED)?;
+    let door = door_with(alloc, &[first.as_slice(), second.as_slice()], accept)?;
+    one_door(alloc, door)
 }
 
 /// How many connections were given back at the first door, if each has its answers.
+fn count_answered(doors: &MemoryDoors, added: &[u8], listed: &[u8]) -> Option<usize> {
+    match doors.finished_at(0) {
+        [] => Some(0),
+        [(_, first)] if first.bytes() == added => Some(1),
+        [(_, first), (_, second)] if first.bytes() == added && second.bytes() == listed => Some(2),
+        _ => None,
+    }
+}
+
 fn answered(alloc: Global, doors: &MemoryDoors) -> Result<Option<usize>, NoMemory> {
-    let (_first, added) = talk_bytes(alloc, ADDED)?;
-    let (_second, listed) = talk_bytes(alloc, LISTED)?;
-    let finished = doors.finished_at(0);
-    let mut all = true;
-    if let Some((_input, output)) = finished.get(0) {
-        all = all && output.bytes() == added.as_slice();
-    }
-    if let Some((_input, output)) = finished.get(1) {
-        all = all && output.bytes() == listed.as_slice();
-    }
-    Ok(if all { Some(finished.len()) } else { None })
+    let added = answers_of(alloc, ADDED)?;
+    let listed = answers_of(alloc, LISTED)?;
+    Ok(count_answered(doors, &added, &listed))
 }
 
 /// What a run leaves.
@@ -196,16 +197,15 @@ fn doors_without_connections(rt: HostRuntime) -> Result<(), Fail> {
 
 /// One door: at it comes a connection that is cut, and then a whole one.
 fn cut_and_whole(alloc: Global) -> Result<Items<DoorPlan>, NoMemory> {
-    let (whole, _answer) = talk_bytes(alloc, ADDED)?;
+    let whole = requests_of(alloc, ADDED)?;
     let head: &[u8] = b"GET / HTTP/1.1\r\n";
-    let mut plans = Items::new(alloc);
-    plans.push(door_with(alloc, &[head, whole.as_slice()], 0)?)?;
-    Ok(plans)
+    let door = door_with(alloc, &[head, whole.as_slice()], 0)?;
+    one_door(alloc, door)
 }
 
 /// Whether the first of two connections has no answer, and the second its own.
 fn is_second_answered(alloc: Global, doors: &MemoryDoors) -> Result<bool, NoMemory> {
-    let (_whole, answer) = talk_bytes(alloc, ADDED)?;
+    let answer = answers_of(alloc, ADDED)?;
     match doors.finished_at(0) {
         [(_, cut), (_, whole)] => Ok(cut.bytes() == NO_LINE && whole.bytes() == answer.as_slice()),
         _ => Ok(false),

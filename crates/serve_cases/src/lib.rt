@@ -1,15 +1,7 @@
-//! Tests of whole runs of `serve` over memory objects, and of seats in threads of their own.
+//! Tests of whole runs of `serve` over listeners in memory.
 #![tactic(auto)]
 
 #[cfg(test)]
 mod doors;
 #[cfg(test)]
-mod loopback;
-#[cfg(test)]
-mod runs;
-#[cfg(test)]
-mod seats;
-#[cfg(test)]
 mod served_talks;
-#[cfg(test)]
-mod waiting;

@@ -2,12 +2,12 @@
 //! begin with what the seed makes.
 ghost use Rattle.std.specs.Prelude.{◌<◌, IfOk, length};
 
-use crate::runs::{Given, run_over};
 use io_edge::{MemoryClock, MemoryFiles, MemorySink};
 use memory_edge::{DoorPlan, MemoryDoors, MemoryPause};
 use net_rows::Tables;
 use row_keeper::MemoryOpener;
 use run_ends::Status;
+use serve_runs::{Given, one_door, run_over};
 use std::alloc::Global;
 use std::sync::Wait;
 use std::test::Fail;
@@ -82,12 +82,13 @@ fn files_for(alloc: Global, talk: &Talk) -> Result<MemoryFiles, NoMemory> {
 /// A listener at which the requests of a conversation come.
 fn doors_of(alloc: Global, talk: &Talk) -> Result<MemoryDoors, NoMemory> {
     let mut connections = Items::new(alloc);
-    connections.push(Bytes::from_slice(alloc, &talk.input)?)?;
-    let mut plans = Items::new(alloc);
-    plans.push(DoorPlan {
+    let input = Bytes::from_slice(alloc, &talk.input)?;
+    connections.push(input)?;
+    let door = DoorPlan {
         connections,
         fails: Items::new(alloc),
-    })?;
+    };
+    let plans = one_door(alloc, door)?;
     MemoryDoors::new(alloc, plans, Items::new(alloc))
 }
 

@@ -1,18 +1,14 @@
-//! What the top call is given in memory, and the call over it.
-use crate::FIRST;
-use io_edge::{
-    Clock, Entropy, Files, Link, MemoryClock, MemoryEntropy, MemoryFiles, MemorySink, MemorySource,
-    NoDoors, NoPause, Sink, Source,
-};
+//! What the top call is given in memory, and its outcome.
+use io_edge::{MemoryClock, MemoryEntropy, MemoryFiles, MemorySink, MemorySource};
 use memory_edge::MemoryLink;
 use net_rows::Tables;
-use row_keeper::{MemoryOpener, Opener};
+use row_keeper::MemoryOpener;
 use run_ends::Status;
+use serve_runs::{FIRST, top_over};
 use std::alloc::Global;
 use std::sync::Wait;
 use std::thread::Threads;
 use tail_base::{Bytes, Items, NoMemory};
-use tailnet_serve::tailnetd;
 
 /// What the top call is given.
 #[derive(Drop)]
@@ -67,56 +63,14 @@ pub(crate) fn new_outside(alloc: Global, answer: &[u8], call: u32) -> Result<Out
     })
 }
 
-/// The top call. The tests look at what it leaves and ask for none of its clauses, so that they aren't
-/// proved beside what these say.
-pub(crate) fn run_over<
-    R: Threads + Wait + Sync,
-    I: Source,
-    O: Sink,
-    E: Sink,
-    F: Files,
-    P: Opener,
-    C: Clock + Send + Drop,
-    N: Entropy + Send,
-    L: Link,
->(
-    rt: &R,
-    alloc: Global,
-    words: &[String],
-    input: &mut I,
-    output: &mut O,
-    errors: &mut E,
-    files: &mut F,
-    opener: &mut P,
-    clock: &mut C,
-    entropy: &mut N,
-    link: &mut L,
-) -> Status {
-    tailnetd(
-        rt,
-        alloc,
-        words,
-        input,
-        output,
-        errors,
-        files,
-        opener,
-        clock,
-        entropy,
-        &mut NoDoors::new(),
-        &NoPause,
-        link,
-    )
-}
-
-/// What the top call results in.
+/// The outcome of the top call.
 pub(crate) fn status_of<R: Threads + Wait + Sync>(
     rt: &R,
     alloc: Global,
     words: &[String],
     given: &mut Outside,
 ) -> Status {
-    run_over(
+    top_over(
         rt,
         alloc,
         words,

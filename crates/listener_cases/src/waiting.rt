@@ -2,11 +2,11 @@
 ghost use Rattle.std.specs.Prelude.{◌≡◌, ◌≤◌, ◌+◌, ◌-◌, ◌^◌, None, min, sum_by};
 ghost use Rattle.io_edge.specs.Edge.{nothing_besides};
 
-use crate::runs::{Given, POLLING, has_bytes, noon, run_over};
 use io_edge::{Door, Doors, EdgeFault, Failed, MemorySink, MemorySource, Pause, Sink, Source};
 use net_rows::Tables;
 use row_keeper::MemoryOpener;
 use run_ends::Status;
+use serve_runs::{Given, POLLING, answers_of, has_bytes, noon, requests_of, run_over};
 use std::alloc::Global;
 use std::mem;
 use std::sync::{Arc, Condvar, Mutex, Wait};
@@ -14,7 +14,7 @@ use std::test::Fail;
 use std::thread::Threads;
 use std::time::{Clock, Duration};
 use tail_base::{Bytes, Items, NoMemory};
-use talk_runs::{entropy_of, files_of, talk_bytes};
+use talk_runs::{entropy_of, files_of};
 
 /// Two workers, and a poll that looks for changes often.
 const SETTINGS_OF_TWO: &[u8] =
@@ -250,12 +250,6 @@ const AGAIN: &str = r#"> POST /machine/map mkey:%1 {"NodeKey":"nodekey:%a","Stre
 /// The new session begins with the policy that was saved.
 const ANEW: &[u8] = b"\"PacketFilter\":[],\"Seq\":1";
 
-/// The bytes of the requests in these lines.
-fn requests_of(alloc: Global, lines: &str) -> Result<Vec<u8>, NoMemory> {
-    let (requests, _answers) = talk_bytes(alloc, lines)?;
-    Ok(requests)
-}
-
 /// What the machine sends: it registers and polls, and polls anew once its poll has ended.
 fn polls(alloc: Global) -> Result<Vec<u8>, NoMemory> {
     let mut polls = requests_of(alloc, POLLING)?;
@@ -326,8 +320,10 @@ fn two_doors<R: Wait + Clock + Drop>(
     saved: &Arc<Gate<R>, Global>,
 ) -> Result<ReadyDoors<R>, Fail> {
     let mut ready = Vec::new(alloc);
-    ready.push(polling_door(alloc, polled)?)?;
-    ready.push(saving_door(alloc, polled, saved)?)?;
+    let poll = polling_door(alloc, polled)?;
+    ready.push(poll)?;
+    let save = saving_door(alloc, polled, saved)?;
+    ready.push(save)?;
     Ok(ReadyDoors {
         alloc,
         ready,
@@ -386,7 +382,7 @@ fn bytes_at<R>(doors: &ReadyDoors<R>, place: usize) -> &[u8] {
 
 /// Whether the save has its answer, and the poll a frame of what was saved, before it begins anew.
 fn is_written<R>(alloc: Global, doors: &ReadyDoors<R>) -> Result<bool, Fail> {
-    let (_save, answer) = talk_bytes(alloc, SAVING)?;
+    let answer = answers_of(alloc, SAVING)?;
     let polled = bytes_at(doors, 0);
     Ok(
         bytes_at(doors, 1) == answer.as_slice()

@@ -7,6 +7,7 @@ use moments::Moment;
 use net_rows::{Tables, User};
 use row_keeper::{Keeper, MemoryKeeper};
 use session_hub::{Hub, Seat};
+use settings::Settings;
 use std::alloc::Global;
 use std::sync::Wait;
 use std::test::Fail;
@@ -19,19 +20,33 @@ use tailnet_desk::{Answer, Ask, Desk, Reply};
 /// 2001-09-09T01:46:40Z.
 const NOON: i64 = 1_000_000_000;
 
+const SETTINGS: &[u8] =
+    b"base_domain = \"tail.example\"\nserver_url = \"http://tail.example\"\ntoken = \"secret\"\n";
+
 /// How many users each thread adds.
 const EACH: u32 = 50;
 
-/// A desk over empty tables.
-fn desk(alloc: Global) -> Result<Desk<MemoryKeeper>, NoMemory> {
-    let Ok(settings) = read_settings(alloc, talk_runs::SETTINGS) else {
-        return Err(NoMemory);
-    };
-    let keeper = MemoryKeeper::new(Tables::empty(alloc), Items::new(alloc));
+/// The settings of this text.
+fn settings_of(alloc: Global, text: &[u8]) -> Result<Settings, NoMemory> {
+    match read_settings(alloc, text) {
+        Ok(settings) => Ok(settings),
+        Err(_) => Err(NoMemory),
+    }
+}
+
+/// A desk over what a keeper keeps.
+fn opened<K: Keeper>(alloc: Global, settings: Settings, keeper: K) -> Result<Desk<K>, NoMemory> {
     match Desk::open(alloc, settings, keeper, Moment::clamp(NOON)) {
         Ok(desk) => Ok(desk),
         Err(_) => Err(NoMemory),
     }
+}
+
+/// A desk over empty tables.
+fn desk(alloc: Global, text: &[u8]) -> Result<Desk<MemoryKeeper>, NoMemory> {
+    let settings = settings_of(alloc, text)?;
+    let keeper = MemoryKeeper::new(Tables::empty(alloc), Items::new(alloc));
+    opened(alloc, settings, keeper)
 }
 
 /// What a seat replies.
@@ -59,6 +74,21 @@ fn heard_of(reply: &Reply) -> Heard {
     }
 }
 
+/// One ask at a seat. The tests look at its reply and ask for none of its clauses.
+fn reply_to<K: Keeper, R: Wait>(
+    rt: &R,
+    alloc: Global,
+    hub: &Hub<K>,
+    seat: &mut Seat<K>,
+    ask: &Ask,
+) -> Reply
+    requires hub { seat.old.hub ≡ hub.now }
+    requires short { IsShort ask.now }
+    ensures hub { seat.new.hub ≡ hub.now }
+{
+    seat.ask(rt, alloc, hub, ask, Moment::clamp(NOON), None)
+}
+
 /// What a seat replies to an ask.
 fn hears<K: Keeper, R: Wait>(
     rt: &R,
@@ -71,7 +101,7 @@ fn hears<K: Keeper, R: Wait>(
     requires short { IsShort ask.now }
     ensures hub { seat.new.hub ≡ hub.now }
 {
-    let reply = seat.ask(rt, alloc, hub, ask, Moment::clamp(NOON), None);
+    let reply = reply_to(rt, alloc, hub, seat, ask);
     heard_of(&reply)
 }
 
@@ -125,34 +155,96 @@ fn add_users<K: Keeper, R: Wait>(
     (seat, added)
 }
 
-/// Two threads add users of one hub: how many were added, and the desk afterwards.
+/// A hub over a desk, and its first seat. As of the three calls below, the tests ask for none of its clauses but of which
+/// hub a seat is.
+fn made<K: Keeper>(alloc: Global, desk: Desk<K>) -> Result<(Hub<K>, Seat<K>), Desk<K>>
+    ensures hub { IfOk result (λ r. r.1.hub ≡ r.0) }
+{
+    match Hub::new(alloc, desk) {
+        Ok(made) => Ok(made),
+        Err((_, desk)) => Err(desk),
+    }
+}
+
+/// Another seat of the hub.
+fn split_off<K: Keeper, R: Wait>(rt: &R, hub: &Hub<K>, seat: &mut Seat<K>) -> Seat<K>
+    requires hub { seat.old.hub ≡ hub.now }
+    ensures first { seat.new.hub ≡ hub.now }
+    ensures second { result.hub ≡ hub.now }
+{
+    seat.split(rt, hub)
+}
+
+/// One seat of two.
+fn joined<K: Keeper>(hub: &Hub<K>, mut seat: Seat<K>, other: Seat<K>) -> Seat<K>
+    requires seat { seat.hub ≡ hub.now }
+    requires other { other.hub ≡ hub.now }
+    ensures hub { result.hub ≡ hub.now }
+{
+    seat.join(hub, other);
+    seat
+}
+
+/// The desk of a hub.
+fn closed<K: Keeper, R: Wait>(rt: &R, hub: Hub<K>, seat: Seat<K>) -> Desk<K>
+    requires hub { seat.hub ≡ hub }
+{
+    hub.close(rt, seat)
+}
+
+/// Adds users at two seats in threads of their own, and gives the seats back with the numbers.
+fn add_in_threads<K: Keeper + Send, R: Threads + Wait + Sync>(
+    rt: &R,
+    alloc: Global,
+    hub: &Hub<K>,
+    second: Seat<K>,
+    third: Seat<K>,
+) -> ((Seat<K>, u32), (Seat<K>, u32))
+    requires second { second.hub ≡ hub.now }
+    requires third { third.hub ≡ hub.now }
+    ensures second { result.0.0.hub ≡ hub.now }
+    ensures third { result.1.0.hub ≡ hub.now }
+{
+    thread::join(
+        rt,
+        || -> (Seat<K>, u32)
+            requires { second.hub ≡ hub.now }
+            ensures { result.0.hub ≡ hub.entry.now }
+        { add_users(rt, alloc, hub, second, "a") },
+        || -> (Seat<K>, u32)
+            requires { third.hub ≡ hub.now }
+            ensures { result.0.hub ≡ hub.entry.now }
+        { add_users(rt, alloc, hub, third, "b") },
+    )
+}
+
+/// Two threads add users of one hub: how many were added, and a seat that has seen all.
+fn add_by_two<K: Keeper + Send, R: Threads + Wait + Sync>(
+    rt: &R,
+    alloc: Global,
+    hub: &Hub<K>,
+    mut first: Seat<K>,
+) -> (u32, Seat<K>)
+    requires hub { first.hub ≡ hub.now }
+    ensures hub { result.1.hub ≡ hub.now }
+{
+    let second = split_off(rt, hub, &mut first);
+    let third = split_off(rt, hub, &mut first);
+    let ((second, some), (third, others)) = add_in_threads(rt, alloc, hub, second, third);
+    let first = joined(hub, first, second);
+    let first = joined(hub, first, third);
+    (some.saturating_add(others), first)
+}
+
+/// How many users two threads added, and the desk afterwards.
 fn added_by_two<K: Keeper + Send, R: Threads + Wait + Sync>(
     rt: &R,
     alloc: Global,
     desk: Desk<K>,
 ) -> Result<(u32, Desk<K>), Desk<K>> {
-    let (hub, mut first) = match Hub::new(alloc, desk) {
-        Ok(made) => made,
-        Err((_, desk)) => return Err(desk),
-    };
-    let second = first.split(rt, &hub);
-    let third = first.split(rt, &hub);
-    let (one, two) = thread::join(
-        rt,
-        || -> (Seat<K>, u32)
-            requires { second.hub ≡ hub }
-            ensures { result.0.hub ≡ hub }
-        { add_users(rt, alloc, &hub, second, "a") },
-        || -> (Seat<K>, u32)
-            requires { third.hub ≡ hub }
-            ensures { result.0.hub ≡ hub }
-        { add_users(rt, alloc, &hub, third, "b") },
-    );
-    let (second, some) = one;
-    let (third, others) = two;
-    first.join(&hub, second);
-    first.join(&hub, third);
-    Ok((some.saturating_add(others), hub.close(rt, first)))
+    let (hub, first) = made(alloc, desk)?;
+    let (added, first) = add_by_two(rt, alloc, &hub, first);
+    Ok((added, closed(rt, hub, first)))
 }
 
 /// Whether the ids of users are all different.
@@ -185,7 +277,7 @@ fn are_added_by_two<K: Keeper + Send, R: Threads + Wait + Sync>(
 #[test]
 fn users_from_two_threads(rt: HostRuntime) -> Result<(), Fail> {
     let alloc: Global = rt.alloc();
-    let are_added = are_added_by_two(&rt, alloc, desk(alloc)?);
+    let are_added = are_added_by_two(&rt, alloc, desk(alloc, SETTINGS)?);
     assert!(rt; are_added);
     Ok(())
 }
@@ -227,21 +319,32 @@ fn sees_both<K: Keeper, R: Wait>(rt: &R, alloc: Global, hub: &Hub<K>, seat: &mut
     hears(rt, alloc, hub, seat, &ask) == Heard::Both
 }
 
+/// Whether two seats have one list of users, and a seat that has seen all.
+fn share_by_two<K: Keeper, R: Wait>(
+    rt: &R,
+    alloc: Global,
+    hub: &Hub<K>,
+    mut first: Seat<K>,
+) -> (bool, Seat<K>)
+    requires hub { first.hub ≡ hub.now }
+    ensures hub { result.1.hub ≡ hub.now }
+{
+    let mut second = split_off(rt, hub, &mut first);
+    let are_added = add_at_both(rt, alloc, hub, &mut first, &mut second);
+    let mut first = joined(hub, first, second);
+    let are_seen = sees_both(rt, alloc, hub, &mut first);
+    (are_added && are_seen, first)
+}
+
 /// Whether two seats over this desk have one list of users; and the desk afterwards.
 fn shared_by_two<K: Keeper, R: Wait>(
     rt: &R,
     alloc: Global,
     desk: Desk<K>,
 ) -> Result<(bool, Desk<K>), Desk<K>> {
-    let (hub, mut first) = match Hub::new(alloc, desk) {
-        Ok(made) => made,
-        Err((_, desk)) => return Err(desk),
-    };
-    let mut second = first.split(rt, &hub);
-    let are_added = add_at_both(rt, alloc, &hub, &mut first, &mut second);
-    first.join(&hub, second);
-    let are_seen = sees_both(rt, alloc, &hub, &mut first);
-    Ok((are_added && are_seen, hub.close(rt, first)))
+    let (hub, first) = made(alloc, desk)?;
+    let (is_shared, first) = share_by_two(rt, alloc, &hub, first);
+    Ok((is_shared, closed(rt, hub, first)))
 }
 
 /// Whether the keeper of a desk keeps both.
@@ -263,7 +366,7 @@ fn is_kept_by_two<K: Keeper, R: Wait>(rt: &R, alloc: Global, desk: Desk<K>) -> b
 #[test]
 fn two_seats(rt: HostRuntime) -> Result<(), Fail> {
     let alloc: Global = rt.alloc();
-    let is_kept = is_kept_by_two(&rt, alloc, desk(alloc)?);
+    let is_kept = is_kept_by_two(&rt, alloc, desk(alloc, SETTINGS)?);
     assert!(rt; is_kept);
     Ok(())
 }

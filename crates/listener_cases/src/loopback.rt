@@ -1,10 +1,10 @@
 //! A registration over loopback, through the program's own listeners.
 ghost use Rattle.std.specs.Prelude.{◌≡◌, ◌≤◌, ◌+◌, ◌-◌, ◌^◌, None, min, sum_by};
 
-use crate::runs::{NOTHING, POLLING, given_with, has_bytes, run_over};
 use io_edge::{Door, Doors, EdgeFault};
 use memory_edge::MemoryPause;
 use run_ends::Status;
+use serve_runs::{NOTHING, POLLING, given_with, has_bytes, requests_of, run_over};
 use std::alloc::Global;
 use std::io::{Read, Write};
 use std::net::{Net, Shutdown, SocketAddr, TcpListener, TcpStream};
@@ -14,7 +14,6 @@ use std::thread;
 use std::thread::Threads;
 use std::time::{Clock, Duration};
 use tail_base::NoMemory;
-use talk_runs::talk_bytes;
 use tcp_edge::{TcpDoor, TcpDoors};
 
 /// Where the system let it listen.
@@ -137,7 +136,7 @@ fn answers<
 
 #[test]
 fn a_machine_registers_and_polls_over_loopback(rt: HostRuntime) -> Result<(), Fail> {
-    let (request, _answers) = talk_bytes(rt.alloc(), POLLING)?;
+    let request = requests_of(rt.alloc(), POLLING)?;
     let answers = answers(rt, rt.alloc(), &request)?;
     let is_registered = has_bytes(&answers, b"\"MachineAuthorized\":true");
     assert!(rt;

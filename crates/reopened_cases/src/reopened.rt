@@ -1,11 +1,10 @@
 //! Runs over a database in a file, one behind the other.
-use crate::FIRST;
-use crate::outside::run_over;
 use io_edge::{
     MemoryClock, MemoryEntropy, MemoryFiles, MemorySink, MemorySource, NamedBytes, NoLink,
 };
 use keeper_sqlite::HostOpener;
 use run_ends::Status;
+use serve_runs::{FIRST, top_over};
 use std::alloc::Global;
 use std::fs;
 use std::sync::Wait;
@@ -72,7 +71,7 @@ fn run<R: Threads + Wait + Sync>(
     words: &[String],
     given: &mut Outside,
 ) -> Status {
-    run_over(
+    top_over(
         threads,
         rt.alloc(),
         words,

@@ -1,6 +1,6 @@
 use Rattle.std.proofs.Common.{◌≡◌, ◌≤◌, ◌-◌}
-use Rattle.serve_cases.specs.declared.seats.TheConstants.{EACH}
-use Rattle.serve_cases.proofs.seats.add_users.Given as goal
+use Rattle.seat_cases.specs.declared.seats.TheConstants.{EACH}
+use Rattle.seat_cases.proofs.seats.add_users.Given as goal
 
 abbrev pub invariant-loop-number : goal.invariant-loop-number
 invariant-loop-number g l = record {
