@@ -1,6 +1,7 @@
 -- The search for a free address.
 use Rattle.std.proofs.Common.{◌≡◌, ◌<◌, ◌+◌, ℕ, Bool, true, false, not, ◌&&◌, ◌==◌, List, Option, Some, None, sym, ap, ◌∙◌, refl, arith, ◌⊎◌, inl, inr}
 use Rattle.std.specs.Option.{option_map}
+use Rattle.std.proofs.Math.Bool.{and-false}
 use Rattle.std.proofs.Math.Pow.{pow_pos}
 use Rattle.std.proofs.lemmas.Bool.{and_from, eq-eqb}
 use Rattle.net_addr.specs.Bits.{Address, Block, size_of}
@@ -22,11 +23,6 @@ and_not true true c d h = refl
 and_not false true c d h = refl
 and_not a false c d h = absurd (cc)
 
-and_not_true : (a b : Bool) → b ≡ true → (a && not b) ≡ false
-and_not_true true true h = refl
-and_not_true false true h = refl
-and_not_true a false h = absurd (cc)
-
 pub is_address_at : (p : Block) (base a : Address) (v6 : Bool) (n : ℕ) → base ≡ p.base → v6 ≡ base.v6 → a ≡ record { v6 = v6; bits = n } → a ≡ address_at p n
 is_address_at p base a v6 n b v is =
     let family : v6 ≡ p.base.v6 = v ∙ ap (λ (x : Address). x.v6) b in
@@ -39,7 +35,7 @@ free_at-is p machines a n is given fresh = ap (is_free p machines) (sym is) ∙ 
 pub free_at-not : (p : Block) (machines : List Machine) (a : Address) (n : ℕ) → a ≡ address_at p n
     → (may_be_given p a ≡ false) ⊎ (has_address machines a ≡ true) → free_at p machines n ≡ false
 free_at-not p machines a n is (inl kept) = ap (is_free p machines) (sym is) ∙ ap (λ b. b && not (has_address machines a)) kept
-free_at-not p machines a n is (inr held) = ap (is_free p machines) (sym is) ∙ and_not_true (may_be_given p a) (has_address machines a) held
+free_at-not p machines a n is (inr held) = ap (is_free p machines) (sym is) ∙ ap (λ b. may_be_given p a && not b) held ∙ and-false (may_be_given p a)
 
 pub free_address-found : (p : Block) (machines : List Machine) (a : Address) (n : ℕ) → a ≡ address_at p n
     → free_bits p machines ≡ Some n → Some a ≡ free_address p machines

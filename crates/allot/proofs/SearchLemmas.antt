@@ -103,7 +103,6 @@ least_from-none test (suc more) n h k low high =
           ]
     ]
 
--- there is a first that passes exactly where one does
 some_cond : (b : Bool) (n : ℕ) → is_some (if b then Some n else None) ≡ b
 some_cond true n = refl
 some_cond false n = refl
@@ -119,5 +118,6 @@ before_end test (x ∷ xs) =
       | inr fails ↦ rw fails (lt_next (position_or_len test xs) (length xs) ∙ before_end test xs)
     ]
 
+-- there is a first that passes exactly where one does
 pub some_position : {A : Type 0} (test : A → Bool) (xs : List A) → is_some (position test xs) ≡ list_any test xs
 some_position test xs = some_cond (nat_lt (position_or_len test xs) (length xs)) (position_or_len test xs) ∙ before_end test xs

@@ -2,6 +2,7 @@
 use Rattle.std.proofs.Common.{◌≡◌, ◌<◌, ◌&&◌, ◌||◌, Bool, true, false, List, [], ◌∷◌, length, arith, refl, ap, sym, ◌∙◌}
 use Rattle.std.specs.Prelude.{Contains, flat_map, map}
 use Rattle.std.specs.List.{list_any}
+use Rattle.std.proofs.Math.Bool.{and-false, and-true}
 use Rattle.std.proofs.lemmas.List.Folds.{list_any-append}
 use Rattle.net_rows.proofs.Members.{first_member, rest_member}
 
@@ -19,19 +20,11 @@ any_and true test xs = refl
 any_and false test [] = refl
 any_and false test (x ∷ xs) = any_and false test xs
 
-and_true : (a : Bool) → (a && true) ≡ a
-and_true true = refl
-and_true false = refl
-
-and_false : (a : Bool) → (a && false) ≡ false
-and_false true = refl
-and_false false = refl
-
 -- or behind it
 pub any_and_behind : {A : Type 0} (b : Bool) (test : A → Bool) (xs : List A) → list_any (λ x. test x && b) xs ≡ (list_any test xs && b)
 any_and_behind b test [] = refl
-any_and_behind true test (x ∷ xs) = ap (λ a. a || list_any (λ y. test y && true) xs) (and_true (test x)) ∙ (ap (λ a. test x || a) (any_and_behind true test xs ∙ and_true (list_any test xs)) ∙ sym (and_true (test x || list_any test xs)))
-any_and_behind false test (x ∷ xs) = ap (λ a. a || list_any (λ y. test y && false) xs) (and_false (test x)) ∙ (any_and_behind false test xs ∙ (and_false (list_any test xs) ∙ sym (and_false (test x || list_any test xs))))
+any_and_behind true test (x ∷ xs) = ap (λ a. a || list_any (λ y. test y && true) xs) (and-true (test x)) ∙ (ap (λ a. test x || a) (any_and_behind true test xs ∙ and-true (list_any test xs)) ∙ sym (and-true (test x || list_any test xs)))
+any_and_behind false test (x ∷ xs) = ap (λ a. a || list_any (λ y. test y && false) xs) (and-false (test x)) ∙ (any_and_behind false test xs ∙ (and-false (list_any test xs) ∙ sym (and-false (test x || list_any test xs))))
 
 -- of a list that has an element
 pub any_or : {A : Type 0} (b : Bool) (test : A → Bool) (xs : List A) → 0 < length xs → list_any (λ x. b || test x) xs ≡ (b || list_any test xs)

@@ -2,7 +2,7 @@
 use Rattle.std.proofs.Common.{◌≡◌, ◌<◌, ◌⊎◌, ◌&&◌, ◌||◌, ◌==◌, ℕ, suc, Bool, true, false, not, List, [], ◌∷◌, length, arith, refl, ap, sym, ◌∙◌, inl, inr}
 use Rattle.std.specs.Prelude.{Contains, flat_map}
 use Rattle.std.specs.List.{list_any}
-use Rattle.std.proofs.Math.Bool.{or-false}
+use Rattle.std.proofs.Math.Bool.{and-false, or-false}
 use Rattle.std.proofs.lemmas.List.Folds.{list_any-append}
 use Rattle.std.proofs.lemmas.Bool.{and_from, and_parts, both_ways, cases_Bool, ne_eqb, or_cases, or_left, or_right}
 use Rattle.net_addr.specs.Bits.{Address, Block, family_size}
@@ -43,22 +43,18 @@ use Rattle.filter_compile.proofs.ListLemmas.{any_and, any_and_behind, any_flat_m
 canonical_held : (held : Address → Bool) (addr : Address) → addr.bits < family_size addr.v6 → some_holds (canonical held) addr ≡ held addr
 canonical_held held addr small = (canonical_is held).same addr small
 
-and_false : (a : Bool) → (a && false) ≡ false
-and_false true = refl
-and_false false = refl
-
 -- ---- one filter rule
 
 -- a rule that is left out admits nothing
 rule_or_none_admits : (x y : Address) (proto port : ℕ) (protos : List ℕ) (sources : Sources) (dests : List DestRange)
     → list_any (rule_admits x y proto port) (rule_or_none protos sources dests) ≡ rule_admits x y proto port (record { sources = sources; dests = dests; protos = protos })
 rule_or_none_admits x y proto port protos sources [] =
-    ap (λ rules. list_any (rule_admits x y proto port) rules) (left_out protos sources [] refl) ∙ sym (and_false (list_any (λ p. p == proto) protos && source_admits sources x))
+    ap (λ rules. list_any (rule_admits x y proto port) rules) (left_out protos sources [] refl) ∙ sym (and-false (list_any (λ p. p == proto) protos && source_admits sources x))
 rule_or_none_admits x y proto port protos Any (d ∷ ds) =
     ap (λ rules. list_any (rule_admits x y proto port) rules) (kept_rule protos Any (d ∷ ds) (some_first d ds) refl) ∙ or-false (rule_admits x y proto port (record { sources = Any; dests = d ∷ ds; protos = protos }))
 rule_or_none_admits x y proto port protos (Only []) (d ∷ ds) =
     ap (λ rules. list_any (rule_admits x y proto port) rules) (from_nobody protos (Only []) (d ∷ ds) refl)
-    ∙ sym (ap (λ b. b && list_any (dest_admits y proto port) (d ∷ ds)) (and_false (list_any (λ p. p == proto) protos)))
+    ∙ sym (ap (λ b. b && list_any (dest_admits y proto port) (d ∷ ds)) (and-false (list_any (λ p. p == proto) protos)))
 rule_or_none_admits x y proto port protos (Only (p ∷ ps)) (d ∷ ds) =
     ap (λ rules. list_any (rule_admits x y proto port) rules) (kept_rule protos (Only (p ∷ ps)) (d ∷ ds) (some_first d ds) (ne_eqb (suc (length ps)) 0 (λ e. omega arith)))
     ∙ or-false (rule_admits x y proto port (record { sources = Only (p ∷ ps); dests = d ∷ ds; protos = protos }))

@@ -1,5 +1,6 @@
 -- Requests, one after the other.
 use Rattle.std.proofs.Common.{◌≡◌, ◌+◌, ◌-◌, ◌<◌, ◌≤◌, ◌++◌, ℕ, ℤ, inl, inr, Bool, true, false, cond, Option, None, Some, List, [], ◌∷◌, length, length-append, refl, ap, sym, ◌∙◌, subst, arith, codes}
+use Rattle.std.proofs.Math.Bool.{or-true}
 use Rattle.std.specs.Prelude.{nat_eq, ◌||◌}
 use Rattle.std.specs.Fmt.{digits}
 use Rattle.std.specs.List.{flat_map, starts_with}
@@ -25,14 +26,10 @@ busy_seen : (body : List ℕ) (close : Bool) → is_busy_answer (answer 503 body
 unfolding answer digits
 busy_seen body close = refl
 
-or_true : (b : Bool) → (b || true) ≡ true
-or_true true = refl
-or_true false = refl
-
 -- the last request of a connection is answered as one that ends it
 closing : (given : FrontSettings) (x : Exchange) → IsAnswered given 0 (x.request.close || true) (wanted_of given x.request) x.turns x.bytes x.ended x.broken
     → IsAnswered given 0 true (wanted_of given x.request) x.turns x.bytes x.ended x.broken
-closing given x answered = subst (λ (close : Bool). IsAnswered given 0 close (wanted_of given x.request) x.turns x.bytes x.ended x.broken) (or_true x.request.close) answered
+closing given x answered = subst (λ (close : Bool). IsAnswered given 0 close (wanted_of given x.request) x.turns x.bytes x.ended x.broken) (or-true x.request.close) answered
 
 pub answered_of : (given : FrontSettings) (x : Exchange) → IsExchange given 0 true x → is_busy_answer x.bytes ≡ false → IsAnswered given 0 true (wanted_of given x.request) x.turns x.bytes x.ended x.broken
 answered_of given x is fed = elim is [

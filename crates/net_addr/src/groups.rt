@@ -13,8 +13,8 @@ fn group_at(bits: u128, place: u32) -> u16
     (bits >> (16 * place) & 0xffff) as u16
 }
 
-/// The eight groups of an IPv6 address.
-fn v6_groups(bits: u128) -> [u16; 8]
+/// The eight groups of an IPv6 address, the highest first (RFC 4291, section 2.2).
+pub fn v6_groups(bits: u128) -> [u16; 8]
     ensures value { result ≡ v6_groups bits }
 {
     [
@@ -43,9 +43,9 @@ fn zeros(groups: &[u16]) -> usize
     place_of_other(groups).unwrap_or(groups.len())
 }
 
-/// How long the longest run of zero groups is.
+/// How long the longest run of zero groups is: 0 if no group is zero (RFC 5952, section 4.2.3).
 #[tactic(auto, using(crate::proofs::GroupLemmas::longest_end))]
-fn longest_run(groups: &[u16]) -> usize
+pub fn longest_run(groups: &[u16]) -> usize
     ensures value { result ≡ longest_run groups.now }
 {
     let mut longest = 0;
@@ -55,9 +55,9 @@ fn longest_run(groups: &[u16]) -> usize
     longest
 }
 
-/// How many groups stand before the first run of so many zero groups.
+/// How many groups stand before the first run of just so many zero groups: all if there is none.
 #[tactic(auto, using(crate::proofs::GroupLemmas::start_end))]
-fn start_of_run(groups: &[u16], n: usize) -> usize
+pub fn start_of_run(groups: &[u16], n: usize) -> usize
     ensures value { result ≡ start_of_run n groups.now }
 {
     for i in 0..groups.len() {

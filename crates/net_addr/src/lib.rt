@@ -15,6 +15,7 @@ mod tailnet;
 
 pub use addr::Addr;
 pub use endpoint::Endpoint;
+pub use groups::{longest_run, start_of_run, v6_groups};
 pub use laws::{
     addr_texts_differ, address_searches_find, endpoint_texts_differ, prefix_texts_differ,
     sorted_routes_rise,

@@ -1,5 +1,6 @@
 -- Without a policy each live machine sees all others.
 use Rattle.std.proofs.Common.{◌≡◌, ◌==◌, ◌&&◌, ℕ, Bool, true, false, not, List, [], ◌∷◌, arith, refl, sym, ◌∙◌, inl, inr, subst}
+use Rattle.std.proofs.Math.Bool.{and-true}
 use Rattle.std.specs.Prelude.{Contains, None}
 use Rattle.port_sets.specs.Ranges.{IsPorts}
 use Rattle.net_rows.specs.Damage.{damage}
@@ -25,10 +26,6 @@ open_entry entry m = elim (cut_member _ [] entry m) [
 sound_open : IsSoundRule open_rule
 sound_open = record { protos = tt; ports = open_entry }
 
-and_true : (b : Bool) → (b && true) ≡ b
-and_true true = refl
-and_true false = refl
-
 open_sound : AreSoundRules (rules_of None)
 open_sound r inside = elim (cut_member open_rule [] r inside) [
   | inl e ↦ subst (λ (z : Rule). IsSoundRule z) (sym e) sound_open
@@ -39,4 +36,4 @@ pub open_sight : (settings : SettingsFields) (rows : Rows) (live online : List �
     → Contains (seen_of settings None rows live online).nodes m → Contains (seen_of settings None rows live online).nodes p
     → sees (seen_of settings None rows live online) m p ≡ not (m.row.id == p.row.id)
 open_sight settings rows live online m p sound inside other =
-    sight_rules settings None rows live online m p open_sound sound inside other ∙ and_true (not (m.row.id == p.row.id))
+    sight_rules settings None rows live online m p open_sound sound inside other ∙ and-true (not (m.row.id == p.row.id))

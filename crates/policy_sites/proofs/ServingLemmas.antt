@@ -1,5 +1,6 @@
 -- The addresses of routes, and of two addresses beside them.
 use Rattle.std.proofs.Common.{◌≡◌, ◌+◌, ◌&&◌, ◌||◌, ◌∙◌, ℕ, Bool, true, false, List, [], ◌∷◌, ◌++◌, ap, arith, eqb, leb, refl}
+use Rattle.std.proofs.Math.Bool.{or-false}
 use Rattle.std.specs.Bool.{beq}
 use Rattle.std.proofs.lemmas.Bool.Decides.{nat_tests}
 use Rattle.std.proofs.lemmas.List.Folds.{list_any-append}
@@ -7,10 +8,6 @@ use Rattle.net_addr.specs.Bits.{Address, Block}
 use Rattle.net_addr.specs.Blocks.{holds, prefix_of_addr}
 use Rattle.net_rows.specs.Damage.{address_eq}
 use Rattle.range_sets.specs.Sets.{some_holds}
-
-or_false : (a : Bool) → (a || false) ≡ a
-or_false true = refl
-or_false false = refl
 
 last_first : (a b c : Bool) → ((c || a) || b) ≡ ((a || b) || c)
 last_first true true true = refl
@@ -23,7 +20,7 @@ last_first false false true = refl
 last_first false false false = refl
 
 pushed : (ps : List Block) (p : Block) (addr : Address) → some_holds (ps ++ p ∷ []) addr ≡ (some_holds ps addr || holds p addr)
-pushed ps p addr = list_any-append (λ q. holds q addr) ps (p ∷ []) ∙ ap (λ b. some_holds ps addr || b) (or_false (holds p addr))
+pushed ps p addr = list_any-append (λ q. holds q addr) ps (p ∷ []) ∙ ap (λ b. some_holds ps addr || b) (or-false (holds p addr))
 
 one_number : (a x : ℕ) → (leb a x && leb x (a + 0)) ≡ eqb a x
 one_number a x = grind (arith, nat_tests)

@@ -1,19 +1,11 @@
 -- Ranges joined hold the same ports, and stay apart.
 use Rattle.std.proofs.Common.{◌≡◌, ◌+◌, ◌<◌, ◌≤◌, ◌^◌, ℕ, Bool, true, false, ◌||◌, List, [], ◌∷◌, length, min, max, arith, refl, sym, ap, ◌∙◌}
+use Rattle.std.proofs.Math.Bool.{or_assoc}
 use Rattle.std.proofs.lemmas.Bool.{and_from, le-leb}
 use Rattle.std.proofs.lemmas.Bool.Decides.{nat_tests}
 use Rattle.port_sets.specs.declared.range.PortRange.{PortRange}
 use Rattle.port_sets.specs.Ranges.{in_piece, holds, IsApart, IsPorts, is_before, joined, inserted, merged_into}
-
-or_swap : (a b c : Bool) → (a || (b || c)) ≡ (b || (a || c))
-or_swap true true c = refl
-or_swap true false c = refl
-or_swap false true c = refl
-or_swap false false c = refl
-
-or_assoc : (a b c : Bool) → ((a || b) || c) ≡ (a || (b || c))
-or_assoc true b c = refl
-or_assoc false b c = refl
+use Rattle.tail_base.proofs.Bools.{or_swap}
 
 -- two ranges with no port between them, joined
 in_joined : (a b : PortRange) (port : ℕ) → is_before a b ≡ false → is_before b a ≡ false → in_piece port (joined a b) ≡ (in_piece port a || in_piece port b)

@@ -42,11 +42,9 @@ fn opened<K: Keeper>(alloc: Global, settings: Settings, keeper: K) -> Result<Des
     }
 }
 
-/// A desk over empty tables.
-fn desk(alloc: Global, text: &[u8]) -> Result<Desk<MemoryKeeper>, NoMemory> {
-    let settings = settings_of(alloc, text)?;
-    let keeper = MemoryKeeper::new(Tables::empty(alloc), Items::new(alloc));
-    opened(alloc, settings, keeper)
+/// A keeper of empty tables.
+fn empty(alloc: Global) -> MemoryKeeper {
+    MemoryKeeper::new(Tables::empty(alloc), Items::new(alloc))
 }
 
 /// What a seat replies.
@@ -274,10 +272,21 @@ fn are_added_by_two<K: Keeper + Send, R: Threads + Wait + Sync>(
     }
 }
 
+/// The same over what a keeper keeps.
+fn are_added_over<K: Keeper + Send, R: Threads + Wait + Sync>(
+    rt: &R,
+    alloc: Global,
+    text: &[u8],
+    keeper: K,
+) -> Result<bool, NoMemory> {
+    let desk = opened(alloc, settings_of(alloc, text)?, keeper)?;
+    Ok(are_added_by_two(rt, alloc, desk))
+}
+
 #[test]
 fn users_from_two_threads(rt: HostRuntime) -> Result<(), Fail> {
     let alloc: Global = rt.alloc();
-    let are_added = are_added_by_two(&rt, alloc, desk(alloc, SETTINGS)?);
+    let are_added = are_added_over(&rt, alloc, SETTINGS, empty(alloc))?;
     assert!(rt; are_added);
     Ok(())
 }
@@ -363,10 +372,21 @@ fn is_kept_by_two<K: Keeper, R: Wait>(rt: &R, alloc: Global, desk: Desk<K>) -> b
     }
 }
 
+/// The same over what a keeper keeps.
+fn is_kept_over<K: Keeper, R: Wait>(
+    rt: &R,
+    alloc: Global,
+    text: &[u8],
+    keeper: K,
+) -> Result<bool, NoMemory> {
+    let desk = opened(alloc, settings_of(alloc, text)?, keeper)?;
+    Ok(is_kept_by_two(rt, alloc, desk))
+}
+
 #[test]
 fn two_seats(rt: HostRuntime) -> Result<(), Fail> {
     let alloc: Global = rt.alloc();
-    let is_kept = is_kept_by_two(&rt, alloc, desk(alloc, SETTINGS)?);
+    let is_kept = is_kept_over(&rt, alloc, SETTINGS, empty(alloc))?;
     assert!(rt; is_kept);
     Ok(())
 }

@@ -1,5 +1,6 @@
 -- Elements in ascending order, each once: they rise, and they are those that were given.
 use Rattle.std.proofs.Common.{◌≡◌, ◌≤◌, ◌+◌, Bool, true, false, ◌||◌, List, [], ◌∷◌, length, arith, refl, sym, ap, ◌∙◌}
+use Rattle.std.proofs.Math.Bool.{or_assoc, or-false, or_self_left}
 use Rattle.std.specs.Prelude.{fold}
 use Rattle.std.specs.List.{AllByRecursion, list_any}
 use Rattle.std.specs.List.Sorted.{IsStrictlySortedBy}
@@ -8,6 +9,7 @@ use Rattle.std.specs.Ordering.{match_ordering, ordering_reverse}
 use Rattle.std.specs.declared.cmp.Ordering.{Ordering}
 use Rattle.std.specs.declared.cmp.Ordering.TheVariants.{Less, Equal, Greater}
 use Rattle.tail_base.specs.Sorted.{with_element, sorted_once}
+use Rattle.tail_base.proofs.Bools.{or_swap}
 
 -- a greater element is one that is less, turned round
 turned : {T : Type 0} (cmp : T → T → Ordering) → IsTotalOrder cmp → (x y : T) → cmp x y ≡ Greater → cmp y x ≡ Less
@@ -48,30 +50,12 @@ pub sorted_once_rises : {T : Type 0} (cmp : T → T → Ordering) → IsTotalOrd
 unfolding IsStrictlySortedBy
 sorted_once_rises cmp total xs = fold_rises cmp total [] xs tt
 
-or_assoc : (a b c : Bool) → ((a || b) || c) ≡ (a || (b || c))
-or_assoc true b c = refl
-or_assoc false b c = refl
-
-or_false : (a : Bool) → (a || false) ≡ a
-or_false true = refl
-or_false false = refl
-
-or_twice : (a b : Bool) → (a || b) ≡ (a || (a || b))
-or_twice true b = refl
-or_twice false b = refl
-
-or_swap : (a b c : Bool) → (a || (b || c)) ≡ (b || (a || c))
-or_swap true true c = refl
-or_swap true false c = refl
-or_swap false true c = refl
-or_swap false false c = refl
-
 -- an element passes some test of the list exactly where it passed before, or is the new one
 member_by : {T : Type 0} (cmp : T → T → Ordering) (same : (a b : T) → cmp a b ≡ Equal → a ≡ b) (test : T → Bool) (y x : T) (ys : List T)
     → list_any test (with_element cmp ys x) ≡ (test x || list_any test ys)
     → (o : Ordering) → cmp x y ≡ o → list_any test (match_ordering o (x ∷ y ∷ ys) (y ∷ ys) (y ∷ with_element cmp ys x)) ≡ (test x || (test y || list_any test ys))
 member_by cmp same test y x ys rest Less e = refl
-member_by cmp same test y x ys rest Equal e = rw (same x y e) (or_twice (test y) (list_any test ys))
+member_by cmp same test y x ys rest Equal e = rw (same x y e) (sym (or_self_left (test y) (list_any test ys)))
 member_by cmp same test y x ys rest Greater e = rw rest (or_swap (test y) (test x) (list_any test ys))
 
 with_element_any : {T : Type 0} (cmp : T → T → Ordering) (same : (a b : T) → cmp a b ≡ Equal → a ≡ b) (test : T → Bool) (ys : List T) (x : T)
@@ -89,7 +73,7 @@ fold_any cmp same test held (x ∷ xs) =
 -- the elements that pass a test are there exactly where some were given
 pub sorted_once_any : {T : Type 0} (cmp : T → T → Ordering) (same : (a b : T) → cmp a b ≡ Equal → a ≡ b) (test : T → Bool) (xs : List T)
     → list_any test (sorted_once cmp xs) ≡ list_any test xs
-sorted_once_any cmp same test xs = fold_any cmp same test [] xs ∙ or_false (list_any test xs)
+sorted_once_any cmp same test xs = fold_any cmp same test [] xs ∙ or-false (list_any test xs)
 
 with_element_same : {T : Type 0} (cmp other : T → T → Ordering) → ((x y : T) → cmp x y ≡ other x y) → (ys : List T) (x : T) → with_element cmp ys x ≡ with_element other ys x
 with_element_same cmp other same [] x = refl

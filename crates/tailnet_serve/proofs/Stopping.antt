@@ -1,5 +1,6 @@
 -- A worker goes on with one connection more, or stops.
 use Rattle.std.proofs.Common.{◌≡◌, ◌-◌, ◌||◌, ◌<◌, ◌≤◌, ℕ, zero, suc, Bool, true, false, List, [], ◌∷◌, ◌++◌, length, refl, sym, ap, ◌∙◌, subst, arith}
+use Rattle.std.proofs.Math.Bool.{or_assoc, or-false}
 use Rattle.std.proofs.lemmas.List.{append-nil}
 use Rattle.io_edge.specs.Edge.{IsWhereTold, Rose}
 use Rattle.desk_front.specs.declared.front_settings.FrontSettings.{FrontSettings}
@@ -12,17 +13,9 @@ use Rattle.tailnet_serve.specs.declared.worker.Stop.TheVariants as stop
 use Rattle.tailnet_serve.specs.declared.worker.WorkLimits.{WorkLimits}
 use Rattle.tailnet_serve.proofs.Visiting.{IsLeft, snoc_length, work_append}
 
-or_assoc : (a b d : Bool) → (a || (b || d)) ≡ ((a || b) || d)
-or_assoc true b d = refl
-or_assoc false b d = refl
-
-or_false : (a : Bool) → (a || false) ≡ a
-or_false true = refl
-or_false false = refl
-
 pub starved_snoc : (vs : List Visit) (v : Visit) → is_any_starved (vs ++ v ∷ []) ≡ (is_any_starved vs || is_starved v.closed)
-starved_snoc [] v = or_false (is_starved v.closed)
-starved_snoc (x ∷ xs) v = ap (λ z. is_starved x.closed || z) (starved_snoc xs v) ∙ or_assoc (is_starved x.closed) (is_any_starved xs) (is_starved v.closed)
+starved_snoc [] v = or-false (is_starved v.closed)
+starved_snoc (x ∷ xs) v = ap (λ z. is_starved x.closed || z) (starved_snoc xs v) ∙ sym (or_assoc (is_starved x.closed) (is_any_starved xs) (is_starved v.closed))
 
 -- the same hub
 pub same_hub : (hub : HubView) (a b : SeatView) (turns : List _) → IsSeatRun a b turns → a.hub ≡ hub → b.hub ≡ hub
