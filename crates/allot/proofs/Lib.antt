@@ -4,4 +4,5 @@ pub mod AddressLemmas
 pub mod AddressLaws
 pub mod Pigeonhole
 pub mod NameLemmas
+pub mod NumberedLemmas
 pub mod NameLaws

@@ -16,10 +16,6 @@ use Rattle.allot.proofs.Pigeonhole.{AreApart, pigeonhole, bytes_eq_equiv}
 abbrev pub is_free_number : List Machine → List ℕ → ℕ → Bool
 is_free_number machines base n = not (has_name machines (numbered_label base n))
 
-pub is_free_number-is : (machines : List Machine) (base name : List ℕ) (n : ℕ) (answer value : Bool) → name ≡ numbered_label base n
-    → answer ≡ has_name machines name → answer ≡ value → is_free_number machines base n ≡ not value
-is_free_number-is machines base name n answer value is has e = ap (λ b. not b) (ap (has_name machines) (sym is) ∙ (sym has ∙ e))
-
 pub found_name : (machines : List Machine) (base name : List ℕ) (n : ℕ) → name ≡ numbered_label base n
     → least_from (is_free_number machines base) (length machines + 1) 1 ≡ Some n → name ≡ numbered_label base (free_number machines base)
 found_name machines base name n is h = is ∙ ap (λ o. numbered_label base (unwrap_or o 0)) (sym h)

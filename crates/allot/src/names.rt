@@ -1,5 +1,5 @@
 //! Names for new machines.
-ghost use Rattle.std.specs.Prelude.{◌≡◌, ◌<◌, ◌≤◌, is_some, length, position, IfOk, IfSome};
+ghost use Rattle.std.specs.Prelude.{◌≡◌, ◌<◌, ◌≤◌, true, is_some, length, position, IfOk, IfSome, IsTrue};
 ghost use Rattle.tail_base.specs.Labels.{numbered_label};
 ghost use Rattle.net_rows.specs.declared.limits.TheConstants.{MACHINE_LIMIT};
 ghost use Rattle.allot.specs.Names.{holds_name, has_name, free_number, free_label, free_name};
@@ -23,19 +23,47 @@ fn first_with_name(machines: &[Machine], name: &Label) -> Option<usize>
         .position(|machine| holds_name(machine, name))
 }
 
-/// The place of a machine that has the name, if one has it. The guessed place is looked at first:
-/// machines mostly have their numbers in their order.
+/// Whether the machine has the label with this number. It takes no memory. Of a label that is cut to
+/// fit, the answer is no.
+#[tactic(auto, using(crate::proofs::NumberedLemmas::bears_number))]
+fn holds_number(machine: &Machine, base: &Label, n: u32) -> bool
+    ensures found { IsTrue result → holds_name (numbered_label base.now n) machine.now ≡ true }
+{
+    let mut buffer = itoa::Buffer::new();
+    let digits = buffer.format(n).as_bytes();
+    if base.as_slice().len() + 1 + digits.len() > 63 {
+        return false;
+    }
+    let Some(ending) = machine.name.as_slice().strip_prefix(base.as_slice()) else {
+        return false;
+    };
+    let Some(rest) = ending.strip_prefix(b"-") else {
+        return false;
+    };
+    rest == digits
+}
+
+/// The place of a machine that has the label with this number, if one has it. The guessed place is
+/// looked at first, without memory: machines mostly have their numbers in their order.
 #[tactic(auto, using(crate::proofs::SearchLemmas::some_position))]
-fn place_with_name(machines: &[Machine], guess: usize, name: &Label) -> Option<usize>
-    ensures value { is_some result ≡ has_name machines.now name.now }
-    ensures place { IfSome result (λ place. place < length machines.now) }
+fn place_with_number(
+    alloc: Global,
+    machines: &[Machine],
+    guess: usize,
+    base: &Label,
+    n: u32,
+) -> Result<Option<usize>, NoMemory>
+    ensures value { IfOk result (λ place.
+        is_some place ≡ has_name machines.now (numbered_label base.now n)) }
+    ensures place { IfOk result (λ found. IfSome found (λ place. place < length machines.now)) }
 {
     if let Some(machine) = machines.get(guess)
-        && holds_name(machine, name)
+        && holds_number(machine, base, n)
     {
-        return Some(guess);
+        return Ok(Some(guess));
     }
-    first_with_name(machines, name)
+    let name = base.numbered(alloc, n)?;
+    Ok(first_with_name(machines, &name))
 }
 
 /// The label with the least number from 1 on with which no machine has it.
@@ -46,10 +74,9 @@ fn numbered(alloc: Global, machines: &[Machine], base: &Label) -> Result<Label, 
 {
     let mut guess = 0;
     for n in 1..machines.len() as u32 + 2 {
-        let name = base.numbered(alloc, n)?;
-        match place_with_name(machines, guess, &name) {
+        match place_with_number(alloc, machines, guess, base, n)? {
             Some(place) => guess = place + 1,
-            None => return Ok(name),
+            None => return base.numbered(alloc, n),
         }
     }
     unreachable!()
@@ -57,11 +84,12 @@ fn numbered(alloc: Global, machines: &[Machine], base: &Label) -> Result<Label, 
 
 /// The label, or if a machine has it, the label with the least number from 1 on with which no
 /// machine has it.
+#[tactic(auto, using(crate::proofs::SearchLemmas::some_position))]
 fn free_label(alloc: Global, machines: &[Machine], base: Label) -> Result<Label, NoMemory>
     requires few { length machines.now ≤ MACHINE_LIMIT }
     ensures value { IfOk result (λ name. name ≡ free_label machines.now base) }
 {
-    if place_with_name(machines, 0, &base).is_some() {
+    if first_with_name(machines, &base).is_some() {
         numbered(alloc, machines, &base)
     } else {
         Ok(base)
