@@ -258,16 +258,30 @@ fn all_differ(tables: &Tables) -> bool {
     true
 }
 
-/// Whether two threads add a hundred users, whose ids are all different.
+/// Whether these are so many users, whose ids are all different.
+fn are_all(tables: &Tables, count: usize) -> bool {
+    tables.users().len() == count && all_differ(tables)
+}
+
+/// Whether a desk, which is closed then, has so many users, whose ids are all different.
+fn has_all<K: Keeper>(desk: Desk<K>, count: usize) -> bool {
+    let are_there = are_all(desk.tables(), count);
+    desk.close();
+    are_there
+}
+
+/// Whether two threads add so many users, whose ids are all different.
 fn are_added_by_two<K: Keeper + Send, R: Threads + Wait + Sync>(
     rt: &R,
     alloc: Global,
     desk: Desk<K>,
+    count: u32,
 ) -> bool {
     match added_by_two(rt, alloc, desk) {
-        Ok((added, desk)) => added == 100
-            && desk.tables().users().len() == 100
-            && all_differ(desk.tables()),
+        Ok((added, desk)) => {
+            let are_there = has_all(desk, count as usize);
+            added == count && are_there
+        }
         Err(_) => false,
     }
 }
@@ -276,17 +290,21 @@ fn are_added_by_two<K: Keeper + Send, R: Threads + Wait + Sync>(
 fn are_added_over<K: Keeper + Send, R: Threads + Wait + Sync>(
     rt: &R,
     alloc: Global,
-    text: &[u8],
+    settings: Settings,
     keeper: K,
-) -> Result<bool, NoMemory> {
-    let desk = opened(alloc, settings_of(alloc, text)?, keeper)?;
-    Ok(are_added_by_two(rt, alloc, desk))
+    count: u32,
+) -> bool {
+    match opened(alloc, settings, keeper) {
+        Ok(desk) => are_added_by_two(rt, alloc, desk, count),
+        Err(_) => false,
+    }
 }
 
 #[test]
 fn users_from_two_threads(rt: HostRuntime) -> Result<(), Fail> {
     let alloc: Global = rt.alloc();
-    let are_added = are_added_over(&rt, alloc, SETTINGS, empty(alloc))?;
+    let settings = settings_of(alloc, SETTINGS)?;
+    let are_added = are_added_over(&rt, alloc, settings, empty(alloc), 100);
     assert!(rt; are_added);
     Ok(())
 }
@@ -367,26 +385,27 @@ fn keeps_both<K: Keeper>(alloc: Global, desk: Desk<K>) -> bool {
 /// Whether two seats have one list of users, which the keeper keeps.
 fn is_kept_by_two<K: Keeper, R: Wait>(rt: &R, alloc: Global, desk: Desk<K>) -> bool {
     match shared_by_two(rt, alloc, desk) {
-        Ok((is_shared, desk)) => is_shared && keeps_both(alloc, desk),
+        Ok((is_shared, desk)) => {
+            let is_kept = keeps_both(alloc, desk);
+            is_shared && is_kept
+        }
         Err(_) => false,
     }
 }
 
 /// The same over what a keeper keeps.
-fn is_kept_over<K: Keeper, R: Wait>(
-    rt: &R,
-    alloc: Global,
-    text: &[u8],
-    keeper: K,
-) -> Result<bool, NoMemory> {
-    let desk = opened(alloc, settings_of(alloc, text)?, keeper)?;
-    Ok(is_kept_by_two(rt, alloc, desk))
+fn is_kept_over<K: Keeper, R: Wait>(rt: &R, alloc: Global, settings: Settings, keeper: K) -> bool {
+    match opened(alloc, settings, keeper) {
+        Ok(desk) => is_kept_by_two(rt, alloc, desk),
+        Err(_) => false,
+    }
 }
 
 #[test]
 fn two_seats(rt: HostRuntime) -> Result<(), Fail> {
     let alloc: Global = rt.alloc();
-    let is_kept = is_kept_over(&rt, alloc, SETTINGS, empty(alloc))?;
+    let settings = settings_of(alloc, SETTINGS)?;
+    let is_kept = is_kept_over(&rt, alloc, settings, empty(alloc));
     assert!(rt; is_kept);
     Ok(())
 }
