@@ -279,6 +279,8 @@ fn write_load<O: Sink>(alloc: Global, plan: &LoadPlan, output: &mut O) -> Status
 
 /// Makes the requests of so many machines and events, serves them over tables in memory, and writes
 /// what it counted.
+// Not inlined, so that the stack of a smaller command has no room for this one.
+#[inline(never)]
 pub fn load_command<O: Sink, E: Sink>(
     alloc: Global,
     machines: u32,

@@ -56,6 +56,8 @@ fn command_line(status: Status) -> &'static str
 /// Sends the request of an operator's command to its server, and writes the answer's body and a line
 /// feed: on the output where its status is 2xx, else on errors. The line of any other end goes to
 /// errors.
+// Not inlined, so that the stack of a smaller command has no room for this one.
+#[inline(never)]
 pub fn operator_command<O: Sink, E: Sink, F: Files, L: Link>(
     alloc: Global,
     call: &OperatorCall,

@@ -85,6 +85,8 @@ fn prepare<F: Files>(
 /// All that `pipe` does once its words are read: it reads the settings file, opens a desk over what
 /// the opener keeps, hands it the seed, if there is one, and serves the requests of the input on the
 /// output. The line of its status goes to errors. It has no doors and no link.
+// Not inlined, so that the stack of a smaller command has no room for this one.
+#[inline(never)]
 pub fn pipe_command<I: Source, O: Sink, E: Sink, F: Files, P: Opener, C: Clock, N: Entropy>(
     alloc: Global,
     settings: &str,

@@ -16,6 +16,8 @@ use std::thread::Threads;
 /// opener keeps, and serves the connections that come at doors, each door by a worker of its own, until
 /// all workers have stopped. The line of its status goes to errors. What is known of the rest of the
 /// outside is any.
+// Not inlined, so that the stack of a smaller command has no room for this one.
+#[inline(never)]
 pub fn serve_command<
     R: Threads + Wait + Sync,
     E: Sink,

@@ -74,14 +74,15 @@ where
     ensures link { asks_link asked.now ≡ false → link.new ≡ link.old }
 {
     match asked {
+        // First, as code lies in the order of its calls, and the quickest command's is to lie together.
+        Some(Invocation::PolicyCheck { file }) => {
+            policy_check(alloc, file.as_str(), output, errors, files)
+        }
         Some(Invocation::Pipe { settings, seed }) => {
             let (settings, seed) = (settings.as_str(), text_of(seed));
             pipe_command(
                 alloc, settings, seed, input, output, errors, files, opener, clock, entropy,
             )
-        }
-        Some(Invocation::PolicyCheck { file }) => {
-            policy_check(alloc, file.as_str(), output, errors, files)
         }
         Some(Invocation::Serve { settings }) => serve_command(
             rt,
