@@ -1,7 +1,7 @@
 //! HuJSON texts and their standard texts.
-use crate::office::OFFICE;
 use hujson_read::{HujsonFault, standardize};
 use std::alloc::Global;
+use talk_tables::OFFICE;
 
 /// Texts with their standard texts.
 const SOUND: [(&[u8], &[u8]); 16] = [

@@ -1,8 +1,9 @@
-//! Conversations as lines of a text (`talk_runs` says how they are written), for tests.
+//! Conversations as lines of a text (`talk_runs` says how they are written), and a policy, for tests.
 #![tactic(auto)]
 
 mod extras;
 mod lives;
+mod office;
 mod policies;
 mod polls;
 mod refusals;
@@ -11,6 +12,7 @@ mod worked;
 
 pub use extras::{FAULTY_RECORDS, RECORDS};
 pub use lives::LIVES;
+pub use office::OFFICE;
 pub use policies::{KEPT, SAVES, TAGS, TESTS};
 pub use polls::FAULTED_POLLS;
 pub use refusals::{FAULTY_BODIES, REFUSALS};
