@@ -10,7 +10,7 @@ use crate::operator_answer::OperatorAnswer;
 use desk_state::{
     Decision, NodeLine, Refusal, Snapshot, machine_gone, node_line, row_replaced, tags_defined,
 };
-use moments::Moment;
+use net_addr::Moment;
 use net_rows::{Change, Machine, Tables};
 use std::alloc::Global;
 use tail_base::{Duplicate, Failure, Items, Label, NoMemory, Tag, Text, sorted_once};

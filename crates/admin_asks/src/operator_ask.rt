@@ -3,8 +3,7 @@ ghost use Rattle.std.specs.Prelude.{◌≡◌};
 ghost use Rattle.admin_asks.specs.Draws as spec;
 
 use desk_state::KeyForm;
-use moments::Moment;
-use net_addr::Prefix;
+use net_addr::{Moment, Prefix};
 use tail_base::{Items, Tag, Text};
 use tailcfg::DnsExtra;
 

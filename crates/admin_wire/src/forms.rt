@@ -8,8 +8,7 @@ ghost use Rattle.tail_base.specs.Steps.{Gives};
 ghost use Rattle.admin_wire.specs.Forms.{admit_form_at, admit_form_of_body, empty_form_of_body, expiry_form_of_body, key_form_at, key_form_of_body, needed_routes, needed_tags, needed_text, rename_form_of_body, routes_form_at, routes_form_of_body, tags_form_of_body, user_form_of_body};
 
 use desk_state::KeyForm;
-use moments::Moment;
-use net_addr::{Prefix, sorted_routes};
+use net_addr::{Moment, Prefix, sorted_routes};
 use net_rows::TAG_LIMIT;
 use serde_json::Value;
 use std::alloc::Global;

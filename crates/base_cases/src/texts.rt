@@ -1,6 +1,5 @@
 //! What is read of a text, and written again.
-use moments::Moment;
-use net_addr::{Addr, Endpoint, Prefix, PrefixFault};
+use net_addr::{Addr, Endpoint, Moment, Prefix, PrefixFault};
 use std::alloc::Global;
 use tail_base::{DiscoKey, MachineKey, NoMemory, NodeKey, Text};
 

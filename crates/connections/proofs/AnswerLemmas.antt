@@ -1,7 +1,7 @@
 -- One request and its answer.
 use Rattle.std.proofs.Common.{◌≡◌, ◌≤◌, ◌+◌, ℕ, ℤ, Bool, true, false, ◌||◌, ◌==◌, Option, None, Some, List, [], ◌∷◌, inl, inr, refl, ap, sym, subst, ◌∙◌, arith, Result, Ok, Err, add-zero, codes, if◌then◌else◌}
 use Rattle.std.specs.Option.{option_map}
-use Rattle.moments.specs.Moments.{clamped}
+use Rattle.net_addr.specs.Moments.{clamped}
 use Rattle.io_edge.specs.Edge.{IsWhereTold}
 use Rattle.io_edge.specs.Stream as stream
 use Rattle.http_front.specs.AnswerBytes.{answer}

@@ -1,7 +1,7 @@
 -- A poll, turn by turn.
 use Rattle.std.proofs.Common.{◌≡◌, ◌<◌, ◌≤◌, ◌-◌, ◌∙◌, ℕ, ℤ, Bool, true, false, Option, None, Some, List, [], ◌∷◌, ◌++◌, Result, Ok, Err, inl, inr, refl, sym, ap, subst, arith, if◌then◌else◌}
 use Rattle.std.proofs.lemmas.List.{append-nil}
-use Rattle.moments.specs.Moments.{clamped}
+use Rattle.net_addr.specs.Moments.{clamped}
 use Rattle.io_edge.specs.Stream as stream
 use Rattle.tail_base.specs.declared.key.MachineKey.{MachineKey}
 use Rattle.tailcfg.specs.declared.response.Response.{Response}

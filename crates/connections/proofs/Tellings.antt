@@ -2,7 +2,7 @@
 use Rattle.std.proofs.Common.{◌≡◌, ◌+◌, ◌-◌, ℕ, ℤ, Option, None, Some, List, [], ◌∷◌, ◌++◌, length, ap, ◌∙◌, arith, subst, length-append, add-zero}
 use Rattle.io_edge.specs.Edge.{IsWhereTold}
 use Rattle.std.specs.Option.{option_map}
-use Rattle.moments.specs.Moments.{clamped}
+use Rattle.net_addr.specs.Moments.{clamped}
 use Rattle.tailnet_desk.specs.Asks.{event_words}
 use Rattle.tailnet_desk.specs.Chains.{Turned}
 use Rattle.tailnet_desk.specs.Step.{moment_of}

@@ -1,7 +1,7 @@
 -- What the outside tells at a moment, and what a list of turns took of it.
 use Rattle.std.specs.Prelude.{◌≡◌, ◌≤◌, ◌+◌, ℕ, ℤ, Bool, true, false, Option, None, Some, List, [], ◌∷◌, length, if◌then◌else◌}
 use Rattle.std.specs.Option.{option_map}
-use Rattle.moments.specs.Moments.{clamped}
+use Rattle.net_addr.specs.Moments.{clamped}
 use Rattle.io_edge.specs.Edge.{IsWhereTold, Rose, RoseBy}
 use Rattle.io_edge.specs.Stream as stream
 use Rattle.tailnet_desk.specs.Asks.{ask_draws, draws, event_words}

@@ -17,7 +17,7 @@ use fresh_maps::NodeTexts;
 use http::StatusCode;
 use http_front::{Request, no_memory_answer, plain_answer};
 use io_edge::{Clock, Entropy, Pause, Sink};
-use moments::Moment;
+use net_addr::Moment;
 use run_ends::{Closed, send};
 use std::alloc::Global;
 use tail_base::NoMemory;

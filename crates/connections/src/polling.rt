@@ -15,7 +15,7 @@ use crate::streaming::{complete, send_drained, send_first, send_opening};
 use desk_front::{Front, Poll};
 use fresh_maps::NodeTexts;
 use io_edge::{Clock, Entropy, Pause, Sink};
-use moments::Moment;
+use net_addr::Moment;
 use run_ends::Closed;
 use std::alloc::Global;
 use tail_base::{MachineKey, Text};

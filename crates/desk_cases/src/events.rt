@@ -4,7 +4,7 @@ ghost use Rattle.tailnet_desk.specs.Asks.{IsShort};
 use crate::asks::ask_of;
 use crate::parts::{cut, machine_key, node_key};
 use crate::replies::tell_reply;
-use moments::Moment;
+use net_addr::Moment;
 use row_keeper::Keeper;
 use std::alloc::Global;
 use std::test::Fail;

@@ -4,7 +4,7 @@
 //! an event, and the lines `< REPLY` behind it are what the desk replies; `%x` stands for 64 times `x`.
 use crate::events::event;
 use crate::parts::{cut, wide};
-use moments::Moment;
+use net_addr::Moment;
 use net_rows::Tables;
 use row_keeper::{Keeper, MemoryKeeper};
 use settings::Settings;

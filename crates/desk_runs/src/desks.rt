@@ -4,7 +4,7 @@ ghost use Rattle.tailnet_desk.specs.Asks.{IsShort};
 use crate::asks::{ASKS, ask_of};
 use crate::shown::text_of;
 use desk_front::Front;
-use moments::Moment;
+use net_addr::Moment;
 use net_rows::Tables;
 use row_keeper::{Keeper, MemoryKeeper};
 use settings::Settings;

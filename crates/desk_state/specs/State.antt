@@ -2,7 +2,7 @@
 use Rattle.std.specs.Prelude.{ℕ, ℤ, pos, ◌+ℤ◌, int_lt, Bool, true, false, List, [], ◌∷◌, Option, Some, None, filter, map, if◌then◌else◌, not, ◌&&◌, ◌||◌}
 use Rattle.std.specs.Int.{int_min}
 use Rattle.std.specs.Option.{option_map}
-use Rattle.moments.specs.Moments.{later_of, last_moment}
+use Rattle.net_addr.specs.Moments.{later_of, last_moment}
 use Rattle.net_rows.specs.declared.rows.Rows.{Rows}
 use Rattle.net_rows.specs.Shelf.{put_row, row_at, without}
 use Rattle.net_rows.specs.declared.change.RowKey.{RowKey}

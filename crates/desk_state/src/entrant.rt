@@ -3,8 +3,7 @@ ghost use Rattle.std.specs.Prelude.{◌≡◌, ◌++◌, IfOk};
 ghost use Rattle.desk_state.specs.Rows as spec;
 
 use crate::Snapshot;
-use moments::Moment;
-use net_addr::Prefix;
+use net_addr::{Moment, Prefix};
 use std::alloc::Global;
 use tail_base::{Duplicate, Items, NoMemory, NodeKey, Tag, Text};
 

@@ -1,5 +1,5 @@
 //! What an operator asks of a new pre-auth key.
-use moments::Moment;
+use net_addr::Moment;
 use tail_base::{Items, Tag, Text};
 
 /// What an operator asks of a new pre-auth key.

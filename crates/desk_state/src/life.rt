@@ -4,7 +4,7 @@ ghost use Rattle.desk_state.specs.State.{State, is_ahead, is_live, is_live_with,
 
 use crate::presence::{MachinePresence, Presence};
 use crate::session::Sessions;
-use moments::Moment;
+use net_addr::Moment;
 use net_rows::{Machine, Pending, Shelf, Tables};
 use policy_eval::InForce;
 use settings::{Settings, SettingsFields};

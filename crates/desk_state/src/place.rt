@@ -6,8 +6,7 @@ ghost use Rattle.desk_state.specs.Rows as spec;
 
 use crate::{Refusal, Scarce, Snapshot};
 use allot::{free_name, least_address};
-use moments::Moment;
-use net_addr::{Addr, Prefix};
+use net_addr::{Addr, Moment, Prefix};
 use net_rows::{Kind, Machine};
 use std::alloc::Global;
 use tail_base::{Duplicate, Failure, Items, Label, MachineKey, NoMemory, NodeKey, Text};

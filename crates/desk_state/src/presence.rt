@@ -1,7 +1,7 @@
 //! Whether machines are online.
 ghost use Rattle.std.specs.Prelude.{◌≡◌};
 
-use moments::Moment;
+use net_addr::Moment;
 use net_rows::HasId;
 use std::alloc::Global;
 use tail_base::{Duplicate, NoMemory};

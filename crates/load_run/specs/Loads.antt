@@ -1,6 +1,6 @@
 -- The outcome of the command `load`.
 use Rattle.std.specs.Prelude.{◌≡◌, ℕ, ℤ, pos, ◌+◌, Bool, true, false, Option, None, Some, List, [], ◌∷◌, ◌++◌, codes, if◌then◌else◌}
-use Rattle.moments.specs.Moments.{clamped}
+use Rattle.net_addr.specs.Moments.{clamped}
 use Rattle.net_rows.specs.Rows.{empty_rows}
 use Rattle.tailnet_desk.specs.Chains.{IsHistory, Turned}
 use Rattle.tailnet_desk.specs.Opening.{opening}

@@ -24,7 +24,7 @@ use crate::task::{FIRST_MOMENT, LoadPlan};
 use crate::watched::WatchedDesk;
 use desk_front::Front;
 use io_edge::Sink;
-use moments::Moment;
+use net_addr::Moment;
 use row_keeper::Keeper;
 use run_ends::{Status, note_line, write_all};
 use settings::Settings;

@@ -2,7 +2,7 @@
 ghost use Rattle.tailnet_desk.specs.Seated.{point_of};
 
 use crate::heard::Heard;
-use moments::Moment;
+use net_addr::Moment;
 use row_keeper::Keeper;
 use std::alloc::Global;
 use tail_base::{MachineKey, NodeKey, Text};

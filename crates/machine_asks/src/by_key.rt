@@ -11,7 +11,7 @@ use desk_state::{
     row_change, same_row, tags_granted,
 };
 use fresh_maps::profile_of;
-use moments::Moment;
+use net_addr::Moment;
 use net_rows::{AuthKey, Change, Machine, Pending};
 use std::alloc::Global;
 use tail_base::{Duplicate, Failure, Items, MachineKey, NoMemory, Tag, Text, sorted_once};

@@ -9,7 +9,7 @@ use crate::MachineAnswer;
 use crate::ids::one_id;
 use desk_state::{Decision, Refusal, Snapshot, is_ahead, is_live, machine_gone, row_replaced};
 use fresh_maps::profile_of;
-use moments::Moment;
+use net_addr::Moment;
 use net_rows::{Change, Machine};
 use std::alloc::Global;
 use tail_base::{Duplicate, Failure, Items, NoMemory, NodeKey};

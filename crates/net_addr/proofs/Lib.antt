@@ -1,18 +1,23 @@
 pub mod AddrLemmas
 pub mod BlockLemmas
+pub mod CivilLemmas
+pub mod DayLemmas
 pub mod DecimalLemmas
 pub mod EndpointLemmas
 pub mod FreeLemmas
 pub mod GapLemmas
 pub mod GroupLemmas
 pub mod HexLemmas
+pub mod MomentLemmas
 pub mod PartLemmas
 pub mod PrefixLemmas
 pub mod QuadLemmas
 pub mod ReadLemmas
 mod RouteLemmas
 pub mod SearchLemmas
+pub mod SpelledLemmas
 pub mod SplitLemmas
+pub mod StampLemmas
 pub mod TextLemmas
 pub mod TidyLemmas
 pub mod V6Lemmas

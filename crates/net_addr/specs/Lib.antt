@@ -1,9 +1,13 @@
 pub mod AddrTexts
 pub mod Bits
 pub mod Blocks
+pub mod Civil
 pub mod EndpointTexts
 pub mod GroupReads
 pub mod GroupTexts
+pub mod MomentReads
+pub mod MomentTexts
+pub mod Moments
 pub mod Parts
 pub mod PrefixTexts
 pub mod QuadTexts
@@ -11,6 +15,7 @@ pub mod Routes
 pub mod Searches
 pub mod SpellsAddr
 pub mod SpellsEndpoint
+pub mod SpellsMoment
 pub mod SpellsPrefix
 pub mod Tailnet
 pub mod V6Texts

@@ -1,11 +1,13 @@
 //! Laws of the definitions. None of these functions does anything: each states a law.
-ghost use Rattle.std.specs.Prelude.{◌≡◌, ◌<◌, ◌^◌, Bool, List, true};
+ghost use Rattle.std.specs.Prelude.{◌≡◌, ◌<◌, ◌^◌, Bool, List, true, ℤ};
 ghost use Rattle.std.specs.List.{list_any};
 ghost use Rattle.std.specs.List.Sorted.{IsStrictlySortedBy};
 ghost use Rattle.net_addr.specs.AddrTexts.{addr_text};
 ghost use Rattle.net_addr.specs.Bits.{Address, Block, IsBlock, family_size};
 ghost use Rattle.net_addr.specs.declared.endpoint.Endpoint.{Endpoint};
 ghost use Rattle.net_addr.specs.EndpointTexts.{endpoint_text};
+ghost use Rattle.net_addr.specs.Moments.{IsMoment};
+ghost use Rattle.net_addr.specs.MomentTexts.{moment_text};
 ghost use Rattle.net_addr.specs.PrefixTexts.{prefix_text};
 ghost use Rattle.net_addr.specs.Routes.{route_cmp, sorted_routes};
 ghost use Rattle.net_addr.specs.Searches.{some_address};
@@ -27,6 +29,11 @@ pub fn endpoint_texts_differ()
         → a.addr.bits < family_size a.addr.v6 → b.addr.bits < family_size b.addr.v6
         → a.port < 2 ^ 16 → b.port < 2 ^ 16
         → endpoint_text a ≡ endpoint_text b → a ≡ b }
+{}
+
+/// No two moments share a text.
+pub fn moment_texts_differ()
+    ensures differ { (a b : ℤ) → IsMoment a → IsMoment b → moment_text a ≡ moment_text b → a ≡ b }
 {}
 
 /// Routes in order rise strictly, and are those that were given: some route passes a test exactly

@@ -2,7 +2,7 @@
 ghost use Rattle.std.specs.Prelude.{◌≡◌};
 
 use crate::id::HasId;
-use moments::Moment;
+use net_addr::Moment;
 use std::alloc::Global;
 use tail_base::{Duplicate, Items, NoMemory, Tag, Text};
 

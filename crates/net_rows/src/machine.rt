@@ -2,8 +2,7 @@
 ghost use Rattle.std.specs.Prelude.{◌≡◌};
 
 use crate::id::HasId;
-use moments::Moment;
-use net_addr::{Addr, Endpoint, Prefix};
+use net_addr::{Addr, Endpoint, Moment, Prefix};
 use std::alloc::Global;
 use tail_base::{DiscoKey, Duplicate, Items, Label, MachineKey, NoMemory, NodeKey, Tag, Text};
 

@@ -2,8 +2,7 @@
 ghost use Rattle.std.specs.Prelude.{◌≡◌};
 
 use crate::id::HasId;
-use moments::Moment;
-use net_addr::Prefix;
+use net_addr::{Moment, Prefix};
 use std::alloc::Global;
 use tail_base::{Duplicate, Items, MachineKey, NoMemory, NodeKey, Tag, Text};
 

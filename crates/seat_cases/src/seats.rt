@@ -3,7 +3,7 @@ ghost use Rattle.std.specs.Prelude.{◌≡◌, IfOk};
 ghost use Rattle.tailnet_desk.specs.Asks.{IsShort};
 
 use admin_asks::{OperatorAnswer, OperatorAsk};
-use moments::Moment;
+use net_addr::Moment;
 use net_rows::{Tables, User};
 use row_keeper::{Keeper, MemoryKeeper};
 use session_hub::{Hub, Seat};

@@ -4,7 +4,7 @@ ghost use Rattle.tailnet_desk.specs.Asks.{IsShortEvent};
 ghost use Rattle.tailnet_desk.specs.Seated.{point_of};
 ghost use Rattle.tailnet_desk.specs.Turns.{IsTurn};
 
-use moments::Moment;
+use net_addr::Moment;
 use row_keeper::Keeper;
 use std::alloc::Global;
 use tail_base::{MachineKey, NodeKey, Text};

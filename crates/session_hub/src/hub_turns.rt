@@ -3,7 +3,7 @@ ghost use Rattle.std.specs.Prelude.{◌≡◌};
 
 use crate::hub::Hub;
 use crate::seat::Seat;
-use moments::Moment;
+use net_addr::Moment;
 use row_keeper::Keeper;
 use std::alloc::Global;
 use std::sync::Wait;

@@ -11,7 +11,7 @@ ghost use Rattle.tailnet_desk.specs.declared.reply.Reply.TheVariants as reply;
 use crate::call::Call;
 use crate::hub::Hub;
 use crate::steps::Place;
-use moments::Moment;
+use net_addr::Moment;
 use row_keeper::Keeper;
 use std::alloc::Global;
 use std::marker::{Brand, Model};

@@ -8,7 +8,7 @@ use Rattle.std.proofs.lemmas.Bool.{and_parts, and_from, eq-eqb}
 use Rattle.std.proofs.lemmas.Bool.Decides.{nat_tests}
 use Rattle.std.proofs.lemmas.Int.{ints}
 use Rattle.std.proofs.lemmas.List.Elements.{All-cons, All-head, All-nil, All-tail}
-use Rattle.moments.specs.Moments.{IsMoment, first_moment, last_moment}
+use Rattle.net_addr.specs.Moments.{IsMoment, first_moment, last_moment}
 use Rattle.net_addr.specs.AddrTexts.{addr_of_text, addr_text}
 use Rattle.net_addr.specs.Bits.{Block, IsBlock, family_bits, family_size, size_of}
 use Rattle.net_addr.specs.EndpointTexts.{endpoint_of_text, endpoint_text}

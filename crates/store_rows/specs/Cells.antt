@@ -1,6 +1,6 @@
 -- How single values are stored.
 use Rattle.std.specs.Prelude.{ℤ, pos, Bool, true, false, Option, Some, None}
-use Rattle.moments.specs.Moments.{IsMoment}
+use Rattle.net_addr.specs.Moments.{IsMoment}
 use Rattle.store_rows.specs.declared.cell.Cell.{Cell}
 use Rattle.store_rows.specs.declared.cell.Cell.TheVariants.{Null, Number}
 

@@ -2,7 +2,7 @@
 use Rattle.std.specs.Prelude.{◌≡◌, ◌<◌, ◌^◌, ℕ, true, false, List, length, IfSome, ⊤}
 use Rattle.std.specs.List.{All, AllByRecursion}
 use Rattle.std.specs.Str.{is_utf8}
-use Rattle.moments.specs.Moments.{IsMoment}
+use Rattle.net_addr.specs.Moments.{IsMoment}
 use Rattle.net_addr.specs.AddrTexts.{addr_text}
 use Rattle.net_addr.specs.Bits.{IsBlock}
 use Rattle.net_rows.specs.declared.change.Change.{Change}

@@ -3,7 +3,7 @@ use Rattle.std.specs.Prelude.{ℕ, ℤ, pos, negsuc, Bool, true, false, List, []
 use Rattle.std.specs.List.{list_all}
 use Rattle.std.specs.Option.{option_and_then, option_map}
 use Rattle.std.specs.Result.{result_ok}
-use Rattle.moments.specs.Moments.{first_moment, last_moment}
+use Rattle.net_addr.specs.Moments.{first_moment, last_moment}
 use Rattle.net_addr.specs.AddrTexts.{addr_of_text, addr_text}
 use Rattle.net_addr.specs.Bits.{Address, Block, family_bits, family_size, size_of}
 use Rattle.net_addr.specs.EndpointTexts.{endpoint_of_text, endpoint_text}

@@ -1,7 +1,7 @@
 -- The rows of the tables as they are stored, columns in the order of the schema; a query shows the same columns.
 use Rattle.std.specs.Prelude.{◌≡◌, ◌<◌, ◌^◌, ℕ, pos, true, List, [], ◌∷◌, ◌++◌, length}
 use Rattle.std.specs.List.{All}
-use Rattle.moments.specs.Moments.{IsMoment}
+use Rattle.net_addr.specs.Moments.{IsMoment}
 use Rattle.net_addr.specs.Bits.{IsBlock}
 use Rattle.net_addr.specs.EndpointTexts.{endpoint_text}
 use Rattle.net_addr.specs.PrefixTexts.{prefix_text}

@@ -7,7 +7,7 @@ ghost use Rattle.store_rows.specs.Rows.{IsTypedKey, auth_key_cells};
 use crate::cell::Cell;
 use crate::grouped::{add, add_three};
 use crate::part::{End, One, Part};
-use moments::Moment;
+use net_addr::Moment;
 use net_rows::AuthKey;
 use std::alloc::Global;
 use tail_base::{Items, NoMemory, Tag, Text};

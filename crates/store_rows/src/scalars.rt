@@ -1,13 +1,13 @@
 //! Numbers, truth values and moments in a column.
 ghost use Rattle.std.specs.Prelude.{◌≡◌, ◌<◌, ◌^◌, pos, ⊤};
-ghost use Rattle.moments.specs.Moments.{IsMoment};
+ghost use Rattle.net_addr.specs.Moments.{IsMoment};
 ghost use Rattle.store_rows.specs.Cells.{truth_cell};
 ghost use Rattle.store_rows.specs.declared.cell.Cell.TheVariants.{Number};
 ghost use Rattle.store_rows.specs.Reads.{IsReadBack};
 
 use crate::cell::Cell;
 use crate::column::Column;
-use moments::{FIRST_SECOND, LAST_SECOND, Moment};
+use net_addr::{FIRST_SECOND, LAST_SECOND, Moment};
 use std::alloc::Global;
 use tail_base::NoMemory;
 
@@ -80,7 +80,7 @@ fn truth_in(n: i64) -> Option<bool>
 }
 
 impl Column for Moment {
-    ghost use Rattle.moments.specs.Moments.{IsMoment};
+    ghost use Rattle.net_addr.specs.Moments.{IsMoment};
     ghost use Rattle.store_rows.specs.declared.cell.Cell.TheVariants.{Number};
 
     ghost stored = { Number };

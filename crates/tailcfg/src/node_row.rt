@@ -1,6 +1,5 @@
 //! Nodes as a map shows them.
-use moments::Moment;
-use net_addr::{Endpoint, Prefix};
+use net_addr::{Endpoint, Moment, Prefix};
 use std::alloc::Global;
 use tail_base::{DiscoKey, Duplicate, Items, MachineKey, NoMemory, NodeKey, Tag, Text};
 

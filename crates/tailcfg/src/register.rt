@@ -1,6 +1,5 @@
 //! Registrations.
-use moments::Moment;
-use net_addr::Prefix;
+use net_addr::{Moment, Prefix};
 use tail_base::{Items, NodeKey, Tag, Text};
 
 /// What a machine sends to register (`tailcfg.RegisterRequest`), as far as it is read.

@@ -1,7 +1,7 @@
 -- A desk that was opened over what an opener keeps, or that wasn't.
 use Rattle.std.specs.Prelude.{◌≡◌, ◌≤◌, ◌+◌, ◌⊎◌, ℕ, ℤ, Option, None, List, IfSome, IsSome}
 use Rattle.std.specs.Option.{option_map}
-use Rattle.moments.specs.Moments.{clamped}
+use Rattle.net_addr.specs.Moments.{clamped}
 use Rattle.io_edge.specs.Asked.{and_asked}
 use Rattle.io_edge.specs.Edge.{Rose, IsWhereTold}
 use Rattle.net_rows.specs.Damage.{damage}

@@ -1,7 +1,7 @@
 -- A run of `pipe`.
 use Rattle.std.specs.Prelude.{◌≡◌, ◌+◌, ◌⊎◌, ℕ, ℤ, Option, None, Some, List, [], ◌++◌, length, IfSome, IsSome}
 use Rattle.std.specs.Option.{option_map}
-use Rattle.moments.specs.Moments.{clamped}
+use Rattle.net_addr.specs.Moments.{clamped}
 use Rattle.io_edge.specs.Asked.{and_asked}
 use Rattle.io_edge.specs.Edge.{Rose, RoseBy, IsWhereTold}
 use Rattle.net_rows.specs.Sound.{AreSound}

@@ -1,7 +1,7 @@
 -- The seed of a desk.
 use Rattle.std.specs.Prelude.{◌≡◌, ◌+◌, ℕ, ℤ, Option, None, Some, List, [], ◌∷◌, length}
 use Rattle.std.specs.Option.{option_map}
-use Rattle.moments.specs.Moments.{clamped}
+use Rattle.net_addr.specs.Moments.{clamped}
 use Rattle.io_edge.specs.Edge.{IsWhereTold}
 use Rattle.tailnet_desk.specs.Chains.{Turned, Chain}
 use Rattle.tailnet_desk.specs.Seated.{Point}

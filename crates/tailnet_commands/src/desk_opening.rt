@@ -5,7 +5,7 @@ ghost use Rattle.tailnet_commands.specs.Run.{IsFaultOf};
 ghost use Rattle.tailnet_desk.specs.Seated.{point_of};
 
 use io_edge::{Clock, EdgeFault};
-use moments::Moment;
+use net_addr::Moment;
 use row_keeper::Opener;
 use run_ends::Ended;
 use settings::Settings;

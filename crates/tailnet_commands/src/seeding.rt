@@ -3,7 +3,7 @@ ghost use Rattle.tailnet_commands.specs.Seeding.{IsSeedTurn, IsSeeded};
 ghost use Rattle.tailnet_desk.specs.Seated.{point_of};
 
 use io_edge::Clock;
-use moments::Moment;
+use net_addr::Moment;
 use row_keeper::Keeper;
 use std::alloc::Global;
 use tail_base::Text;

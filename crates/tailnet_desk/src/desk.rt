@@ -23,7 +23,7 @@ use crate::settling::put_in_force;
 use desk_state::{Decision, MachinePresence, Sessions, Snapshot, keep_rules, live_ids};
 use io_edge::EdgeFault;
 use machine_asks::MachineAsk;
-use moments::Moment;
+use net_addr::Moment;
 use net_rows::{Change, Kind, Shelf, Tables};
 use policy_eval::InForce;
 use policy_rows::Policy;

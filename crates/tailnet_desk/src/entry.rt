@@ -1,7 +1,7 @@
 //! Events, and what stands of them in a history.
 use crate::ask::Ask;
 use crate::reply::Reply;
-use moments::Moment;
+use net_addr::Moment;
 use tail_base::{MachineKey, NodeKey, Text};
 
 /// One call of the desk: what is wanted, the moment, and fresh random words if they were drawn.

@@ -8,7 +8,7 @@ ghost use Rattle.desk_state.specs.State.{all_ended, all_offline, forgotten, with
 use crate::sessions::{end_sessions, forget_sessions};
 use crate::settling::{end_presence, forget, go_offline};
 use desk_state::{MachinePresence, Sessions};
-use moments::Moment;
+use net_addr::Moment;
 use net_rows::{Change, Shelf, Tables};
 
 /// Makes a change. What is known of the machines whose rows go isn't any more.

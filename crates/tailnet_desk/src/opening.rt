@@ -7,7 +7,7 @@ ghost use Rattle.tailnet_desk.specs.Opening.{IsOpenFault, unread_policy};
 
 use crate::desk::OpenFault;
 use desk_state::{MachinePresence, Presence};
-use moments::Moment;
+use net_addr::Moment;
 use net_rows::{Kind, Machine, Shelf, Tables};
 use policy_asks::policy_in;
 use policy_rows::Policy;

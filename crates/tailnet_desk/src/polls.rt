@@ -16,7 +16,7 @@ use crate::sessions::{attach_session, put_session};
 use crate::settling::end_presence;
 use desk_state::{Attachment, MachinePresence, Presence, Sessions};
 use machine_asks::{AttachDecision, DrainDecision, attach, detach, drain};
-use moments::Moment;
+use net_addr::Moment;
 use net_rows::Shelf;
 use row_keeper::Keeper;
 use std::alloc::Global;

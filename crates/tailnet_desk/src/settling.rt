@@ -4,7 +4,7 @@ ghost use Rattle.std.specs.Option.{option_or};
 ghost use Rattle.desk_state.specs.State.{all_ended, all_offline, forgotten, offline_at};
 
 use desk_state::{MachinePresence, Presence, is_online, presence_of};
-use moments::Moment;
+use net_addr::Moment;
 use net_rows::{HasId, RowKey, Shelf};
 use policy_eval::InForce;
 use policy_rows::Policy;

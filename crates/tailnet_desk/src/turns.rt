@@ -4,7 +4,7 @@ ghost use Rattle.std.specs.Prelude.{◌≡◌};
 use crate::ask::Ask;
 use crate::desk::Desk;
 use crate::reply::{Drained, Reply};
-use moments::Moment;
+use net_addr::Moment;
 use row_keeper::Keeper;
 use std::alloc::Global;
 use tail_base::{MachineKey, NodeKey, Text};

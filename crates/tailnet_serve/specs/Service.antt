@@ -1,7 +1,7 @@
 -- What a hub's workers did: one legal history, for every schedule of their threads.
 use Rattle.std.specs.Prelude.{◌≡◌, ◌≤◌, ◌<◌, ◌+◌, ◌⊎◌, ◌||◌, ℕ, ℤ, Bool, true, false, Option, None, Some, List, [], ◌∷◌, length, map, IfSome, IsSome}
 use Rattle.std.specs.Option.{option_map}
-use Rattle.moments.specs.Moments.{clamped}
+use Rattle.net_addr.specs.Moments.{clamped}
 use Rattle.io_edge.specs.Asked.{and_asked}
 use Rattle.io_edge.specs.Door.{IsToldOfEach, Opening}
 use Rattle.io_edge.specs.Edge.{Rose, RoseBy, IsWhereTold, StillTells}

@@ -1,6 +1,5 @@
 //! Parts of responses.
-use moments::Moment;
-use net_addr::{Addr, Endpoint, Prefix};
+use net_addr::{Addr, Endpoint, Moment, Prefix};
 use port_sets::PortRange;
 use std::alloc::Global;
 use std::test::Fail;

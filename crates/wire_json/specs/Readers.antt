@@ -4,8 +4,8 @@ use Rattle.std.specs.Str.{bytes_eq}
 use Rattle.serde_json.specs.Data.{Data, Items, no_items, item}
 use Rattle.serde_json.specs.Find.{as_str, as_object, as_array, as_number, as_u64}
 use Rattle.serde_json.specs.Events.{items_len}
-use Rattle.moments.specs.Moments.{first_moment}
-use Rattle.moments.specs.MomentReads.{moment_of_text}
+use Rattle.net_addr.specs.Moments.{first_moment}
+use Rattle.net_addr.specs.MomentReads.{moment_of_text}
 use Rattle.tail_base.specs.declared.key.DiscoKey.{DiscoKey}
 use Rattle.tail_base.specs.declared.key.NodeKey.{NodeKey}
 use Rattle.tail_base.specs.Keys.{key_of_text}

@@ -8,7 +8,7 @@ ghost use Rattle.wire_json.specs.Readers.{node_key, optional, required, some_dis
 use crate::body::field_of;
 use crate::fault::WireFault;
 use crate::field::Field;
-use moments::Moment;
+use net_addr::Moment;
 use serde_json::Value;
 use std::alloc::Global;
 use tail_base::{DiscoKey, Failure, NodeKey, Text};

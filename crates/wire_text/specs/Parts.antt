@@ -2,7 +2,7 @@
 use Rattle.std.specs.Prelude.{ℕ, ℤ, List, [], ◌∷◌, map, codes, Option, Some, None}
 use Rattle.serde_json.specs.Data.{Data, number, unsigned, string, array, Members, put}
 use Rattle.serde_json.specs.View.{items_of}
-use Rattle.moments.specs.MomentTexts.{moment_text}
+use Rattle.net_addr.specs.MomentTexts.{moment_text}
 use Rattle.net_addr.specs.Bits.{Block}
 use Rattle.net_addr.specs.PrefixTexts.{prefix_text}
 use Rattle.net_addr.specs.EndpointTexts.{endpoint_text}

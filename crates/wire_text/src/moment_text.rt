@@ -1,10 +1,10 @@
 //! Texts of moments, added to a text.
 ghost use Rattle.std.specs.Prelude.{◌≡◌, ◌<◌, ◌≤◌, ◌++◌, OnOk, string_bytes};
-ghost use Rattle.moments.specs.Civil.{date_after};
-ghost use Rattle.moments.specs.MomentTexts.{date_text, instant_text, moment_text, time_text, two};
+ghost use Rattle.net_addr.specs.Civil.{date_after};
+ghost use Rattle.net_addr.specs.MomentTexts.{date_text, instant_text, moment_text, time_text, two};
 
 use crate::numerals::append_decimal;
-use moments::{FIRST_SECOND, Moment, date_after};
+use net_addr::{FIRST_SECOND, Moment, date_after};
 use tail_base::NoMemory;
 
 /// Adds a mark and a number as two digits.

@@ -5,8 +5,7 @@ ghost use Rattle.serde_json.specs.View.{view};
 ghost use Rattle.wire_text.specs.Parts.{number_data, node_key_data, machine_key_data, prefix_data, moment_data, time_data};
 
 use crate::json_form::JsonForm;
-use moments::Moment;
-use net_addr::Prefix;
+use net_addr::{Moment, Prefix};
 use serde_json::Value;
 use std::alloc::Global;
 use tail_base::{MachineKey, NoMemory, NodeKey, Tag, Text};

@@ -9,8 +9,7 @@ use crate::key_text::append_key;
 use crate::moment_text::append_moment;
 use crate::token_form::TokenForm;
 use json::Writer;
-use moments::Moment;
-use net_addr::{Endpoint, Prefix};
+use net_addr::{Endpoint, Moment, Prefix};
 use tail_base::{DiscoKey, MachineKey, NoMemory, NodeKey, Tag, Text};
 
 /// Writes a text as a JSON string.

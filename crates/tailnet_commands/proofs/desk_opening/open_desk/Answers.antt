@@ -4,7 +4,7 @@ use Rattle.std.specs.Option.{option_map}
 use Rattle.std.proofs.lemmas.Int.{to_z-of_z}
 use Rattle.io_edge.specs.Asked.{and_asked}
 use Rattle.io_edge.specs.Edge.{IsWhereTold}
-use Rattle.moments.specs.Moments.{clamped}
+use Rattle.net_addr.specs.Moments.{clamped}
 use Rattle.settings.specs.declared.fields.SettingsFields.{SettingsFields}
 use Rattle.connections.proofs.AnswerLemmas.{clamped_told}
 use Rattle.tailnet_commands.proofs.RunLemmas.{kept_given, still_some, still_still, where_loaded}

@@ -5,7 +5,7 @@ use mir.Val.{SFits}
 use Rattle.std.specs.Option.{option_map}
 use Rattle.std.proofs.lemmas.Int.{to_z-of_z}
 use Rattle.io_edge.specs.Edge.{IsWhereTold}
-use Rattle.moments.specs.Moments.{clamped}
+use Rattle.net_addr.specs.Moments.{clamped}
 use Rattle.connections.proofs.AnswerLemmas.{clamped_told}
 use Rattle.tailnet_commands.proofs.seeding.ask_seed.Goals as goal
 

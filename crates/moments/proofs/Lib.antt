@@ -1,5 +1,0 @@
-pub mod CivilLemmas
-pub mod DayLemmas
-pub mod MomentLemmas
-pub mod SpelledLemmas
-pub mod StampLemmas

@@ -1,5 +1,0 @@
-use Rattle.moments.proofs.SpelledLemmas.{moment_means}
-use Rattle.moments.proofs.moment.Moment.read.Goals as goal
-
-pub returns-clause-meaning : goal.returns-clause-meaning
-returns-clause-meaning c = moment_means c.args.text.now c.moment_of_text.result c.moment_of_text.ensures.value
