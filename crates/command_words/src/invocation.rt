@@ -11,7 +11,7 @@ pub enum Invocation {
     Serve { settings: Text },
     /// To check the policy in this file.
     PolicyCheck { file: Text },
-    /// To run the requests of 1 to 512 machines and up to 100000 events through the program.
+    /// To run the requests of 1 to 1024 machines and up to 100000 events through the program.
     Load { machines: u32, events: u32 },
     /// To send one request to a server.
     Operator(OperatorCall),

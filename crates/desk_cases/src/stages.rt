@@ -27,7 +27,7 @@ fn settings_of(alloc: Global, row: &str) -> Result<Settings, Fail> {
         }
     }
     match read_settings(alloc, text.as_bytes()) {
-        Ok(settings) => Ok(settings),
+        Ok(settings) => Ok(settings.tailnet),
         Err(_) => Err(Fail::from("no settings")),
     }
 }

@@ -2,7 +2,7 @@
 -- token, then the body.
 use Rattle.std.specs.Prelude.{Option, None, Some, codes, if◌then◌else◌}
 use Rattle.http_front.specs.declared.request.Request.{Request}
-use Rattle.settings.specs.declared.fields.SettingsFields.{SettingsFields}
+use Rattle.server_settings.specs.declared.fields.ServerFields.{ServerFields}
 use Rattle.path_routes.specs.Finds.{found_in, owner_in}
 use Rattle.path_routes.specs.declared.found.Found.{Found}
 use Rattle.desk_front.specs.Actions.{action_of}
@@ -16,7 +16,7 @@ use Rattle.desk_front.specs.declared.front_settings.FrontSettings.{FrontSettings
 use Rattle.desk_front.specs.declared.want.Wanted.{Wanted}
 
 -- what the front is told by settings
-abbrev pub front_settings : SettingsFields → FrontSettings
+abbrev pub front_settings : ServerFields → FrontSettings
 front_settings settings = record { token = settings.token; server_url = settings.server_url }
 
 -- an operator has to give the token

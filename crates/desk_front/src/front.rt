@@ -15,7 +15,7 @@ use fresh_maps::NodeTexts;
 use http::StatusCode;
 use http_front::Request;
 use path_routes::{Found, Paths, owner_in};
-use settings::Settings;
+use server_settings::ServerSettings;
 use std::alloc::Global;
 use std::marker::Model;
 use tail_base::{Duplicate, NoMemory};
@@ -38,7 +38,7 @@ impl Model for Front {
 
 impl Front {
     /// The front of a server under these settings.
-    pub fn new(alloc: Global, settings: &Settings) -> Result<Front, NoMemory>
+    pub fn new(alloc: Global, settings: &ServerSettings) -> Result<Front, NoMemory>
         ensures value { IfOk result (λ front. front ≡ spec.front_settings settings.now) }
     {
         let fields = settings.fields();

@@ -7,6 +7,7 @@ use desk_front::Front;
 use net_addr::Moment;
 use net_rows::Tables;
 use row_keeper::{Keeper, MemoryKeeper};
+use server_settings::FileSettings;
 use settings::Settings;
 use std::alloc::Global;
 use std::test::Fail;
@@ -20,18 +21,23 @@ const SETTINGS: &str =
 /// The random words of each draw.
 const WORDS: [u64; 4] = [1, 2, 3, 4];
 
-/// The settings of each desk.
-pub fn settings_of(alloc: Global) -> Result<Settings, Fail> {
+/// The file of each desk.
+fn file_settings(alloc: Global) -> Result<FileSettings, Fail> {
     match read_settings(alloc, SETTINGS.as_bytes()) {
         Ok(settings) => Ok(settings),
         Err(_) => Err(Fail::from("no settings")),
     }
 }
 
+/// The settings of each desk.
+pub fn settings_of(alloc: Global) -> Result<Settings, Fail> {
+    Ok(file_settings(alloc)?.tailnet)
+}
+
 /// What turns the lines into asks.
 pub fn front_of(alloc: Global) -> Result<Front, Fail> {
-    let settings = settings_of(alloc)?;
-    Ok(Front::new(alloc, &settings)?)
+    let settings = file_settings(alloc)?;
+    Ok(Front::new(alloc, &settings.server)?)
 }
 
 fn moment() -> Moment {

@@ -10,9 +10,9 @@ use tail_base::{Duplicate, NoMemory};
 use tailcfg::NodeRow;
 use wire_text::append_node;
 
-/// How many texts are kept at most. At most 512 machines are live, and the ids of new ones rise, so that
-/// mostly each has a slot of its own.
-const SLOTS: usize = 1024;
+/// How many texts are kept at most: twice as many as there may be machines, since slots go by id, and ids of
+/// machines that went leave gaps.
+const SLOTS: usize = 2048;
 
 /// The text of a node.
 #[derive(Drop)]

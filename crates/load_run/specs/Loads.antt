@@ -19,7 +19,7 @@ use Rattle.run_ends.specs.Pieces.{Wrote}
 use Rattle.run_ends.specs.declared.status.Status.{Status}
 use Rattle.run_ends.specs.declared.status.Status.TheVariants as status
 use Rattle.load_run.specs.Early.{IsRunEarly}
-use Rattle.load_run.specs.Given.{load_settings}
+use Rattle.load_run.specs.Given.{load_server, load_settings}
 use Rattle.load_run.specs.Report.{report}
 use Rattle.load_run.specs.Steps.{Runs, Stand, first_stand}
 use Rattle.load_run.specs.Tasks.{request_count}
@@ -27,7 +27,7 @@ use Rattle.load_run.specs.declared.task.LoadPlan.{LoadPlan}
 
 -- what the front of a load is told
 abbrev pub load_front : FrontSettings
-load_front = front_settings load_settings
+load_front = front_settings load_server
 
 -- when the seed and the registrations come
 abbrev pub load_moment : ℤ

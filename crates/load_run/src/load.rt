@@ -12,7 +12,7 @@ ghost use Rattle.load_run.specs.Watching.{watched_of};
 
 use crate::counts::Counts;
 use crate::draws::first_source;
-use crate::given::load_settings;
+use crate::given::{load_server, load_settings};
 use crate::heard::Heard;
 use crate::keeper::SureKeeper;
 use crate::known::Roll;
@@ -170,9 +170,8 @@ fn prepare(alloc: Global) -> Result<(Front, Settings), NoMemory>
     ensures front { IfOk result (λ made. made.0 ≡ load_front) }
     ensures settings { IfOk result (λ made. made.1 ≡ given.load_settings) }
 {
-    let settings = load_settings(alloc)?;
-    let front = Front::new(alloc, &settings)?;
-    Ok((front, settings))
+    let front = Front::new(alloc, &load_server(alloc)?)?;
+    Ok((front, load_settings(alloc)?))
 }
 
 /// Seeds a load and runs it, and gives its six lines.

@@ -10,7 +10,7 @@ pub const KEY_LIMIT: usize = 1024;
 
 pub const PENDING_LIMIT: usize = 256;
 
-pub const MACHINE_LIMIT: usize = 512;
+pub const MACHINE_LIMIT: usize = 1024;
 
 /// Extra DNS records.
 pub const EXTRA_LIMIT: usize = 256;

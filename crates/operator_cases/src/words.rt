@@ -21,7 +21,7 @@ serve -- -a = serve -a
 policy-check a.hujson = policy-check a.hujson
 policy-check -- -a = policy-check -a
 load 1 0 = load 1 0
-load 512 100000 = load 512 100000
+load 1024 100000 = load 1024 100000
 user-list --server s --token t = GET /api/v1/user
 user-list --token=t --server=s = GET /api/v1/user
 user-add Ann --server s --token t = POST /api/v1/user {"name":"Ann"}
@@ -60,7 +60,7 @@ help = none
 load = none
 load 1 = none
 load 0 1 = none
-load 513 1 = none
+load 1025 1 = none
 load 01 1 = none
 load 1 100001 = none
 load 1 1 1 = none

@@ -29,7 +29,7 @@ const EACH: u32 = 50;
 /// The settings of this text.
 fn settings_of(alloc: Global, text: &[u8]) -> Result<Settings, NoMemory> {
     match read_settings(alloc, text) {
-        Ok(settings) => Ok(settings),
+        Ok(settings) => Ok(settings.tailnet),
         Err(_) => Err(NoMemory),
     }
 }

@@ -1,4 +1,4 @@
--- The rules of settings.
+-- The rules of a tailnet's settings.
 use Rattle.std.specs.Prelude.{◌≡◌, ◌≤◌, ℕ, Bool, true, List, [], ◌∷◌, ◌++◌, length, if◌then◌else◌, nat_le, ◌&&◌, ◌==◌}
 use Rattle.std.specs.List.{list_all}
 use Rattle.tail_base.specs.Labels.{is_label}
@@ -7,7 +7,7 @@ use Rattle.net_addr.specs.Tailnet.{tailnet_v4, tailnet_v6}
 use Rattle.tailcfg.specs.declared.dns.DnsRoute.{DnsRoute}
 use Rattle.tailcfg.specs.declared.dns.DnsSettings.{DnsSettings}
 use Rattle.settings.specs.declared.fields.SettingsFields.{SettingsFields}
-use Rattle.settings.specs.declared.limits.TheConstants.{BASE_DOMAIN_LIMIT, COUNT_LIMIT, DNS_ROUTE_LIMIT, DOMAIN_LIMIT, PREFIX_V4_LEN_LIMIT, PREFIX_V6_LEN_LIMIT, RESOLVER_LIMIT, SEARCH_LIMIT, SECONDS_LIMIT, VISIBLE_LIMIT, WORKER_LIMIT}
+use Rattle.settings.specs.declared.limits.TheConstants.{BASE_DOMAIN_LIMIT, DNS_ROUTE_LIMIT, DOMAIN_LIMIT, PREFIX_V4_LEN_LIMIT, PREFIX_V6_LEN_LIMIT, RESOLVER_LIMIT, SEARCH_LIMIT, SECONDS_LIMIT, WORKER_LIMIT}
 
 -- the rest of labels joined by dots, after the bytes of the label that has begun
 abbrev pub are_labels : List ℕ → List ℕ → Bool
@@ -21,10 +21,6 @@ is_domain text = nat_le (length text) DOMAIN_LIMIT && are_labels [] text
 -- a domain with room for a machine's label before it
 abbrev pub is_base_domain : List ℕ → Bool
 is_base_domain text = nat_le (length text) BASE_DOMAIN_LIMIT && is_domain text
-
--- visible ASCII bytes, at least one, up to their limit
-abbrev pub is_visible : List ℕ → Bool
-is_visible text = nat_le 1 (length text) && nat_le (length text) VISIBLE_LIMIT && list_all (λ b. nat_le 33 b && nat_le b 126) text
 
 -- a domain with resolvers, up to their limit
 abbrev pub is_domain_route : DnsRoute → Bool
@@ -45,17 +41,12 @@ pub record AreDnsSettings (dns : DnsSettings) : Type 0 where
 -- Each field keeps its rule.
 pub record AreSettings (s : SettingsFields) : Type 0 where
   pub base_domain : is_base_domain s.base_domain ≡ true
-  pub connections : s.connections ≤ COUNT_LIMIT
   pub dns : AreDnsSettings s.dns
   pub ephemeral_seconds : IsFrom 1 SECONDS_LIMIT s.ephemeral_seconds
   pub key_seconds : s.key_seconds ≤ SECONDS_LIMIT
   pub pending_seconds : IsFrom 1 SECONDS_LIMIT s.pending_seconds
-  pub poll_turns : IsFrom 1 COUNT_LIMIT s.poll_turns
   pub prefix_v4 : is_within s.prefix_v4 tailnet_v4 ≡ true
   pub prefix_v4_len : s.prefix_v4.len ≤ PREFIX_V4_LEN_LIMIT
   pub prefix_v6 : is_within s.prefix_v6 tailnet_v6 ≡ true
   pub prefix_v6_len : s.prefix_v6.len ≤ PREFIX_V6_LEN_LIMIT
-  pub requests : IsFrom 1 COUNT_LIMIT s.requests
-  pub server_url : is_visible s.server_url ≡ true
-  pub token : is_visible s.token ≡ true
   pub workers : IsFrom 1 WORKER_LIMIT s.workers

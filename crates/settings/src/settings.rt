@@ -1,11 +1,11 @@
-//! Settings that keep their rules.
+//! A tailnet's settings that keep their rules.
 ghost use Rattle.std.specs.Prelude.{◌≡◌};
 ghost use Rattle.settings.specs.Settings.{AreSettings};
 
 use crate::fields::SettingsFields;
 use std::marker::Model;
 
-/// Settings, each field of which keeps its rule. Contracts see them as their fields.
+/// A tailnet's settings, each field of which keeps its rule. Contracts see them as their fields.
 #[derive(Drop)]
 pub struct Settings {
     fields: SettingsFields,

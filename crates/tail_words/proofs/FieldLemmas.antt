@@ -10,11 +10,14 @@ use Rattle.tail_base.specs.Steps.{or_fault}
 use Rattle.net_addr.specs.Bits.{Address, Block}
 use Rattle.net_addr.specs.PrefixTexts.{prefix_of_text}
 use Rattle.net_addr.specs.Tailnet.{tailnet_v4, tailnet_v6}
-use Rattle.settings.specs.Settings.{AreDnsSettings, AreSettings, IsFrom, is_base_domain, is_domain, is_domain_route, is_visible}
-use Rattle.settings.specs.declared.defaults.TheConstants.{CONNECTIONS_DEFAULT, EPHEMERAL_SECONDS_DEFAULT, KEY_SECONDS_DEFAULT, PENDING_SECONDS_DEFAULT, POLL_TURNS_DEFAULT, REQUESTS_DEFAULT, WORKERS_DEFAULT}
-use Rattle.settings.specs.declared.limits.TheConstants.{COUNT_LIMIT, DNS_ROUTE_LIMIT, PREFIX_V4_LEN_LIMIT, PREFIX_V6_LEN_LIMIT, RESOLVER_LIMIT, SEARCH_LIMIT, SECONDS_LIMIT, WORKER_LIMIT}
+use Rattle.server_settings.specs.ServerRules.{AreServerSettings, is_visible}
+use Rattle.server_settings.specs.declared.defaults.TheConstants.{CONNECTIONS_DEFAULT, POLL_TURNS_DEFAULT, REQUESTS_DEFAULT}
+use Rattle.server_settings.specs.declared.limits.TheConstants.{COUNT_LIMIT}
+use Rattle.settings.specs.Settings.{AreDnsSettings, AreSettings, IsFrom, is_base_domain, is_domain, is_domain_route}
+use Rattle.settings.specs.declared.defaults.TheConstants.{EPHEMERAL_SECONDS_DEFAULT, KEY_SECONDS_DEFAULT, PENDING_SECONDS_DEFAULT, WORKERS_DEFAULT}
+use Rattle.settings.specs.declared.limits.TheConstants.{DNS_ROUTE_LIMIT, PREFIX_V4_LEN_LIMIT, PREFIX_V6_LEN_LIMIT, RESOLVER_LIMIT, SEARCH_LIMIT, SECONDS_LIMIT, WORKER_LIMIT}
 use Rattle.tailcfg.specs.declared.dns.DnsRoute.{DnsRoute}
-use Rattle.tail_words.specs.SettingsText.{dns_at, dns_settings_of, fields_of, number_at, number_by, prefix_at, prefix_by, required, rule_of, text_at, text_by}
+use Rattle.tail_words.specs.SettingsText.{dns_at, dns_settings_of, number_at, number_by, prefix_at, prefix_by, required, rule_of, server_fields_of, tailnet_fields_of, text_at, text_by}
 use Rattle.tail_words.specs.SettingsValues.{addresses, are_domains, before, each_address, each_route, number, number_within, passes, passing, prefix, prefix_fits, prefix_within, reading, resolvers, route, routes, routes_within, search_domains, table_texts, text, texts}
 use Rattle.tail_words.specs.declared.fault.SettingsFault.{SettingsFault}
 use Rattle.tail_words.specs.declared.fault.SettingsRule.{SettingsRule}
@@ -165,28 +168,33 @@ dns_fits base table good =
       each_route = (routes_in base table).1;
     }
 
-pub fields_fit : (base url token : List ℕ) (table : Members) → is_base_domain base ≡ true → is_visible url ≡ true → is_visible token ≡ true → AreSettings (fields_of base url token table)
+pub tailnet_fits : (base : List ℕ) (table : Members) → is_base_domain base ≡ true → AreSettings (tailnet_fields_of base table)
 unfolding rule_of
-fields_fit base url token table good_base good_url good_token =
+tailnet_fits base table good_base =
     let v4 = and_parts _ _ (prefix_in (codes "prefix_v4") false tailnet_v4 table refl refl) in
     let v6 = and_parts _ _ (prefix_in (codes "prefix_v6") true tailnet_v6 table refl refl) in
     record {
       base_domain = good_base;
-      connections = (number_in (codes "connections") 0 COUNT_LIMIT CONNECTIONS_DEFAULT table refl (omega arith, omega arith)).1;
       dns = dns_fits base table (and_parts _ _ good_base).1;
       ephemeral_seconds = number_in (codes "ephemeral_seconds") 1 SECONDS_LIMIT EPHEMERAL_SECONDS_DEFAULT table refl (omega arith, omega arith);
       key_seconds = (number_in (codes "key_seconds") 0 SECONDS_LIMIT KEY_SECONDS_DEFAULT table refl (omega arith, omega arith)).1;
       pending_seconds = number_in (codes "pending_seconds") 1 SECONDS_LIMIT PENDING_SECONDS_DEFAULT table refl (omega arith, omega arith);
-      poll_turns = number_in (codes "poll_turns") 1 COUNT_LIMIT POLL_TURNS_DEFAULT table refl (omega arith, omega arith);
       prefix_v4 = v4.0;
       prefix_v4_len = small _ PREFIX_V4_LEN_LIMIT v4.1;
       prefix_v6 = v6.0;
       prefix_v6_len = small _ PREFIX_V6_LEN_LIMIT v6.1;
-      requests = number_in (codes "requests") 1 COUNT_LIMIT REQUESTS_DEFAULT table refl (omega arith, omega arith);
-      server_url = good_url;
-      token = good_token;
       workers = number_in (codes "workers") 1 WORKER_LIMIT WORKERS_DEFAULT table refl (omega arith, omega arith);
     }
+
+pub server_fits : (url token : List ℕ) (table : Members) → is_visible url ≡ true → is_visible token ≡ true → AreServerSettings (server_fields_of url token table)
+unfolding rule_of
+server_fits url token table good_url good_token = record {
+  connections = (number_in (codes "connections") 0 COUNT_LIMIT CONNECTIONS_DEFAULT table refl (omega arith, omega arith)).1;
+  poll_turns = number_in (codes "poll_turns") 1 COUNT_LIMIT POLL_TURNS_DEFAULT table refl (omega arith, omega arith);
+  requests = number_in (codes "requests") 1 COUNT_LIMIT REQUESTS_DEFAULT table refl (omega arith, omega arith);
+  server_url = good_url;
+  token = good_token;
+}
 
 pub base_domain_in : (table : Members) (t : List ℕ) → required (codes "base_domain") table ≡ Ok t → is_base_domain t ≡ true
 unfolding rule_of

@@ -8,9 +8,13 @@ use Rattle.tail_base.specs.Steps.{◌>>=◌, or_fault}
 use Rattle.net_addr.specs.Bits.{Block}
 use Rattle.net_addr.specs.Tailnet.{tailnet_v4, tailnet_v6}
 use Rattle.tailcfg.specs.declared.dns.DnsSettings.{DnsSettings}
-use Rattle.settings.specs.declared.defaults.TheConstants.{CONNECTIONS_DEFAULT, DATABASE_DEFAULT, EPHEMERAL_SECONDS_DEFAULT, KEY_SECONDS_DEFAULT, LISTEN_DEFAULT, PENDING_SECONDS_DEFAULT, POLL_TURNS_DEFAULT, PROXIED_DEFAULT, REQUESTS_DEFAULT, WORKERS_DEFAULT}
+use Rattle.server_settings.specs.declared.defaults.TheConstants.{CONNECTIONS_DEFAULT, DATABASE_DEFAULT, LISTEN_DEFAULT, POLL_TURNS_DEFAULT, REQUESTS_DEFAULT}
+use Rattle.server_settings.specs.declared.fields.ServerFields.{ServerFields}
+use Rattle.server_settings.specs.declared.file_settings.FileSettings.{FileSettings}
+use Rattle.server_settings.specs.declared.limits.TheConstants.{COUNT_LIMIT}
+use Rattle.settings.specs.declared.defaults.TheConstants.{EPHEMERAL_SECONDS_DEFAULT, KEY_SECONDS_DEFAULT, PENDING_SECONDS_DEFAULT, PROXIED_DEFAULT, WORKERS_DEFAULT}
 use Rattle.settings.specs.declared.fields.SettingsFields.{SettingsFields}
-use Rattle.settings.specs.declared.limits.TheConstants.{COUNT_LIMIT, SECONDS_LIMIT, WORKER_LIMIT}
+use Rattle.settings.specs.declared.limits.TheConstants.{SECONDS_LIMIT, WORKER_LIMIT}
 use Rattle.tail_words.specs.SettingsValues.{number, prefix, resolvers, routes, search_domains, text}
 use Rattle.tail_words.specs.declared.fault.SettingsFault.{SettingsFault}
 use Rattle.tail_words.specs.declared.fault.SettingsRule.{SettingsRule}
@@ -133,39 +137,44 @@ dns_settings_of base_domain table = record {
   routes = unwrap_or (option_and_then (λ d. result_ok (routes d)) (dns_at (codes "routes") table)) [];
 }
 
--- the settings of a checked table, with their defaults
-abbrev pub fields_of : List ℕ → List ℕ → List ℕ → Members → SettingsFields
-fields_of base_domain server_url token table = record {
+-- what the tailnet is by a checked table, with defaults
+abbrev pub tailnet_fields_of : List ℕ → Members → SettingsFields
+tailnet_fields_of base_domain table = record {
   base_domain = base_domain;
-  connections = unwrap_or (number_at (codes "connections") table) CONNECTIONS_DEFAULT;
-  database = unwrap_or (text_at (codes "database") table) DATABASE_DEFAULT.now;
   dns = dns_settings_of base_domain table;
   ephemeral_seconds = unwrap_or (number_at (codes "ephemeral_seconds") table) EPHEMERAL_SECONDS_DEFAULT;
   key_seconds = unwrap_or (number_at (codes "key_seconds") table) KEY_SECONDS_DEFAULT;
-  listen = unwrap_or (text_at (codes "listen") table) LISTEN_DEFAULT.now;
   pending_seconds = unwrap_or (number_at (codes "pending_seconds") table) PENDING_SECONDS_DEFAULT;
-  poll_turns = unwrap_or (number_at (codes "poll_turns") table) POLL_TURNS_DEFAULT;
   prefix_v4 = unwrap_or (prefix_at (codes "prefix_v4") table) tailnet_v4;
   prefix_v6 = unwrap_or (prefix_at (codes "prefix_v6") table) tailnet_v6;
-  requests = unwrap_or (number_at (codes "requests") table) REQUESTS_DEFAULT;
-  server_url = server_url;
-  token = token;
   workers = unwrap_or (number_at (codes "workers") table) WORKERS_DEFAULT;
 }
 
+-- what the server is by a checked table, with defaults
+abbrev pub server_fields_of : List ℕ → List ℕ → Members → ServerFields
+server_fields_of server_url token table = record {
+  connections = unwrap_or (number_at (codes "connections") table) CONNECTIONS_DEFAULT;
+  database = unwrap_or (text_at (codes "database") table) DATABASE_DEFAULT.now;
+  listen = unwrap_or (text_at (codes "listen") table) LISTEN_DEFAULT.now;
+  poll_turns = unwrap_or (number_at (codes "poll_turns") table) POLL_TURNS_DEFAULT;
+  requests = unwrap_or (number_at (codes "requests") table) REQUESTS_DEFAULT;
+  server_url = server_url;
+  token = token;
+}
+
 -- the settings that a table gives: its entries are checked, and then the keys that have to be there
-unfoldable pub settings_at : Members → Result SettingsFields SettingsFault
+unfoldable pub settings_at : Members → Result FileSettings SettingsFault
 settings_at table = do
   good ← checked table
   base_domain ← required (codes "base_domain") table
   server_url ← required (codes "server_url") table
   token ← required (codes "token") table
-  Ok (fields_of base_domain server_url token table)
+  Ok (record { tailnet = tailnet_fields_of base_domain table; server = server_fields_of server_url token table })
 
 -- the table that a text is, if it is UTF-8 and a TOML document
 abbrev pub table_of : List ℕ → Option Members
 table_of text = if is_utf8 text then parse_document text else None
 
 -- the settings that a file gives, or its first fault
-unfoldable pub settings_of : List ℕ → Result SettingsFields SettingsFault
+unfoldable pub settings_of : List ℕ → Result FileSettings SettingsFault
 settings_of text = or_fault (broken_at Toml (codes "text")) (table_of text) >>= settings_at

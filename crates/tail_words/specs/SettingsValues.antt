@@ -8,7 +8,8 @@ use Rattle.net_addr.specs.Bits.{Address, Block}
 use Rattle.net_addr.specs.PrefixTexts.{prefix_of_text}
 use Rattle.net_addr.specs.Blocks.{is_within}
 use Rattle.net_addr.specs.Tailnet.{tailnet_v4, tailnet_v6}
-use Rattle.settings.specs.Settings.{is_base_domain, is_domain, is_visible}
+use Rattle.server_settings.specs.ServerRules.{is_visible}
+use Rattle.settings.specs.Settings.{is_base_domain, is_domain}
 use Rattle.settings.specs.declared.limits.TheConstants.{DNS_ROUTE_LIMIT, PREFIX_V4_LEN_LIMIT, PREFIX_V6_LEN_LIMIT, RESOLVER_LIMIT, SEARCH_LIMIT}
 use Rattle.tailcfg.specs.declared.dns.DnsRoute.{DnsRoute}
 use Rattle.toml.specs.Data.{Data, Items, no_items, item, Members, no_members, member, as_array, as_integer, as_str, as_table}

@@ -2,7 +2,8 @@
 ghost use Rattle.std.specs.Prelude.{◌≡◌};
 ghost use Rattle.tail_words.specs.SettingsText.{rule_of};
 
-use settings::{COUNT_LIMIT, SECONDS_LIMIT, WORKER_LIMIT};
+use server_settings::COUNT_LIMIT;
+use settings::{SECONDS_LIMIT, WORKER_LIMIT};
 
 /// What a text has to be.
 #[derive(Clone, Copy, Debug, PartialEq, Eq, Drop)]

@@ -1,9 +1,11 @@
 //! The rules of the texts in a settings file.
 ghost use Rattle.std.specs.Prelude.{◌≡◌, ◌&&◌, nat_le};
 ghost use Rattle.std.specs.List.{list_all};
-ghost use Rattle.settings.specs.Settings.{is_base_domain, is_visible};
+ghost use Rattle.server_settings.specs.ServerRules.{is_visible};
+ghost use Rattle.settings.specs.Settings.{is_base_domain};
 
-use settings::{BASE_DOMAIN_LIMIT, VISIBLE_LIMIT, is_domain};
+use server_settings::VISIBLE_LIMIT;
+use settings::{BASE_DOMAIN_LIMIT, is_domain};
 
 /// Whether the text is a domain with room for a machine's label before it.
 pub(crate) fn is_base_domain(text: &[u8]) -> bool

@@ -2,16 +2,19 @@
 ghost use Rattle.std.specs.Prelude.{◌≡◌, IfOk, unwrap_or};
 ghost use Rattle.toml.specs.View.{table_view, view};
 ghost use Rattle.tail_base.specs.Steps.{Gives};
-ghost use Rattle.tail_words.specs.SettingsText.{checked, entry_checked, fields_of, required, settings_at, settings_of, text_at};
+ghost use Rattle.tail_words.specs.SettingsText.{checked, entry_checked, required, server_fields_of, settings_at, settings_of, tailnet_fields_of, text_at};
 
 use crate::dns::{check_dns, dns_settings_of};
 use crate::fault::{SettingsFault, SettingsRule, refused};
 use crate::rule::rule_of;
 use crate::table::{broken_by, number_at, prefix_at, text_at};
 use net_addr::{tailnet_v4, tailnet_v6};
+use server_settings::{
+    CONNECTIONS_DEFAULT, DATABASE_DEFAULT, FileSettings, LISTEN_DEFAULT, POLL_TURNS_DEFAULT,
+    REQUESTS_DEFAULT, ServerFields, ServerSettings,
+};
 use settings::{
-    CONNECTIONS_DEFAULT, DATABASE_DEFAULT, EPHEMERAL_SECONDS_DEFAULT, KEY_SECONDS_DEFAULT,
-    LISTEN_DEFAULT, PENDING_SECONDS_DEFAULT, POLL_TURNS_DEFAULT, REQUESTS_DEFAULT, Settings,
+    EPHEMERAL_SECONDS_DEFAULT, KEY_SECONDS_DEFAULT, PENDING_SECONDS_DEFAULT, Settings,
     SettingsFields, WORKERS_DEFAULT,
 };
 use std::alloc::Global;
@@ -66,47 +69,61 @@ fn text_or(alloc: Global, table: &Table, key: &str, default: &str) -> Result<Tex
     }
 }
 
-/// The settings of a table that was checked, with these texts.
-fn fields_of(
+/// What the tailnet is by a table that was checked, with this base domain.
+fn tailnet_fields_of(
     alloc: Global,
     base_domain: Text,
-    server_url: Text,
-    token: Text,
     table: &Table,
 ) -> Result<SettingsFields, NoMemory>
     ensures value { IfOk result (λ made. made
-        ≡ fields_of base_domain server_url token (table_view table.now)) }
+        ≡ tailnet_fields_of base_domain (table_view table.now)) }
 {
     Ok(SettingsFields {
-        connections: number_at(table, "connections").unwrap_or(CONNECTIONS_DEFAULT),
-        database: text_or(alloc, table, "database", DATABASE_DEFAULT)?,
         dns: dns_settings_of(alloc, &base_domain, table)?,
         ephemeral_seconds: number_at(table, "ephemeral_seconds").unwrap_or(
             EPHEMERAL_SECONDS_DEFAULT,
         ),
         key_seconds: number_at(table, "key_seconds").unwrap_or(KEY_SECONDS_DEFAULT),
-        listen: text_or(alloc, table, "listen", LISTEN_DEFAULT)?,
         pending_seconds: number_at(table, "pending_seconds").unwrap_or(PENDING_SECONDS_DEFAULT),
-        poll_turns: number_at(table, "poll_turns").unwrap_or(POLL_TURNS_DEFAULT),
         prefix_v4: prefix_at(table, "prefix_v4").unwrap_or(tailnet_v4()),
         prefix_v6: prefix_at(table, "prefix_v6").unwrap_or(tailnet_v6()),
-        requests: number_at(table, "requests").unwrap_or(REQUESTS_DEFAULT),
         workers: number_at(table, "workers").unwrap_or(WORKERS_DEFAULT),
         base_domain,
+    })
+}
+
+/// What the server is by a table that was checked, with these texts.
+fn server_fields_of(
+    alloc: Global,
+    server_url: Text,
+    token: Text,
+    table: &Table,
+) -> Result<ServerFields, NoMemory>
+    ensures value { IfOk result (λ made. made
+        ≡ server_fields_of server_url token (table_view table.now)) }
+{
+    Ok(ServerFields {
+        connections: number_at(table, "connections").unwrap_or(CONNECTIONS_DEFAULT),
+        database: text_or(alloc, table, "database", DATABASE_DEFAULT)?,
+        listen: text_or(alloc, table, "listen", LISTEN_DEFAULT)?,
+        poll_turns: number_at(table, "poll_turns").unwrap_or(POLL_TURNS_DEFAULT),
+        requests: number_at(table, "requests").unwrap_or(REQUESTS_DEFAULT),
         server_url,
         token,
     })
 }
 
 #[tactic(auto, unfolding(crate::specs::SettingsText::settings_at))]
-fn settings_from(alloc: Global, table: &Table) -> Result<Settings, Failure<SettingsFault>>
+fn settings_from(alloc: Global, table: &Table) -> Result<FileSettings, Failure<SettingsFault>>
     ensures value { Gives (λ s. s) result (settings_at (table_view table.now)) }
 {
     check_entries(alloc, table)?;
     let base_domain = required(alloc, table, "base_domain")?;
     let server_url = required(alloc, table, "server_url")?;
     let token = required(alloc, table, "token")?;
-    Ok(Settings::new(fields_of(alloc, base_domain, server_url, token, table)?))
+    let tailnet = Settings::new(tailnet_fields_of(alloc, base_domain, table)?);
+    let server = ServerSettings::new(server_fields_of(alloc, server_url, token, table)?);
+    Ok(FileSettings { tailnet, server })
 }
 
 /// The settings that a file gives, a TOML document. The keys `base_domain` (labels joined by dots,
@@ -116,7 +133,7 @@ fn settings_from(alloc: Global, table: &Table) -> Result<Settings, Failure<Setti
 /// - `connections` (0 to 1000000000, by default 0), `key_seconds` (the same);
 /// - `ephemeral_seconds` (1 to 1000000000, by default 1800), `pending_seconds` (3600), `poll_turns`
 ///   (1000), `requests` (100000);
-/// - `workers` (1 to 64, by default 4);
+/// - `workers` (1 to 1024, by default 4);
 /// - `database` and `listen` (texts, by default `:memory:` and `127.0.0.1:8080`);
 /// - `prefix_v4` (within 100.64.0.0/10 with a length up to 30, by default that prefix), `prefix_v6`
 ///   (within fd7a:115c:a1e0::/48 with a length up to 126, by default that prefix);
@@ -128,7 +145,7 @@ fn settings_from(alloc: Global, table: &Table) -> Result<Settings, Failure<Setti
 /// key is unknown, its value or an element of it has another type, or it is against the key's rule; or
 /// a key is missing, in byte order. The keys of `dns` go in its place, and are named `dns.KEY`.
 #[tactic(auto, unfolding(crate::specs::SettingsText::settings_of))]
-pub fn read_settings(alloc: Global, text: &[u8]) -> Result<Settings, Failure<SettingsFault>>
+pub fn read_settings(alloc: Global, text: &[u8]) -> Result<FileSettings, Failure<SettingsFault>>
     ensures value { Gives (λ s. s) result (settings_of text.now) }
 {
     match toml::table_from_slice(alloc, text) {

@@ -14,7 +14,7 @@ use Rattle.http_front.specs.declared.request.Request.{Request}
 use Rattle.http_front.proofs.Streams.{Leads-append, Leads_first, Splits_unique}
 use Rattle.http_front.proofs.Refusals.{Splits-append_bad}
 use Rattle.desk_front.specs.Wanted.{front_settings, wanted_of}
-use Rattle.settings.specs.declared.fields.SettingsFields.{SettingsFields}
+use Rattle.server_settings.specs.declared.file_settings.FileSettings.{FileSettings}
 use Rattle.tail_words.specs.SettingsText.{settings_of}
 use Rattle.desk_front.specs.declared.want.Wanted.{Wanted}
 use Rattle.desk_front.specs.declared.want.Wanted.TheVariants as wants
@@ -108,8 +108,8 @@ complete_of (ended.Closed closed.Early) name seed old new p c = absurd (
     let told : settings_of c.text ≡ Ok p.settings = (rw c.file_is at p.settings_are).1 in
     let is = c.settings_are in
     let same : c.settings ≡ p.settings = cc in
-    never_early _ (front_settings p.settings) _ _ _ new.told _ _ c.input c.requests c.whole
-    (subst (λ (f : SettingsFields). AllByRecursion (λ r. IsAccepted (wanted_of (front_settings f) r)) c.requests) same c.accepted) c.input_is p.talk.serves)
+    never_early _ (front_settings p.settings.server) _ _ _ new.told _ _ c.input c.requests c.whole
+    (subst (λ (f : FileSettings). AllByRecursion (λ r. IsAccepted (wanted_of (front_settings f.server) r)) c.requests) same c.accepted) c.input_is p.talk.serves)
 complete_of (ended.Closed closed.ReadFault) name seed old new p c = absurd (c.no_read_fault p.talk.serves.ending.3)
 complete_of (ended.Closed closed.WriteFault) name seed old new p c = absurd (c.no_write_fault p.talk.serves.ending.1)
 complete_of (ended.Closed closed.NoMemory) name seed old new p c = inr refl

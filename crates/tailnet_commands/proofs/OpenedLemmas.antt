@@ -1,7 +1,7 @@
 -- A desk that was opened, or wasn't.
 use Rattle.std.proofs.Common.{◌≡◌, ℕ, Option, List, inr, refl}
 use Rattle.io_edge.specs.Edge.{Rose}
-use Rattle.settings.specs.declared.fields.SettingsFields.{SettingsFields}
+use Rattle.server_settings.specs.declared.file_settings.FileSettings.{FileSettings}
 use Rattle.tailnet_desk.specs.declared.desk.OpenFault.{OpenFault}
 use Rattle.tailnet_desk.specs.declared.desk.OpenFault.TheVariants as fault
 use Rattle.tailnet_commands.specs.Opened.{IsAskedOnce, IsDeskFault, KeepsRows, OpenerTold}
@@ -11,7 +11,7 @@ use Rattle.run_ends.specs.declared.ended.Ended.{Ended}
 use Rattle.run_ends.specs.declared.ended.Ended.TheVariants as ended
 
 -- a desk that didn't open
-pub unopened : (f : OpenFault) (e : Ended) (settings : SettingsFields) (old new : OpenerTold) → IsFaultOf f e → KeepsRows old new → IsAskedOnce settings old new → (f ≡ fault.KeeperFault → Rose old.faults new.faults)
+pub unopened : (f : OpenFault) (e : Ended) (settings : FileSettings) (old new : OpenerTold) → IsFaultOf f e → KeepsRows old new → IsAskedOnce settings old new → (f ≡ fault.KeeperFault → Rose old.faults new.faults)
     → ((kind : _) (id : ℕ) → f ≡ fault.Damaged kind id → IsUnopened kind id new.rows) → IsDeskFault e settings old new
 unopened fault.KeeperFault e settings old new is kept asked rose damaged = rw is (kept, asked, rose refl)
 unopened (fault.Damaged kind id) e settings old new is kept asked rose damaged = rw is (kept, asked, damaged kind id refl)
@@ -22,7 +22,7 @@ abbrev pub opener_in : Outside → OpenerTold
 opener_in o = record { rows = o.rows; asked = o.asked; faults = o.keeper_faults }
 
 -- and nothing else was touched: the outcome of a run
-pub unopened_ran : (e : Ended) (settings : SettingsFields) (seed : Option (List ℕ)) (old new : Outside) → IsDeskFault e settings (opener_in old) (opener_in new) → (KeepsRows (opener_in old) (opener_in new) → Untouched old new) → Ran e settings seed old new
+pub unopened_ran : (e : Ended) (settings : FileSettings) (seed : Option (List ℕ)) (old new : Outside) → IsDeskFault e settings (opener_in old) (opener_in new) → (KeepsRows (opener_in old) (opener_in new) → Untouched old new) → Ran e settings seed old new
 unopened_ran ended.KeeperFault settings seed old new (kept, asked, rose) quiet = (quiet kept, asked, rose)
 unopened_ran (ended.Damaged kind id) settings seed old new (kept, asked, is) quiet = (quiet kept, asked, is)
 unopened_ran ended.NoMemory settings seed old new (kept, either) quiet = (quiet kept, either)

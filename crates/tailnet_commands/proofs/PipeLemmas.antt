@@ -2,7 +2,7 @@
 use Rattle.std.proofs.Common.{ℕ, Option, None, Some, List, IfSome, inl, inr, refl}
 use Rattle.io_edge.specs.Edge.{IsWhereTold}
 use Rattle.net_rows.specs.declared.rows.Rows.{Rows}
-use Rattle.settings.specs.declared.fields.SettingsFields.{SettingsFields}
+use Rattle.server_settings.specs.declared.file_settings.FileSettings.{FileSettings}
 use Rattle.tailnet_commands.specs.Outside.{Outside}
 use Rattle.tailnet_commands.specs.Pipe.{AreSettingsOf, IsUnread, Piped}
 use Rattle.tailnet_commands.specs.Run.{IsUnbegun, Ran, Untouched}
@@ -16,7 +16,7 @@ told_by_itself (Some rows) = refl
 
 module _ (name : List ℕ) (seed : Option (List ℕ)) (old new : Outside) where
   -- a run over the file's settings
-  pub ran_piped : (e : Ended) (settings : SettingsFields) → AreSettingsOf (old.files name) settings → Ran e settings seed old new → Piped e name seed old new
+  pub ran_piped : (e : Ended) (settings : FileSettings) → AreSettingsOf (old.files name) settings → Ran e settings seed old new → Piped e name seed old new
   ran_piped (ended.Closed c) settings are r = record { settings = settings; settings_are = are; talk = r }
   ran_piped (ended.Settings rule key) settings are r = absurd r
   ran_piped ended.TooLarge settings are r = absurd r

@@ -1,5 +1,5 @@
 -- A run over settings.
-use Rattle.std.proofs.Common.{◌≡◌, ◌+◌, ◌-◌, ℕ, ℤ, Option, None, Some, List, [], ◌++◌, length, ap, sym, ◌∙◌, arith, subst}
+use Rattle.std.proofs.Common.{◌≡◌, ◌+◌, ◌-◌, ℕ, ℤ, Option, None, Some, List, [], ◌++◌, length, ap, refl, sym, ◌∙◌, arith, subst}
 use Rattle.std.specs.Prelude.{IfSome, IsSome}
 use Rattle.std.specs.Option.{option_map}
 use Rattle.net_addr.specs.Moments.{clamped}
@@ -8,15 +8,15 @@ use Rattle.net_rows.specs.Damage.{damage}
 use Rattle.net_rows.specs.Sound.{AreSound}
 use Rattle.net_rows.proofs.Sounds.{sound_of}
 use Rattle.settings.specs.Settings.{AreSettings}
-use Rattle.settings.specs.declared.fields.SettingsFields.{SettingsFields}
+use Rattle.server_settings.specs.declared.file_settings.FileSettings.{FileSettings}
 use Rattle.tailnet_desk.specs.Chains.{Chain, IsHistory, Turned}
 use Rattle.tailnet_desk.specs.Opening.{opening}
-use Rattle.tailnet_desk.specs.Seated.{Keeping, Point}
+use Rattle.tailnet_desk.specs.Seated.{IsInForce, Keeping, Point}
 use Rattle.tailnet_desk.specs.Turns.{IsTurn}
 use Rattle.desk_state.specs.State.{State}
 use Rattle.row_keeper.specs.Before.{ToldBefore}
 use Rattle.tailnet_desk.proofs.Histories.{Chain-append, history_of, told_before_turns}
-use Rattle.tailnet_desk.proofs.SoundHistories.{legal_sound}
+use Rattle.tailnet_desk.proofs.SoundHistories.{legal_in_force, legal_sound}
 use Rattle.tailnet_laws.proofs.Following.{opening_followed}
 use Rattle.desk_front.specs.Wanted.{front_settings}
 use Rattle.connections.specs.Connection.{IsConnection}
@@ -67,26 +67,33 @@ still_still {A} a (Some z) (Some y) h k = let e : Some z ≡ Some y = k in h ∙
 pub sound_at_end : (p : Point) (turns : List Turned) (q : Point) → AreSettings p.state.settings → AreSound p.state.rows → IsHistory p turns q → AreSound q.state.rows
 sound_at_end p turns q hold sound h = subst (λ (s : State). AreSound s.rows) (sym h.state) (legal_sound p.state p.keeping.faults h.entries hold sound h.legal)
 
+-- and the policy in force stays the one that the tables keep
+pub in_force_at_end : (p : Point) (turns : List Turned) (q : Point) → AreSettings p.state.settings → damage p.state.rows ≡ None → IsInForce p.state.rows p.state.policy
+    → IsHistory p turns q → IsInForce q.state.rows q.state.policy
+in_force_at_end p turns q hold whole held h =
+    subst (λ (s : State). IsInForce s.rows s.policy) (sym h.state) (legal_in_force p.state p.keeping.faults h.entries hold whole held h.legal)
+
 -- a desk that was opened, then its seed, then a connection
-pub conversed : (closed : Closed) (settings : SettingsFields) (seed : Option (List ℕ)) (moment : ℤ) (old new : Outside) (f g : ℕ → Option ℤ) (d : State) (keeping : Keeping) (middle final : Point)
-    → AreSettings settings → damage d.rows ≡ None
+pub conversed : (closed : Closed) (settings : FileSettings) (seed : Option (List ℕ)) (moment : ℤ) (old new : Outside) (f g : ℕ → Option ℤ) (d : State) (keeping : Keeping) (middle final : Point)
+    → AreSettings settings.tailnet → damage d.rows ≡ None
     → IsWhereTold moment (option_map clamped (old.told.giving.answers 0)) → ((k : ℕ) → f k ≡ old.told.giving.answers (k + 1))
-    → d ≡ opening settings d.rows moment → (IsSome keeping.told → IsWhereTold d.rows old.rows)
+    → d ≡ opening settings.tailnet d.rows moment → (IsSome keeping.told → IsWhereTold d.rows old.rows)
     → IsSeeded seed f g (record { state = d; keeping = keeping }) middle
-    → IsConnection IsTurn (front_settings settings) 0 closed settings.requests [] (with_answers old.told g) new.told middle final
+    → IsConnection IsTurn (front_settings settings.server) 0 closed settings.server.requests [] (with_answers old.told g) new.told middle final
     → IsWhereTold final.state.rows new.rows → ToldBefore final.keeping.told new.rows → RoseBy final.keeping.faults old.keeper_faults new.keeper_faults → IsAskedFor settings old new → Conversation closed settings seed old new
 conversed closed settings seed moment old new f g d keeping middle final hold whole at shifted is rows_told seeded serves last before rose asked =
     let n = length seeded.seeding in
     let turns = seeded.seeding ++ turns_of serves.exchanges in
-    let served = serves_from IsTurn (front_settings settings) 0 closed settings.requests [] (with_answers old.told g) new.told middle final (from_number (1 + n) old.told.giving.answers)
+    let served = serves_from IsTurn (front_settings settings.server) 0 closed settings.server.requests [] (with_answers old.told g) new.told middle final (from_number (1 + n) old.told.giving.answers)
     (λ k. seeded.rest k ∙ shifted (k + n) ∙ ap old.told.giving.answers (omega arith)) serves in
-    let start : Point = record { state = opening settings d.rows moment; keeping = keeping } in
+    let start : Point = record { state = opening settings.tailnet d.rows moment; keeping = keeping } in
     let opened : Point = record { state = d; keeping = keeping } in
     let joined : Chain IsTurn opened turns final = Chain-append IsTurn opened seeded.seeding (turns_of serves.exchanges) middle final seeded.chain serves.chain in
     let chain : Chain IsTurn start turns final = subst (λ (s : State). Chain IsTurn (record { state = s; keeping = keeping }) turns final) is joined in
     let history = history_of start turns final chain in
     let sound = sound_of d.rows whole in
     record {
+      rules = hold;
       rows = d.rows;
       sound = sound;
       asked = asked;
@@ -102,7 +109,8 @@ conversed closed settings seed moment old new f g d keeping middle final hold wh
       seeding_leads = subst (λ (s : State). Chain IsTurn (record { state = s; keeping = keeping }) seeded.seeding middle) is seeded.chain;
       serves = served;
       history = history;
-      followed = opening_followed settings d.rows moment keeping.faults history.entries hold whole history.legal;
+      followed = opening_followed settings.tailnet d.rows moment keeping.faults history.entries hold whole history.legal;
+      in_force = in_force_at_end start turns final hold whole refl history;
       final_sound = sound_at_end start turns final hold sound history;
       final_rows = last;
       rose = rose;

@@ -8,7 +8,7 @@ use Rattle.desk_front.specs.Wanted.{front_settings, wanted_of}
 use Rattle.desk_front.specs.declared.want.Wanted.{Wanted}
 use Rattle.desk_front.specs.declared.want.Wanted.TheVariants as wants
 use Rattle.net_rows.specs.declared.rows.Rows.{Rows}
-use Rattle.settings.specs.declared.fields.SettingsFields.{SettingsFields}
+use Rattle.server_settings.specs.declared.file_settings.FileSettings.{FileSettings}
 use Rattle.tail_words.specs.SettingsText.{settings_of}
 use Rattle.tailnet_desk.specs.Opening.{unread_policy}
 use Rattle.tailnet_commands.specs.Pipe.{Outcome}
@@ -30,7 +30,7 @@ pub record IsClear (name : List ℕ) (old new : Outside) : Type 0 where
   pub text : List ℕ
   pub file_is : old.files name ≡ Some (Some text)
   pub small : length text ≤ FILE_LIMIT
-  pub settings : SettingsFields
+  pub settings : FileSettings
   pub settings_are : settings_of text ≡ Ok settings
   pub rows : Rows
   pub rows_are : old.rows ≡ Some rows
@@ -40,7 +40,7 @@ pub record IsClear (name : List ℕ) (old new : Outside) : Type 0 where
   pub input_is : old.told.left ≡ Some input
   pub requests : List Request
   pub whole : Leads input requests []
-  pub accepted : AllByRecursion (λ r. IsAccepted (wanted_of (front_settings settings) r)) requests
+  pub accepted : AllByRecursion (λ r. IsAccepted (wanted_of (front_settings settings.server) r)) requests
   pub no_file_fault : Rose old.file_faults new.file_faults → ⊥
   pub no_read_fault : Rose old.told.read_faults new.told.read_faults → ⊥
   pub no_write_fault : Rose old.told.giving.write_faults new.told.giving.write_faults → ⊥

@@ -1,7 +1,7 @@
 -- The outcome of the command `pipe`.
 use Rattle.std.specs.Prelude.{◌≡◌, ◌<◌, ◌≤◌, ◌⊎◌, ℕ, Option, List, length, Result, Ok, Err, IfSome, IsSomeAnd}
 use Rattle.io_edge.specs.Edge.{Rose}
-use Rattle.settings.specs.declared.fields.SettingsFields.{SettingsFields}
+use Rattle.server_settings.specs.declared.file_settings.FileSettings.{FileSettings}
 use Rattle.tail_words.specs.SettingsText.{broken_at, settings_of}
 use Rattle.tail_words.specs.declared.fault.SettingsRule.{SettingsRule}
 use Rattle.run_ends.specs.Lines.{Noted, is_made, ended_line}
@@ -15,7 +15,7 @@ use Rattle.tailnet_commands.specs.declared.limits.TheConstants.{FILE_LIMIT}
 use Rattle.run_ends.specs.declared.status.Status.{Status}
 
 -- where the file is told, it has at most 1 MiB, and these are its settings
-abbrev pub AreSettingsOf : Option (Option (List ℕ)) → SettingsFields → Type 0
+abbrev pub AreSettingsOf : Option (Option (List ℕ)) → FileSettings → Type 0
 AreSettingsOf file settings = IfSome file (λ held. IsSomeAnd held (λ text. (length text ≤ FILE_LIMIT) × (settings_of text ≡ Ok settings)))
 
 -- where the file is told, it is larger than may be
@@ -27,8 +27,8 @@ abbrev pub IsFaulty : SettingsRule → List ℕ → Option (Option (List ℕ)) �
 IsFaulty rule key file = IfSome file (λ held. IsSomeAnd held (λ text. (length text ≤ FILE_LIMIT) × (settings_of text ≡ Err (broken_at rule key))))
 
 -- this holds under the settings of the file
-abbrev pub IsUnder : Option (Option (List ℕ)) → (SettingsFields → Type 0) → Type 0
-IsUnder file holds = (settings : SettingsFields) × AreSettingsOf file settings × holds settings
+abbrev pub IsUnder : Option (Option (List ℕ)) → (FileSettings → Type 0) → Type 0
+IsUnder file holds = (settings : FileSettings) × AreSettingsOf file settings × holds settings
 
 -- why the settings file gave no settings
 abbrev pub IsUnread : Ended → Option (Option (List ℕ)) → ℕ → ℕ → Type 0
@@ -41,13 +41,13 @@ IsUnread ended.KeeperFault file before now = ⊥
 IsUnread (ended.Damaged kind id) file before now = ⊥
 
 -- what reading the settings file gave
-abbrev pub IsSettingsFile : Result SettingsFields Ended → Option (Option (List ℕ)) → ℕ → ℕ → Type 0
+abbrev pub IsSettingsFile : Result FileSettings Ended → Option (Option (List ℕ)) → ℕ → ℕ → Type 0
 IsSettingsFile (Ok settings) file before now = AreSettingsOf file settings
 IsSettingsFile (Err e) file before now = IsUnread e file before now
 
 -- A connection was served, under the settings of the file of this name.
 pub record Served (closing : Closed) (name : List ℕ) (seed : Option (List ℕ)) (old new : Outside) : Type 0 where
-  pub settings : SettingsFields
+  pub settings : FileSettings
   pub settings_are : AreSettingsOf (old.files name) settings
   pub talk : Conversation closing settings seed old new
 

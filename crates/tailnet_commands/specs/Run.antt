@@ -7,10 +7,11 @@ use Rattle.io_edge.specs.Edge.{Rose, RoseBy, IsWhereTold}
 use Rattle.net_rows.specs.Sound.{AreSound}
 use Rattle.net_rows.specs.declared.change.Kind.{Kind}
 use Rattle.net_rows.specs.declared.rows.Rows.{Rows}
-use Rattle.settings.specs.declared.fields.SettingsFields.{SettingsFields}
+use Rattle.settings.specs.Settings.{AreSettings}
+use Rattle.server_settings.specs.declared.file_settings.FileSettings.{FileSettings}
 use Rattle.tailnet_desk.specs.Chains.{Chain, Turned, IsHistory}
 use Rattle.tailnet_desk.specs.Opening.{opening, unread_policy}
-use Rattle.tailnet_desk.specs.Seated.{Keeping, Point}
+use Rattle.tailnet_desk.specs.Seated.{IsInForce, Keeping, Point}
 use Rattle.tailnet_desk.specs.Turns.{IsTurn}
 use Rattle.tailnet_desk.specs.declared.desk.OpenFault.{OpenFault}
 use Rattle.tailnet_desk.specs.declared.desk.OpenFault.TheVariants as fault
@@ -47,8 +48,8 @@ abbrev pub IsUnasked : Outside → Outside → Type 0
 IsUnasked old new = new.asked ≡ old.asked
 
 -- the opener was asked once, for the database of the settings
-abbrev pub IsAskedFor : SettingsFields → Outside → Outside → Type 0
-IsAskedFor settings old new = new.asked ≡ and_asked old.asked settings.database
+abbrev pub IsAskedFor : FileSettings → Outside → Outside → Type 0
+IsAskedFor settings old new = new.asked ≡ and_asked old.asked settings.server.database
 
 -- rows, where they are told, aren't opened, and this damage is the cause
 abbrev pub IsUnopened : Kind → ℕ → Option Rows → Type 0
@@ -56,7 +57,8 @@ IsUnopened kind id told = IfSome told (λ rows. unread_policy rows ≡ Some (rec
 
 -- A connection over a desk that was opened at the clock's first answer. Its tables keep their rules, at the beginning
 -- and at the end.
-pub record Conversation (closed : Closed) (settings : SettingsFields) (seed : Option (List ℕ)) (old new : Outside) : Type 0 where
+pub record Conversation (closed : Closed) (settings : FileSettings) (seed : Option (List ℕ)) (old new : Outside) : Type 0 where
+  pub rules : AreSettings settings.tailnet
   pub rows : Rows
   pub sound : AreSound rows
   pub asked : IsAskedFor settings old new
@@ -71,20 +73,22 @@ pub record Conversation (closed : Closed) (settings : SettingsFields) (seed : Op
   pub seeding_is : IsSeeding seed seeding
   pub seeding_moments : MomentsTold (from_number 1 old.told.giving.answers) seeding
   pub seeded : Point
-  pub seeding_leads : Chain IsTurn (record { state = opening settings rows moment; keeping = keeping }) seeding seeded
+  pub seeding_leads : Chain IsTurn (record { state = opening settings.tailnet rows moment; keeping = keeping }) seeding seeded
   -- no poll waits
-  pub serves : IsConnection IsTurn (front_settings settings) 0 closed settings.requests [] (after_answers (1 + length seeding) old.told) new.told seeded final
+  pub serves : IsConnection IsTurn (front_settings settings.server) 0 closed settings.server.requests [] (after_answers (1 + length seeding) old.told) new.told seeded final
   -- a legal history from the opening state: the seed, and the turns of the served requests
-  pub history : IsHistory (record { state = opening settings rows moment; keeping = keeping }) (seeding ++ turns_of serves.exchanges) final
+  pub history : IsHistory (record { state = opening settings.tailnet rows moment; keeping = keeping }) (seeding ++ turns_of serves.exchanges) final
   -- what the client of each session has folded after a drain is its machine's map, computed afresh, and the filter in it
   -- admits exactly what the policy in force grants
-  pub followed : AreFollowed (opening settings rows moment) (λ handle. None) history.entries
+  pub followed : AreFollowed (opening settings.tailnet rows moment) (λ handle. None) history.entries
+  -- the policy in force is the one that the tables keep
+  pub in_force : IsInForce final.state.rows final.state.policy
   pub final_sound : AreSound final.state.rows
   pub final_rows : IsWhereTold final.state.rows new.rows
   pub rose : RoseBy final.keeping.faults old.keeper_faults new.keeper_faults
 
 -- The outcome of a run over settings: a connection, or a fault before anything was read.
-abbrev pub Ran : Ended → SettingsFields → Option (List ℕ) → Outside → Outside → Type 0
+abbrev pub Ran : Ended → FileSettings → Option (List ℕ) → Outside → Outside → Type 0
 Ran (ended.Closed closed) settings seed old new = Conversation closed settings seed old new
 Ran (ended.Settings rule key) settings seed old new = ⊥
 Ran ended.TooLarge settings seed old new = ⊥

@@ -8,7 +8,7 @@ use io_edge::{Clock, EdgeFault};
 use net_addr::Moment;
 use row_keeper::Opener;
 use run_ends::Ended;
-use settings::Settings;
+use server_settings::FileSettings;
 use std::alloc::Global;
 use tailnet_desk::{Desk, OpenFault};
 
@@ -27,7 +27,7 @@ fn ended_of(fault: OpenFault) -> Ended
 /// closed again.
 pub fn open_desk<P: Opener, C: Clock>(
     alloc: Global,
-    settings: Settings,
+    settings: FileSettings,
     opener: &mut P,
     clock: &mut C,
 ) -> Result<Desk<P::Keeper>, Ended>
@@ -39,13 +39,14 @@ pub fn open_desk<P: Opener, C: Clock>(
         IfErr result (λ e. IsDeskFault e settings (at opener.old) (at opener.new)) }
 {
     let moment = Moment::clamp(clock.seconds());
-    let fields = settings.fields();
+    let FileSettings { tailnet, server } = settings;
+    let fields = server.fields();
     let keeper = match opener.open(alloc, fields.database.as_str()) {
         Ok(keeper) => keeper,
         Err(EdgeFault::Failed) => return Err(Ended::KeeperFault),
         Err(EdgeFault::NoMemory) => return Err(Ended::NoMemory),
     };
-    match Desk::open(alloc, settings, keeper, moment) {
+    match Desk::open(alloc, tailnet, keeper, moment) {
         Ok(desk) => {
             // Its tables keep their rules, as those of each open desk do.
             let _rules = desk.tables();

@@ -11,13 +11,13 @@ use desk_front::Front;
 use io_edge::{Clock, Entropy, FileFault, Files, Sink, Source};
 use row_keeper::Opener;
 use run_ends::{Ended, Status, note, status_of};
-use settings::Settings;
+use server_settings::FileSettings;
 use std::alloc::Global;
 use tail_base::{Failure, NoMemory, Text};
 use tail_words::read_settings;
 
 /// The settings of a file.
-pub fn settings_file<F: Files>(alloc: Global, files: &mut F, name: &str) -> Result<Settings, Ended>
+pub fn settings_file<F: Files>(alloc: Global, files: &mut F, name: &str) -> Result<FileSettings, Ended>
     ensures read { IsSettingsFile result (F.holds files.old name.now)
         (F.faults files.old) (F.faults files.new) }
 {
@@ -50,7 +50,7 @@ fn seed_text(alloc: Global, seed: Option<&str>) -> Result<Option<Text>, NoMemory
 /// What a run begins with.
 #[derive(Drop)]
 struct Prepared {
-    settings: Settings,
+    settings: FileSettings,
     front: Front,
     seed: Option<Text>,
 }
@@ -63,7 +63,7 @@ fn prepare<F: Files>(
     seed: Option<&str>,
 ) -> Result<Prepared, Ended>
     ensures settings { IfOk result (λ p. AreSettingsOf (F.holds files.old name.now) p.settings) }
-    ensures front { IfOk result (λ p. p.front ≡ front_settings p.settings) }
+    ensures front { IfOk result (λ p. p.front ≡ front_settings p.settings.server) }
     ensures seed { IfOk result (λ p. p.seed ≡ option_map (λ t. t.now) seed.entry) }
     ensures err { IfErr result (λ e. IsUnread e (F.holds files.old name.now)
         (F.faults files.old) (F.faults files.new)) }
@@ -72,7 +72,7 @@ fn prepare<F: Files>(
         return Err(Ended::NoMemory);
     };
     let settings = settings_file(alloc, files, name)?;
-    let Ok(front) = Front::new(alloc, &settings) else {
+    let Ok(front) = Front::new(alloc, &settings.server) else {
         return Err(Ended::NoMemory);
     };
     Ok(Prepared {

@@ -12,7 +12,7 @@ use fresh_maps::NodeTexts;
 use io_edge::{Clock, Entropy, Sink, Source};
 use row_keeper::Opener;
 use run_ends::Ended;
-use settings::Settings;
+use server_settings::FileSettings;
 use std::alloc::Global;
 use tail_base::Text;
 
@@ -22,7 +22,7 @@ use tail_base::Text;
 pub(crate) fn run<I: Source, O: Sink, P: Opener, C: Clock, N: Entropy>(
     alloc: Global,
     front: &Front,
-    settings: Settings,
+    settings: FileSettings,
     seed: Option<Text>,
     input: &mut I,
     output: &mut O,
@@ -30,7 +30,7 @@ pub(crate) fn run<I: Source, O: Sink, P: Opener, C: Clock, N: Entropy>(
     clock: &mut C,
     entropy: &mut N,
 ) -> Ended
-    requires front { front.now ≡ front_settings settings }
+    requires front { front.now ≡ front_settings settings.server }
     ensures ran { (before after : Outside) →
         let at = around I.left I.read_faults O.holds O.write_faults P.told P.asked P.faults
         C.answer N.word N.faults in
@@ -38,7 +38,7 @@ pub(crate) fn run<I: Source, O: Sink, P: Opener, C: Clock, N: Entropy>(
         (at before input.old output.old opener.old clock.old entropy.old)
         (at after input.new output.new opener.new clock.new entropy.new) }
 {
-    let requests = settings.fields().requests;
+    let requests = settings.server.fields().requests;
     match open_desk(alloc, settings, opener, clock) {
         Ok(mut desk) => {
             seed_desk(alloc, &mut desk, clock, seed);

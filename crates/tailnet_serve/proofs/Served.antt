@@ -7,10 +7,10 @@ use Rattle.io_edge.specs.declared.faults.EdgeFault.{EdgeFault}
 use Rattle.io_edge.specs.declared.faults.EdgeFault.TheVariants.{Failed, NoMemory}
 use Rattle.net_rows.proofs.Sounds.{sound_of}
 use Rattle.row_keeper.proofs.Told.{told_before}
-use Rattle.settings.specs.declared.fields.SettingsFields.{SettingsFields}
+use Rattle.server_settings.specs.declared.file_settings.FileSettings.{FileSettings}
 use Rattle.tailnet_desk.specs.Opening.{opening}
-use Rattle.tailnet_desk.specs.Seated.{Point}
-use Rattle.tailnet_desk.proofs.SoundHistories.{legal_sound}
+use Rattle.tailnet_desk.specs.Seated.{IsInForce, Point}
+use Rattle.tailnet_desk.proofs.SoundHistories.{legal_in_force, legal_sound}
 use Rattle.desk_state.specs.State.{State}
 use Rattle.net_rows.specs.Sound.{AreSound}
 use Rattle.tailnet_laws.proofs.Following.{opening_followed}
@@ -46,9 +46,9 @@ still_rows {A} (Some x) (Some z) (Some y) h s = let e : Some z ≡ Some y = s in
 pub split_after : (old : Outside) (one given : Drawing) (answers : (k : ℕ) → one.answers k ≡ (left_drawing old).answers k) (words : (k : ℕ) → one.words k ≡ old.told.giving.words k) → IsSplitDrawing one given → IsSplitDrawing (left_drawing old) given
 split_after old one given answers words (tells, fresh) = (record { answers = λ k. tells.answers k ∙ answers k; words = λ k. tells.words k ∙ words k }, fresh)
 
-module _ (settings : SettingsFields) (old new : Outside) (mid : OpenerTold) (after : ℕ → Option ℤ) (p : Point) (opened : IsDeskOpened settings (opener_in old) mid old.told.giving.answers after p) where
+module _ (settings : FileSettings) (old new : Outside) (mid : OpenerTold) (after : ℕ → Option ℤ) (p : Point) (opened : IsDeskOpened settings (opener_in old) mid old.told.giving.answers after p) where
   abbrev at_opening : Point
-  at_opening = record { state = opening settings p.state.rows opened.moment; keeping = p.keeping }
+  at_opening = record { state = opening settings.tailnet p.state.rows opened.moment; keeping = p.keeping }
 
   is_opening : p ≡ at_opening
   is_opening = λ i. record { state = opened.state i; keeping = p.keeping }
@@ -61,8 +61,8 @@ module _ (settings : SettingsFields) (old new : Outside) (mid : OpenerTold) (aft
   }
 
   -- the workers have served the desk
-  pub service : (failed starved : Bool) (doors : DoorsTold) (word_faults : ℕ) → old.told.giving.word_faults ≤ word_faults → AreAskedFor (record { address = settings.listen; count = settings.workers }) old.doors doors → old.doors.faults ≤ doors.faults
-      → IsDeskServed (front_settings settings) (limits_of settings) old.doors.coming (left_drawing old) failed starved settings.workers p mid (opener_in new) doors new.doors word_faults new.told.giving.word_faults → Service failed starved settings old new
+  pub service : (failed starved : Bool) (doors : DoorsTold) (word_faults : ℕ) → old.told.giving.word_faults ≤ word_faults → AreAskedFor (record { address = settings.server.listen; count = settings.tailnet.workers }) old.doors doors → old.doors.faults ≤ doors.faults
+      → IsDeskServed (front_settings settings.server) (limits_of settings.server) old.doors.coming (left_drawing old) failed starved settings.tailnet.workers p mid (opener_in new) doors new.doors word_faults new.told.giving.word_faults → Service failed starved settings old new
   service failed starved doors word_faults words_later asked doors_later s =
       let m = s.manned in
       let stands : IsReplayOf p m.history s.final = subst (λ z. IfSome z (λ begin. IsReplayOf begin m.history s.final)) s.starts m.stands in
@@ -71,6 +71,7 @@ module _ (settings : SettingsFields) (old new : Outside) (mid : OpenerTold) (aft
       let finished = subst (λ z. IsToldOfEach z new.doors.finished) (ap (map (λ (d : DoorTold). d.finished)) m.left_is ∙ map_map (λ (w : Shift). w.door_after) (λ (d : DoorTold). d.finished) m.shifts) s.doors_finished in
       let sound = sound_of p.state.rows opened.whole in
       record {
+        rules = opened.rules;
         rows = p.state.rows;
         sound = sound;
         asked = s.asked ∙ opened.asked;
@@ -81,7 +82,7 @@ module _ (settings : SettingsFields) (old new : Outside) (mid : OpenerTold) (aft
         final = s.final;
         history = m.history;
         legal = legal;
-        followed = opening_followed settings p.state.rows opened.moment p.keeping.faults (entries_of m.history) opened.rules opened.whole legal.legal;
+        followed = opening_followed settings.tailnet p.state.rows opened.moment p.keeping.faults (entries_of m.history) opened.rules opened.whole legal.legal;
         shifts = m.shifts;
         number = m.number;
         shared = m.shared;
@@ -92,7 +93,8 @@ module _ (settings : SettingsFields) (old new : Outside) (mid : OpenerTold) (aft
         doors_finished = finished;
         doors_rose = λ f. omega (arith, s.doors_later f, doors_later);
         words_rose = omega (arith, m.words_rose, words_later);
-        final_sound = subst (λ (z : State). AreSound z.rows) (sym legal.state) (legal_sound (opening settings p.state.rows opened.moment) p.keeping.faults (entries_of m.history) opened.rules sound legal.legal);
+        in_force = subst (λ (z : State). IsInForce z.rows z.policy) (sym legal.state) (legal_in_force (opening settings.tailnet p.state.rows opened.moment) p.keeping.faults (entries_of m.history) opened.rules opened.whole refl legal.legal);
+        final_sound = subst (λ (z : State). AreSound z.rows) (sym legal.state) (legal_sound (opening settings.tailnet p.state.rows opened.moment) p.keeping.faults (entries_of m.history) opened.rules sound legal.legal);
         final_rows = s.rows;
         rose = omega (arith, s.rose, opened.later);
       }
@@ -100,7 +102,7 @@ module _ (settings : SettingsFields) (old new : Outside) (mid : OpenerTold) (aft
 -- ---- the command
 
 -- a run over the file's settings
-pub ran_done : (e : ServeEnd) (name : List ℕ) (settings : SettingsFields) (old new : Outside) → AreSettingsOf (old.files name) settings → ServeRan e settings old new → ServeDone e name old new
+pub ran_done : (e : ServeEnd) (name : List ℕ) (settings : FileSettings) (old new : Outside) → AreSettingsOf (old.files name) settings → ServeRan e settings old new → ServeDone e name old new
 ran_done (end.Unopened e) name settings old new are (fault, ran, doors) = (fault, ran_piped name None old new e settings are ran, doors)
 ran_done end.EntropyFault name settings old new are ran = record { settings = settings; settings_are = are; ran = ran }
 ran_done end.DoorFault name settings old new are ran = record { settings = settings; settings_are = are; ran = ran }
@@ -122,7 +124,7 @@ unread_done e name old new u quiet unbegun doors =
     (unread_fault e (old.files name) old.file_faults new.file_faults u, unread_piped name None old new e u quiet unbegun, doors)
 
 -- a desk that didn't open is a fault
-pub desk_fault : (e : Ended) (settings : SettingsFields) (old new : OpenerTold) → IsDeskFault e settings old new → IsOpeningFault e
+pub desk_fault : (e : Ended) (settings : FileSettings) (old new : OpenerTold) → IsDeskFault e settings old new → IsOpeningFault e
 desk_fault ended.KeeperFault settings old new f = tt
 desk_fault (ended.Damaged kind id) settings old new f = tt
 desk_fault ended.NoMemory settings old new f = tt
@@ -132,9 +134,9 @@ desk_fault ended.TooLarge settings old new f = absurd f
 desk_fault ended.FileFault settings old new f = absurd f
 
 -- what came of serving with outfits, as a run
-pub served_ran : (e : ServeEnd) (settings : SettingsFields) (old new : Outside) (mid : OpenerTold) (after : ℕ → Option ℤ) (p : Point) (word_faults : ℕ) → IsDeskOpened settings (opener_in old) mid old.told.giving.answers after p
+pub served_ran : (e : ServeEnd) (settings : FileSettings) (old new : Outside) (mid : OpenerTold) (after : ℕ → Option ℤ) (p : Point) (word_faults : ℕ) → IsDeskOpened settings (opener_in old) mid old.told.giving.answers after p
     → old.told.giving.word_faults ≤ word_faults → ((k : ℕ) → new.told.giving.words k ≡ old.told.giving.words k)
-    → IsEndWithOutfits e (record { address = settings.listen; count = settings.workers }) (front_settings settings) (limits_of settings) (left_drawing old) p mid (opener_in new) old.doors new.doors word_faults new.told.giving.word_faults
+    → IsEndWithOutfits e (record { address = settings.server.listen; count = settings.tailnet.workers }) (front_settings settings.server) (limits_of settings.server) (left_drawing old) p mid (opener_in new) old.doors new.doors word_faults new.told.giving.word_faults
     → ServeRan e settings old new
 served_ran (end.Unopened e) settings old new mid after p word_faults opened later words h = absurd h
 served_ran end.EntropyFault settings old new mid after p word_faults opened later words h = absurd h
@@ -144,7 +146,7 @@ served_ran (end.Served failed starved) settings old new mid after p word_faults 
     service settings old new mid after p opened failed starved doors word_faults later asked doors_later served
 
 -- no outfits: the desk was closed again
-pub outfits_ran : (f : EdgeFault) (settings : SettingsFields) (old new : Outside) (mid : OpenerTold) (after : ℕ → Option ℤ) (p : Point) → IsDeskOpened settings (opener_in old) mid old.told.giving.answers after p → IsDeskClosed p mid (opener_in new)
+pub outfits_ran : (f : EdgeFault) (settings : FileSettings) (old new : Outside) (mid : OpenerTold) (after : ℕ → Option ℤ) (p : Point) → IsDeskOpened settings (opener_in old) mid old.told.giving.answers after p → IsDeskClosed p mid (opener_in new)
     → ((k : ℕ) → new.told.giving.words k ≡ old.told.giving.words k) → new.doors ≡ old.doors → (f ≡ Failed → Rose old.told.giving.word_faults new.told.giving.word_faults) → ServeRan (end_of_outfits f) settings old new
 outfits_ran Failed settings old new mid after p opened closed words doors rose = (unserved settings old new mid after p opened closed words, doors, rose refl)
 outfits_ran NoMemory settings old new mid after p opened closed words doors rose =

@@ -2,7 +2,7 @@
 use Rattle.std.specs.Prelude.{◌≡◌, ◌⊎◌, ℕ, ℤ, Bool, false, Option, None, List, [], IfSome, codes, if◌then◌else◌}
 use Rattle.io_edge.specs.Edge.{Rose, IsWhereTold}
 use Rattle.net_rows.specs.declared.rows.Rows.{Rows}
-use Rattle.settings.specs.declared.fields.SettingsFields.{SettingsFields}
+use Rattle.server_settings.specs.declared.file_settings.FileSettings.{FileSettings}
 use Rattle.run_ends.specs.Lines.{Noted, ended_line, is_made}
 use Rattle.run_ends.specs.Statuses.{status_of}
 use Rattle.run_ends.specs.declared.ended.Ended.{Ended}
@@ -110,13 +110,13 @@ IsOpeningFault (ended.Damaged kind id) = Unit {0}
 IsOpeningFault ended.NoMemory = Unit {0}
 
 -- A desk was opened, and closed before anything was served.
-pub record IsUnserved (settings : SettingsFields) (old new : Outside) : Type 0 where
+pub record IsUnserved (settings : FileSettings) (old new : Outside) : Type 0 where
   pub asked : IsAskedFor settings old new
   pub rows : IfSome old.rows (λ rows. IsWhereTold rows new.rows)
   pub words : (k : ℕ) → new.told.giving.words k ≡ old.told.giving.words k
 
 -- What a run over settings does.
-abbrev pub ServeRan : ServeEnd → SettingsFields → Outside → Outside → Type 0
+abbrev pub ServeRan : ServeEnd → FileSettings → Outside → Outside → Type 0
 ServeRan (end.Unopened e) settings old new = IsOpeningFault e × Ran e settings None old new × (new.doors ≡ old.doors)
 ServeRan end.EntropyFault settings old new =
     IsUnserved settings old new × (new.doors ≡ old.doors) × Rose old.told.giving.word_faults new.told.giving.word_faults
@@ -128,7 +128,7 @@ ServeRan (end.Served failed starved) settings old new = Service failed starved s
 
 -- A run over the settings of the file of this name.
 pub record ServeRanUnder (how : ServeEnd) (name : List ℕ) (old new : Outside) : Type 0 where
-  pub settings : SettingsFields
+  pub settings : FileSettings
   pub settings_are : AreSettingsOf (old.files name) settings
   pub ran : ServeRan how settings old new
 

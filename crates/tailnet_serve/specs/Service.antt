@@ -9,9 +9,11 @@ use Rattle.io_edge.specs.declared.faults.EdgeFault.{EdgeFault}
 use Rattle.io_edge.specs.declared.faults.EdgeFault.TheVariants.{Failed, NoMemory}
 use Rattle.net_rows.specs.Sound.{AreSound}
 use Rattle.net_rows.specs.declared.rows.Rows.{Rows}
-use Rattle.settings.specs.declared.fields.SettingsFields.{SettingsFields}
+use Rattle.settings.specs.Settings.{AreSettings}
+use Rattle.server_settings.specs.declared.fields.ServerFields.{ServerFields}
+use Rattle.server_settings.specs.declared.file_settings.FileSettings.{FileSettings}
 use Rattle.tailnet_desk.specs.Opening.{opening}
-use Rattle.tailnet_desk.specs.Seated.{Keeping, Point}
+use Rattle.tailnet_desk.specs.Seated.{IsInForce, Keeping, Point}
 use Rattle.tailnet_laws.specs.Followed.{AreFollowed}
 use Rattle.desk_front.specs.Wanted.{front_settings}
 use Rattle.desk_front.specs.declared.front_settings.FrontSettings.{FrontSettings}
@@ -101,7 +103,7 @@ pub record IsManned (given : FrontSettings) (limits : WorkLimits) (told : Option
   pub words_rose : RoseBy (word_faults_of shifts) word_faults word_faults_after
 
 -- the settings under which workers serve
-abbrev pub limits_of : SettingsFields → WorkLimits
+abbrev pub limits_of : ServerFields → WorkLimits
 limits_of settings = record { connections = settings.connections; requests = settings.requests; more = settings.poll_turns }
 
 -- what the clock and the entropy tell after the clock's first answer
@@ -117,12 +119,13 @@ abbrev pub AreAskedFor : Opening → DoorsTold → DoorsTold → Type 0
 AreAskedFor wanted old new = new.asked ≡ and_asked old.asked wanted
 
 -- and that is the address and the number of workers of the settings
-abbrev pub AreDoorsAsked : SettingsFields → DoorsTold → DoorsTold → Type 0
-AreDoorsAsked settings old new = AreAskedFor (record { address = settings.listen; count = settings.workers }) old new
+abbrev pub AreDoorsAsked : FileSettings → DoorsTold → DoorsTold → Type 0
+AreDoorsAsked settings old new = AreAskedFor (record { address = settings.server.listen; count = settings.tailnet.workers }) old new
 
 -- The workers have served a desk that was opened at the clock's first answer, until each had stopped. Its tables keep
 -- their rules, at the beginning and at the end.
-pub record Service (failed starved : Bool) (settings : SettingsFields) (old new : Outside) : Type 0 where
+pub record Service (failed starved : Bool) (settings : FileSettings) (old new : Outside) : Type 0 where
+  pub rules : AreSettings settings.tailnet
   pub rows : Rows
   pub sound : AreSound rows
   pub asked : IsAskedFor settings old new
@@ -134,12 +137,12 @@ pub record Service (failed starved : Bool) (settings : SettingsFields) (old new 
   pub final : Point
   -- a legal history from the opening state, at whose end the tables stand
   pub history : List Line
-  pub legal : IsReplayOf (record { state = opening settings rows moment; keeping = keeping }) history final
+  pub legal : IsReplayOf (record { state = opening settings.tailnet rows moment; keeping = keeping }) history final
   -- what the client of each session has folded after a drain is its machine's map, computed afresh
-  pub followed : AreFollowed (opening settings rows moment) (λ handle. None) (entries_of history)
+  pub followed : AreFollowed (opening settings.tailnet rows moment) (λ handle. None) (entries_of history)
   pub shifts : List Shift
-  pub number : length shifts ≡ settings.workers
-  pub shared : IsShared (front_settings settings) (limits_of settings) old.doors.coming (left_drawing old) history shifts
+  pub number : length shifts ≡ settings.tailnet.workers
+  pub shared : IsShared (front_settings settings.server) (limits_of settings.server) old.doors.coming (left_drawing old) history shifts
   pub failed_is : failed ≡ any_failed shifts
   pub starved_is : starved ≡ any_starved shifts
   pub doors_asked : AreDoorsAsked settings old.doors new.doors
@@ -148,6 +151,8 @@ pub record Service (failed starved : Bool) (settings : SettingsFields) (old new 
   pub doors_rose : failed ≡ true → Rose old.doors.faults new.doors.faults
   -- each failed draw has raised the count
   pub words_rose : RoseBy (word_faults_of shifts) old.told.giving.word_faults new.told.giving.word_faults
+  -- the policy in force is the one that the tables keep
+  pub in_force : IsInForce final.state.rows final.state.policy
   pub final_sound : AreSound final.state.rows
   pub final_rows : IsWhereTold final.state.rows new.rows
   pub rose : RoseBy final.keeping.faults old.keeper_faults new.keeper_faults

@@ -9,7 +9,7 @@ use crate::worker::WorkLimits;
 use desk_front::Front;
 use io_edge::Files;
 use run_ends::Ended;
-use settings::{Settings, SettingsFields};
+use server_settings::{FileSettings, ServerFields};
 use std::alloc::Global;
 use tail_base::{Duplicate, NoMemory, Text};
 use tailnet_commands::settings_file;
@@ -26,7 +26,7 @@ pub struct ServePlan {
 }
 
 /// The limits of workers.
-fn limits_of(fields: &SettingsFields) -> WorkLimits
+fn limits_of(fields: &ServerFields) -> WorkLimits
     ensures value { result ≡ limits_of fields.now }
 {
     WorkLimits {
@@ -37,18 +37,18 @@ fn limits_of(fields: &SettingsFields) -> WorkLimits
 }
 
 /// The plan that settings make.
-fn plan_of(alloc: Global, settings: &Settings) -> Result<ServePlan, NoMemory>
-    ensures front { IfOk result (λ p. p.front ≡ front_settings settings.now) }
-    ensures listen { IfOk result (λ p. p.listen ≡ settings.now.listen) }
-    ensures workers { IfOk result (λ p. p.workers ≡ settings.now.workers) }
-    ensures limits { IfOk result (λ p. p.limits ≡ limits_of settings.now) }
-    ensures rules { AreSettings settings.now }
+fn plan_of(alloc: Global, settings: &FileSettings) -> Result<ServePlan, NoMemory>
+    ensures front { IfOk result (λ p. p.front ≡ front_settings settings.now.server) }
+    ensures listen { IfOk result (λ p. p.listen ≡ settings.now.server.listen) }
+    ensures workers { IfOk result (λ p. p.workers ≡ settings.now.tailnet.workers) }
+    ensures limits { IfOk result (λ p. p.limits ≡ limits_of settings.now.server) }
+    ensures rules { AreSettings settings.now.tailnet }
 {
-    let fields = settings.fields();
+    let fields = settings.server.fields();
     Ok(ServePlan {
-        front: Front::new(alloc, settings)?,
+        front: Front::new(alloc, &settings.server)?,
         listen: fields.listen.copy(alloc)?,
-        workers: fields.workers,
+        workers: settings.tailnet.fields().workers,
         limits: limits_of(fields),
     })
 }
@@ -58,12 +58,12 @@ pub(crate) fn prepare_serve<F: Files>(
     alloc: Global,
     files: &mut F,
     name: &str,
-) -> Result<(Settings, ServePlan), Ended>
+) -> Result<(FileSettings, ServePlan), Ended>
     ensures settings { IfOk result (λ p. AreSettingsOf (F.holds files.old name.now) p.0) }
-    ensures front { IfOk result (λ p. p.1.front ≡ front_settings p.0) }
-    ensures listen { IfOk result (λ p. p.1.listen ≡ p.0.listen) }
-    ensures workers { IfOk result (λ p. p.1.workers ≡ p.0.workers) }
-    ensures limits { IfOk result (λ p. p.1.limits ≡ limits_of p.0) }
+    ensures front { IfOk result (λ p. p.1.front ≡ front_settings p.0.server) }
+    ensures listen { IfOk result (λ p. p.1.listen ≡ p.0.server.listen) }
+    ensures workers { IfOk result (λ p. p.1.workers ≡ p.0.tailnet.workers) }
+    ensures limits { IfOk result (λ p. p.1.limits ≡ limits_of p.0.server) }
     ensures err { IfErr result (λ e. IsUnread e (F.holds files.old name.now)
         (F.faults files.old) (F.faults files.new)) }
 {

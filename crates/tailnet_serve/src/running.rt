@@ -20,8 +20,8 @@ use crate::rooms::Rooms;
 use crate::serve_end::ServeEnd;
 use io_edge::{Clock, Door, Doors, EdgeFault, Entropy, Pause};
 use row_keeper::Opener;
+use server_settings::FileSettings;
 use session_hub::Hub;
-use settings::Settings;
 use std::alloc::Global;
 use std::sync::Wait;
 use std::thread::Threads;
@@ -212,7 +212,7 @@ pub(crate) fn run_serve<
 >(
     rt: &R,
     alloc: Global,
-    settings: Settings,
+    settings: FileSettings,
     plan: &ServePlan,
     opener: &mut P,
     clock: &mut C,
@@ -223,10 +223,10 @@ pub(crate) fn run_serve<
 where
     <D::Door as Door>::In: Send,
     <D::Door as Door>::Out: Send,
-    requires front { plan.now.front ≡ front_settings settings }
-    requires listen { plan.now.listen ≡ settings.listen }
-    requires workers { plan.now.workers ≡ settings.workers }
-    requires limits { plan.now.limits ≡ limits_of settings }
+    requires front { plan.now.front ≡ front_settings settings.server }
+    requires listen { plan.now.listen ≡ settings.server.listen }
+    requires workers { plan.now.workers ≡ settings.tailnet.workers }
+    requires limits { plan.now.limits ≡ limits_of settings.server }
     ensures ran { (streams : Told) (before after : Outside) →
         let at = behind_settings P.told P.asked P.faults C.answer N.word N.faults
         (doors_told D.coming D.finished D.asked D.faults) streams in

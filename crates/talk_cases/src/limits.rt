@@ -47,7 +47,7 @@ fn limit(filling: Filling) -> (u32, &'static [u8]) {
     match filling {
         Filling::Users => (255, b"{\"error\":\"Full\",\"what\":\"User\"}"),
         Filling::Keys => (1023, b"{\"error\":\"Full\",\"what\":\"Key\"}"),
-        Filling::Machines => (512, b"{\"error\":\"Full\",\"what\":\"Machine\"}"),
+        Filling::Machines => (1024, b"{\"error\":\"Full\",\"what\":\"Machine\"}"),
         Filling::Pending => (256, b"{\"error\":\"Full\",\"what\":\"Pending\"}"),
     }
 }

@@ -1,4 +1,5 @@
 //! Settings files: their faults, defaults and keys.
+use server_settings::ServerFields;
 use settings::SettingsFields;
 use std::alloc::Global;
 use std::test::Fail;
@@ -25,7 +26,7 @@ fn is_refused(rt: &HostRuntime, text: &[u8], rule: u8, key: &str) -> bool {
 /// A line is the number and the key of the first rule that a file breaks, and the file with `; ` for the ends of its lines.
 const FAULTY: &str = r#"1 text token
 4 workers workers = 0; base_domain = "a.example"
-4 workers workers = 65
+4 workers workers = 1025
 3 workers workers = 1.0
 4 workers workers = -1
 3 base_domain workers = 0; base_domain = 3
@@ -88,18 +89,35 @@ fn files_and_their_first_faults(rt: HostRuntime) -> Result<(), Fail> {
     Ok(())
 }
 
-/// Whether the settings are those of a file with the needed keys alone.
-fn are_defaults(fields: &SettingsFields) -> bool {
+/// Whether the tailnet is that of a file with the needed keys alone.
+fn is_default_tailnet(fields: &SettingsFields) -> bool {
     fields.base_domain.as_str() == "ts.example"
-        && fields.server_url.as_str() == "https://a.example"
+        && fields.ephemeral_seconds == 1800
+        && fields.key_seconds == 0
+        && fields.pending_seconds == 3600
+        && fields.prefix_v4.len() == 10
+        && fields.prefix_v6.len() == 48
+        && fields.workers == 4
+}
+
+/// The same of its table `dns`.
+fn is_default_dns(dns: &DnsSettings) -> bool {
+    dns.proxied
+        && dns.resolvers.is_empty()
+        && dns.routes.is_empty()
+        && dns.domains.len() == 1
+        && dns.domains.as_slice()[0].as_str() == "ts.example"
+}
+
+/// The same of the server.
+fn is_default_server(fields: &ServerFields) -> bool {
+    fields.server_url.as_str() == "https://a.example"
         && fields.token.as_str() == "t"
         && fields.listen.as_str() == "127.0.0.1:8080"
         && fields.database.as_str() == ":memory:"
-        && fields.dns.proxied
-        && fields.workers == 4
-        && fields.prefix_v4.len() == 10
-        && fields.dns.domains.len() == 1
-        && fields.dns.domains.as_slice()[0].as_str() == "ts.example"
+        && fields.connections == 0
+        && fields.poll_turns == 1000
+        && fields.requests == 100_000
 }
 
 /// The keys that each file has, and nothing else.
@@ -109,7 +127,12 @@ const NEEDED: &[u8] =
 /// Whether a file with the needed keys alone has the defaults.
 fn has_defaults(alloc: Global) -> bool {
     match read_settings(alloc, NEEDED) {
-        Ok(settings) => are_defaults(settings.fields()),
+        Ok(settings) => {
+            let tailnet = settings.tailnet.fields();
+            is_default_tailnet(tailnet)
+                && is_default_dns(&tailnet.dns)
+                && is_default_server(settings.server.fields())
+        }
         Err(_) => false,
     }
 }
@@ -123,22 +146,26 @@ const ALL_KEYS: &[u8] =
     b"base_domain = \"ts.example\"\nserver_url = \"https://a.example\"\ntoken = \"t\"\n\
         connections = 1\ndatabase = \"d\"\nephemeral_seconds = 2\npending_seconds = 3\nkey_seconds = 4\n\
         listen = \"l\"\npoll_turns = 5\nrequests = 6\nprefix_v4 = \"100.64.1.0/30\"\n\
-        prefix_v6 = \"fd7a:115c:a1e0:1::/126\"\nworkers = 64\n[dns]\nmagic = false\n\
+        prefix_v6 = \"fd7a:115c:a1e0:1::/126\"\nworkers = 1024\n[dns]\nmagic = false\n\
         resolvers = [\"1.1.1.1\", \"::1\"]\nroutes = { \"b.c\" = [], \"a.b\" = [\"2.2.2.2\"] }\nsearch = [\"x.y\"]\n";
 
-/// Whether the settings are those of the file with all keys.
-fn are_all_keys(fields: &SettingsFields) -> bool {
-    fields.connections == 1
-        && fields.ephemeral_seconds == 2
+/// Whether the tailnet is that of the file with all keys.
+fn is_whole_tailnet(fields: &SettingsFields) -> bool {
+    fields.ephemeral_seconds == 2
         && fields.pending_seconds == 3
         && fields.key_seconds == 4
+        && fields.workers == 1024
+        && fields.prefix_v4.len() == 30
+        && fields.prefix_v6.len() == 126
+}
+
+/// The same of the server.
+fn is_whole_server(fields: &ServerFields) -> bool {
+    fields.connections == 1
         && fields.poll_turns == 5
         && fields.requests == 6
         && fields.database.as_str() == "d"
         && fields.listen.as_str() == "l"
-        && fields.workers == 64
-        && fields.prefix_v4.len() == 30
-        && fields.prefix_v6.len() == 126
 }
 
 /// The same of its table `dns`.
@@ -154,7 +181,12 @@ fn is_all_dns(dns: &DnsSettings) -> bool {
 /// Whether all keys of the file are read.
 fn has_all_keys(alloc: Global) -> bool {
     match read_settings(alloc, ALL_KEYS) {
-        Ok(settings) => are_all_keys(settings.fields()) && is_all_dns(&settings.fields().dns),
+        Ok(settings) => {
+            let tailnet = settings.tailnet.fields();
+            is_whole_tailnet(tailnet)
+                && is_all_dns(&tailnet.dns)
+                && is_whole_server(settings.server.fields())
+        }
         Err(_) => false,
     }
 }

@@ -5,7 +5,7 @@ use Rattle.std.proofs.lemmas.Int.{to_z-of_z}
 use Rattle.io_edge.specs.Asked.{and_asked}
 use Rattle.io_edge.specs.Edge.{IsWhereTold}
 use Rattle.net_addr.specs.Moments.{clamped}
-use Rattle.settings.specs.declared.fields.SettingsFields.{SettingsFields}
+use Rattle.server_settings.specs.declared.fields.ServerFields.{ServerFields}
 use Rattle.connections.proofs.AnswerLemmas.{clamped_told}
 use Rattle.tailnet_commands.proofs.RunLemmas.{kept_given, still_some, still_still, where_loaded}
 use Rattle.tailnet_commands.proofs.OpenedLemmas.{unopened}
@@ -26,7 +26,7 @@ returns-in-Ok-open g c =
         whole = c.tables-rules.ensures.sound;
         rows_told = where_loaded _ (g.P.Opener.told c.args.opener.now) _ _ c.in-Ok.ensures.gives opened.still opened.rows;
         kept = kept_given (g.P.Opener.told c.args.opener.now) _ _ c.in-Ok.ensures.gives opened.still;
-        asked = c.in-Ok.ensures.asked ∙ ap (and_asked (g.P.Opener.asked c.args.opener.now)) (c.as_str.ensures.value ∙ ap (λ (f : SettingsFields). f.database) c.fields-fields.ensures.value);
+        asked = c.in-Ok.ensures.asked ∙ ap (and_asked (g.P.Opener.asked c.args.opener.now)) (c.as_str.ensures.value ∙ ap (λ (f : ServerFields). f.database) c.fields-fields.ensures.value);
         later = c.in-Ok.ensures.later;
       };
       fault = tt;
@@ -40,7 +40,7 @@ returns-in-Err g c =
       opened = tt;
       fault = unopened c.in-Err.fault c.ended_of.result c.args.settings _ _ c.ended_of.ensures.fault
           (kept_given (g.P.Opener.told c.args.opener.now) _ (g.P.Opener.told c.close.new.self) gives (still_still _ _ _ failed.kept c.close.ensures.told))
-          (c.close.ensures.asked ∙ c.in-Ok.ensures.asked ∙ ap (and_asked (g.P.Opener.asked c.args.opener.now)) (c.as_str.ensures.value ∙ ap (λ (f : SettingsFields). f.database) c.fields-fields.ensures.value))
+          (c.close.ensures.asked ∙ c.in-Ok.ensures.asked ∙ ap (and_asked (g.P.Opener.asked c.args.opener.now)) (c.as_str.ensures.value ∙ ap (λ (f : ServerFields). f.database) c.fields-fields.ensures.value))
           (λ h. omega (arith, failed.fault h, c.close.ensures.faults, c.in-Ok.ensures.later, c.in-Ok.ensures.fresh))
           (λ kind id h. still_some _ _ (g.P.Opener.told c.close.new.self) c.close.ensures.told (failed.damaged kind id h));
     }
