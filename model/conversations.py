@@ -1,4 +1,4 @@
-"""Conversations as lines of a text, in the notation of the tests (crates/talk_runs/src/talks.rt).
+"""Conversations as lines of a text, in the notation of the tests (crates/harness_pipe/src/talks.rt).
 
 `= NAME` begins a conversation. Before its first request may stand `: KEY = VALUE`, a line more in its settings, and
 `@ 1 2 3`, the clock's answers. Then `> METHOD PATH CALLER BODY` is a request and `< STATUS BODY` an answer. A caller is

@@ -22,9 +22,9 @@ use Rattle.connections.specs.Asked.{IsAskAnswered, Follows}
 use Rattle.connections.specs.Polled.{IsPollAnswered}
 use Rattle.connections.specs.Polls.{IsPoll}
 use Rattle.connections.specs.Exchanges.{Answered, IsExchange, IsOutcome, breaks, ended_by}
-use Rattle.run_ends.specs.Pieces.{Sent, IsSent}
-use Rattle.run_ends.specs.declared.closed.Closed.{Closed}
-use Rattle.run_ends.specs.declared.closed.Closed.TheVariants.{End, Early, ReadFault, WriteFault, NoMemory}
+use Rattle.exit_status.specs.Pieces.{Sent, IsSent}
+use Rattle.exit_status.specs.declared.closed.Closed.{Closed}
+use Rattle.exit_status.specs.declared.closed.Closed.TheVariants.{End, Early, ReadFault, WriteFault, NoMemory}
 
 abbrev pub same_number : {A : Type 0} (new old : ℕ → A) → ((k : ℕ) → new k ≡ old k) → (k : ℕ) → new k ≡ old (k + 0)
 same_number new old h k = h k ∙ ap old (sym (add-zero k))

@@ -1,9 +1,9 @@
 -- What is heard of a connection that broke off.
 use Rattle.std.proofs.Common.{◌≡◌, ℕ, Option, None, Some, List, [], ◌∷◌, ◌++◌, inl, inr, refl, sym, ap, ◌∙◌, append_assoc}
 use Rattle.connections.specs.Exchanges.{Exchange, AreUnbroken, answers_of}
-use Rattle.run_ends.specs.Pieces.{IsPrefix}
+use Rattle.exit_status.specs.Pieces.{IsPrefix}
 use Rattle.connections.specs.Connection.{IsBrokenOff, IsExtra}
-use Rattle.run_ends.specs.declared.closed.Closed.{Closed}
+use Rattle.exit_status.specs.declared.closed.Closed.{Closed}
 
 not_none : (xs : List Exchange) (y : Exchange) (ys : List Exchange) → (xs ++ y ∷ ys) ≡ [] → ⊥
 not_none [] y ys e = cc

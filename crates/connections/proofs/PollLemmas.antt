@@ -15,8 +15,8 @@ use Rattle.tailnet_desk.proofs.Histories.{Chain-append}
 use Rattle.desk_front.specs.Replies.{map_ask_of, reply_bytes}
 use Rattle.desk_front.specs.declared.front_settings.FrontSettings.{FrontSettings}
 use Rattle.desk_front.specs.declared.poll.Poll.{Poll}
-use Rattle.run_ends.specs.Pieces.{Sent}
-use Rattle.run_ends.specs.declared.closed.Closed.{Closed}
+use Rattle.exit_status.specs.Pieces.{Sent}
+use Rattle.exit_status.specs.declared.closed.Closed.{Closed}
 use Rattle.connections.specs.Exchanges.{breaks}
 use Rattle.connections.specs.Polled.{AttachAnswered, Completed, DrainedSent, Followed, FurtherSent, GoesOn, IsPollAnswered, NextSent, TurnedOnce}
 use Rattle.connections.specs.Polls.{AreBehind, AreFurther, IsAttachOf, IsBehindDrain, IsDetachOf, IsDrainOf, IsPollOf, chunks_for, drained_bytes, further_bytes, stream_ending, stream_front, stream_opening}

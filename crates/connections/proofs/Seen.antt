@@ -8,8 +8,8 @@ use Rattle.connections.specs.Exchanges.{turns_of}
 use Rattle.connections.specs.Connection.{IsConnection, Told, Ends}
 use Rattle.connections.specs.Tellings.{TurnsTook}
 use Rattle.connections.proofs.Tellings.{same_moments}
-use Rattle.run_ends.specs.declared.closed.Closed.{Closed}
-use Rattle.run_ends.specs.declared.closed.Closed.TheVariants.{End, Early, ReadFault, WriteFault, NoMemory}
+use Rattle.exit_status.specs.declared.closed.Closed.{Closed}
+use Rattle.exit_status.specs.declared.closed.Closed.TheVariants.{End, Early, ReadFault, WriteFault, NoMemory}
 
 abbrev pub with_answers : Told → (ℕ → Option ℤ) → Told
 with_answers t f = record { left = t.left; read_faults = t.read_faults; giving = record { held = t.giving.held; write_faults = t.giving.write_faults; answers = f; words = t.giving.words; word_faults = t.giving.word_faults } }

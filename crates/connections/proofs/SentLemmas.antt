@@ -6,10 +6,10 @@ use Rattle.fresh_maps.specs.Frames.{frame_of}
 use Rattle.http_chunks.specs.Streams.{chunk_of}
 use Rattle.io_edge.specs.Edge.{and_held}
 use Rattle.io_edge.proofs.Told.{held_more, held_nothing, rose_later}
-use Rattle.run_ends.specs.Pieces.{IsSent, Sent}
-use Rattle.run_ends.specs.declared.closed.Closed.{Closed}
-use Rattle.run_ends.specs.declared.closed.Closed.TheVariants.{End, Early, ReadFault, WriteFault, NoMemory}
-use Rattle.run_ends.proofs.Writes.{prefix_more}
+use Rattle.exit_status.specs.Pieces.{IsSent, Sent}
+use Rattle.exit_status.specs.declared.closed.Closed.{Closed}
+use Rattle.exit_status.specs.declared.closed.Closed.TheVariants.{End, Early, ReadFault, WriteFault, NoMemory}
+use Rattle.exit_status.proofs.Writes.{prefix_more}
 use Rattle.connections.specs.Exchanges.{breaks}
 use Rattle.connections.specs.Polled.{Completed}
 use Rattle.connections.specs.Polls.{chunks_for}

@@ -19,13 +19,13 @@ use Rattle.desk_front.specs.declared.front_settings.FrontSettings.{FrontSettings
 use Rattle.connections.specs.Tellings.{Giving, TurnsTook}
 use Rattle.connections.specs.Asked.{IsRefusalSent, IsRefusedBy}
 use Rattle.connections.specs.Exchanges.{Exchange, IsExchange, AreExchanges, Answered, IsOutcome, breaks, turns_of, answers_of, end_of}
-use Rattle.run_ends.specs.Pieces.{IsPrefix}
+use Rattle.exit_status.specs.Pieces.{IsPrefix}
 use Rattle.connections.specs.Connection.{IsConnection, Goes, Ends, IsExtra, Told}
 use Rattle.connections.proofs.AnswerLemmas.{took_none}
 use Rattle.connections.proofs.Tellings.{took-append}
-use Rattle.run_ends.proofs.Writes.{prefix_more}
-use Rattle.run_ends.specs.declared.closed.Closed.{Closed}
-use Rattle.run_ends.specs.declared.closed.Closed.TheVariants.{End, Early, ReadFault, WriteFault, NoMemory}
+use Rattle.exit_status.proofs.Writes.{prefix_more}
+use Rattle.exit_status.specs.declared.closed.Closed.{Closed}
+use Rattle.exit_status.specs.declared.closed.Closed.TheVariants.{End, Early, ReadFault, WriteFault, NoMemory}
 
 refused_ends : (closed : Closed) (rest : List ℕ) (fault : HeadFault) (written : List ℕ) (old new : Told) → IsTail rest (bad fault) → IsRefusedBy written (head_fault_answer fault) old.giving.write_faults new.giving.write_faults closed
     → IsPrefix written (head_fault_answer fault) → Ends closed [] rest (head_fault_answer fault) written old new

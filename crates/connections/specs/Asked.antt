@@ -9,9 +9,9 @@ use Rattle.desk_front.specs.Replies.{reply_bytes}
 use Rattle.desk_front.specs.declared.front_settings.FrontSettings.{FrontSettings}
 use Rattle.connections.specs.Exchanges.{IsOutcome, breaks}
 use Rattle.connections.specs.Tellings.{Giving, IsTurnOf, TurnsTook}
-use Rattle.run_ends.specs.Pieces.{IsPrefix, Sent, IsSent}
-use Rattle.run_ends.specs.declared.closed.Closed.{Closed}
-use Rattle.run_ends.specs.declared.closed.Closed.TheVariants.{End, Early, ReadFault, WriteFault, NoMemory}
+use Rattle.exit_status.specs.Pieces.{IsPrefix, Sent, IsSent}
+use Rattle.exit_status.specs.declared.closed.Closed.{Closed}
+use Rattle.exit_status.specs.declared.closed.Closed.TheVariants.{End, Early, ReadFault, WriteFault, NoMemory}
 
 -- the ask was one turn, and the answer to its reply was written
 pub record IsAskAnswered {T S : Type 0} (turn : S → Event → Reply → S → Type 0) (given : FrontSettings) (outcome : Result T Closed) (ask : Ask) (close : Bool) (old new : Giving) (s t : S) : Type 0 where

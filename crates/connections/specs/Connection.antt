@@ -9,10 +9,10 @@ use Rattle.tailnet_desk.specs.declared.entry.Event.{Event}
 use Rattle.tailnet_desk.specs.declared.reply.Reply.{Reply}
 use Rattle.desk_front.specs.declared.front_settings.FrontSettings.{FrontSettings}
 use Rattle.connections.specs.Tellings.{Giving, TurnsTook, giving}
-use Rattle.run_ends.specs.Pieces.{IsPrefix}
+use Rattle.exit_status.specs.Pieces.{IsPrefix}
 use Rattle.connections.specs.Exchanges.{Exchange, IsExchange, AreExchanges, AreUnbroken, requests_of, turns_of, answers_of, end_of}
-use Rattle.run_ends.specs.declared.closed.Closed.{Closed}
-use Rattle.run_ends.specs.declared.closed.Closed.TheVariants.{End, Early, ReadFault, WriteFault, NoMemory}
+use Rattle.exit_status.specs.declared.closed.Closed.{Closed}
+use Rattle.exit_status.specs.declared.closed.Closed.TheVariants.{End, Early, ReadFault, WriteFault, NoMemory}
 
 -- what the source tells, and the rest
 pub record Told : Type 0 where

@@ -15,9 +15,9 @@ use Rattle.desk_front.specs.declared.want.Wanted.TheVariants as wants
 use Rattle.desk_front.specs.declared.front_settings.FrontSettings.{FrontSettings}
 use Rattle.connections.specs.Polls.{IsPoll}
 use Rattle.connections.specs.Tellings.{Giving, IsTurnOf, TurnsTook}
-use Rattle.run_ends.specs.Pieces.{IsPrefix}
-use Rattle.run_ends.specs.declared.closed.Closed.{Closed}
-use Rattle.run_ends.specs.declared.closed.Closed.TheVariants.{End, Early, ReadFault, WriteFault, NoMemory}
+use Rattle.exit_status.specs.Pieces.{IsPrefix}
+use Rattle.exit_status.specs.declared.closed.Closed.{Closed}
+use Rattle.exit_status.specs.declared.closed.Closed.TheVariants.{End, Early, ReadFault, WriteFault, NoMemory}
 
 -- a served request, its turns, the bytes of its answer, how it ended the connection, if it did, and whether its writing broke off
 pub record Exchange : Type 0 where

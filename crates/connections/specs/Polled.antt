@@ -10,8 +10,8 @@ use Rattle.desk_front.specs.declared.poll.Poll.{Poll}
 use Rattle.connections.specs.Exchanges.{breaks}
 use Rattle.connections.specs.Polls.{AreBehind, AreFurther, IsDrainOf, IsPoll, IsPollOf, IsStream, drained_bytes, further_bytes, stream_front}
 use Rattle.connections.specs.Tellings.{Giving, TurnsTook}
-use Rattle.run_ends.specs.Pieces.{Sent}
-use Rattle.run_ends.specs.declared.closed.Closed.{Closed}
+use Rattle.exit_status.specs.Pieces.{Sent}
+use Rattle.exit_status.specs.declared.closed.Closed.{Closed}
 
 -- one turn, of which the test holds, was replied so
 pub record TurnedOnce {S : Type 0} (turn : S → Event → Reply → S → Type 0) (is : Turned → Type 0) (reply : Reply) (old new : Giving) (s t : S) : Type 0 where

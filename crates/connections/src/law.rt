@@ -1,8 +1,8 @@
 //! What follows from a connection's contract. None of these functions does anything: each states a law.
 ghost use Rattle.connections.specs.Connection.{IsBrokenOff, IsExtra};
 ghost use Rattle.connections.specs.Exchanges.{AreUnbroken, Exchange, answers_of};
-ghost use Rattle.run_ends.specs.Pieces.{IsPrefix};
-ghost use Rattle.run_ends.specs.declared.closed.Closed.{Closed};
+ghost use Rattle.exit_status.specs.Pieces.{IsPrefix};
+ghost use Rattle.exit_status.specs.declared.closed.Closed.{Closed};
 ghost use Rattle.std.specs.Prelude.{◌≡◌, ℕ, List, [], ◌∷◌, ◌++◌, Some};
 
 /// Where a connection broke off, each answer but the last was written whole: after a failed write no

@@ -1,14 +1,14 @@
 //! The answers to replies and to refused heads, written whole.
 ghost use Rattle.desk_front.specs.Replies.{reply_bytes};
 ghost use Rattle.http_front.specs.HeadFaults as spec;
-ghost use Rattle.run_ends.specs.Pieces.{Sent};
+ghost use Rattle.exit_status.specs.Pieces.{Sent};
 ghost use Rattle.std.specs.Prelude.{◌≡◌};
 
 use desk_front::Front;
+use exit_status::{Closed, send};
 use fresh_maps::NodeTexts;
 use http_front::{HeadFault, head_fault_answer, no_memory_answer};
 use io_edge::Sink;
-use run_ends::{Closed, send};
 use std::alloc::Global;
 use tail_base::NoMemory;
 use tailnet_desk::{Ask, Loss, Reply};

@@ -6,10 +6,10 @@ ghost use Rattle.tailnet_desk.specs.Turns.{IsTurn};
 
 use crate::serving::serve;
 use desk_front::Front;
+use exit_status::Closed;
 use fresh_maps::NodeTexts;
 use io_edge::{Clock, Entropy, NoPause, Sink, Source};
 use row_keeper::Keeper;
-use run_ends::Closed;
 use std::alloc::Global;
 use tailnet_desk::Desk;
 

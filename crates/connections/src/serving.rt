@@ -7,10 +7,10 @@ ghost use Rattle.connections.specs.Connection.{Goes, IsConnection, told};
 use crate::answering::answer_request;
 use crate::replying::send_refusal;
 use desk_front::Front;
+use exit_status::Closed;
 use fresh_maps::NodeTexts;
 use http_front::{Buffer, HeadFault, Taken, take_request};
 use io_edge::{Clock, Entropy, Pause, Sink, Source};
-use run_ends::Closed;
 use std::alloc::Global;
 use tailnet_desk::Turns;
 

@@ -2,16 +2,16 @@
 ghost use Rattle.std.specs.Prelude.{◌≡◌, ◌++◌, IfOk};
 ghost use Rattle.fresh_maps.specs.Frames.{frame_of};
 ghost use Rattle.http_chunks.specs.Streams as chunks;
-ghost use Rattle.run_ends.specs.Pieces.{Sent};
+ghost use Rattle.exit_status.specs.Pieces.{Sent};
 ghost use Rattle.tailnet_desk.specs.Step.{drain_reply};
 ghost use Rattle.connections.specs.Polled.{Completed, GoesOn};
 ghost use Rattle.connections.specs.Polls.{chunks_for, drained_bytes, greeting_bytes, stream_ending, stream_opening};
 
+use exit_status::{Closed, send};
 use fresh_maps::{NodeTexts, frame_bytes};
 use http_chunks::{chunk_of, last_chunk, stream_head};
 use io_edge::Sink;
 use map_delta::greeting;
-use run_ends::{Closed, send};
 use std::alloc::Global;
 use tail_base::{Duplicate, NoMemory, Text};
 use tailcfg::Response;

@@ -1,9 +1,9 @@
 -- What operators want.
 use Rattle.std.specs.Prelude.{ℕ, List, Bool, false, ◌&&◌, Option, None, Some, codes, take, drop}
 use Rattle.std.specs.Str.{bytes_eq}
-use Rattle.admin_wire.specs.ExtraForms.{extras_form_of_body}
-use Rattle.admin_wire.specs.Forms.{admit_form_of_body, empty_form_of_body, expiry_form_of_body, key_form_of_body, rename_form_of_body, routes_form_of_body, tags_form_of_body, user_form_of_body}
-use Rattle.admin_wire.specs.declared.forms.AdmitForm.{AdmitForm}
+use Rattle.wire_admin.specs.ExtraForms.{extras_form_of_body}
+use Rattle.wire_admin.specs.Forms.{admit_form_of_body, empty_form_of_body, expiry_form_of_body, key_form_of_body, rename_form_of_body, routes_form_of_body, tags_form_of_body, user_form_of_body}
+use Rattle.wire_admin.specs.declared.forms.AdmitForm.{AdmitForm}
 use Rattle.path_routes.specs.Finds.{text_of}
 use Rattle.admin_asks.specs.declared.operator_ask.OperatorAsk.{OperatorAsk}
 use Rattle.admin_asks.specs.declared.operator_ask.OperatorAsk.TheVariants as ask

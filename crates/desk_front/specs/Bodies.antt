@@ -2,12 +2,12 @@
 use Rattle.std.specs.Prelude.{ℕ, List, [], None, Some, codes}
 use Rattle.admin_asks.specs.declared.operator_answer.OperatorAnswer.{OperatorAnswer}
 use Rattle.admin_asks.specs.declared.operator_answer.OperatorAnswer.TheVariants as operator
-use Rattle.admin_wire.specs.Extras.{extras_text}
-use Rattle.admin_wire.specs.Keys.{key_text, keys_text}
-use Rattle.admin_wire.specs.Nodes.{node_text, nodes_text}
-use Rattle.admin_wire.specs.Swept.{swept_text}
-use Rattle.admin_wire.specs.Users.{user_text, users_text}
-use Rattle.admin_wire.specs.Waiting.{waiting_text}
+use Rattle.wire_admin.specs.Extras.{extras_text}
+use Rattle.wire_admin.specs.Keys.{key_text, keys_text}
+use Rattle.wire_admin.specs.Nodes.{node_text, nodes_text}
+use Rattle.wire_admin.specs.Swept.{swept_text}
+use Rattle.wire_admin.specs.Users.{user_text, users_text}
+use Rattle.wire_admin.specs.Waiting.{waiting_text}
 use Rattle.machine_asks.specs.declared.answer.MachineAnswer.{MachineAnswer}
 use Rattle.machine_asks.specs.declared.answer.MachineAnswer.TheVariants as machine
 use Rattle.fresh_maps.specs.Frames.{frame_of}
@@ -16,7 +16,7 @@ use Rattle.policy_asks.specs.declared.answer.PolicyAnswer.{PolicyAnswer}
 use Rattle.policy_asks.specs.declared.answer.PolicyAnswer.TheVariants as policy
 use Rattle.tailnet_desk.specs.declared.reply.Answer.{Answer}
 use Rattle.tailnet_desk.specs.declared.reply.Answer.TheVariants.{Machine, Operator, Policy, Seeded}
-use Rattle.wire_text.specs.Registered.{registered_text, login_at_text}
+use Rattle.wire_write.specs.Registered.{registered_text, login_at_text}
 
 -- what a machine is answered, with the URL at which the server is reached
 abbrev pub machine_body : List ℕ → MachineAnswer → List ℕ

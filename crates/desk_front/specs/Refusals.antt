@@ -1,6 +1,6 @@
 -- The answers to refusals, and to asks that were lost.
 use Rattle.std.specs.Prelude.{ℕ, List, ◌++◌, Bool, codes, decimal, if◌then◌else◌}
-use Rattle.admin_wire.specs.Refused.{refused_text}
+use Rattle.wire_admin.specs.Refused.{refused_text}
 use Rattle.desk_state.specs.declared.refusal.Refusal.{Refusal}
 use Rattle.desk_state.specs.declared.refusal.Refusal.TheVariants.{UnknownUser, NameTaken, BadName, UnknownMachine, KeyUnknown, KeyExpired, KeyUsed, TagNotOwned, TagUndefined, NodeKeyTaken, RouteNotAdvertised, RouteOverlaps, PolicyRefused, NotLive, Full, AddressesSpent, UserHasMachines, PendingUnknown, EntropyFault}
 use Rattle.desk_state.specs.declared.refusal.Scarce.{Scarce}

@@ -8,16 +8,16 @@ use crate::action::OperatorAction;
 use crate::faults::{body_answer, fault_answer};
 use crate::want::Wanted;
 use admin_asks::OperatorAsk;
-use admin_wire::{
-    AdmitForm, read_admit_form, read_empty_form, read_expiry_form, read_extras_form, read_key_form,
-    read_rename_form, read_routes_form, read_tags_form, read_user_form,
-};
 use http::StatusCode;
 use path_routes::text_of;
 use policy_asks::PolicyAsk;
 use std::alloc::Global;
 use tail_base::{Bytes, Failure, NoMemory, Text};
 use tailnet_desk::Ask;
+use wire_admin::{
+    AdmitForm, read_admit_form, read_empty_form, read_expiry_form, read_extras_form, read_key_form,
+    read_rename_form, read_routes_form, read_tags_form, read_user_form,
+};
 use wire_json::WireFault;
 
 /// Whether the value of the first `Authorization` line is `Bearer`, a space and the token.

@@ -3,17 +3,17 @@ ghost use Rattle.std.specs.Prelude.{◌≡◌, IfOk, codes};
 ghost use Rattle.desk_front.specs.Bodies.{answer_body, machine_body, operator_body, policy_body};
 
 use admin_asks::OperatorAnswer;
-use admin_wire::{
-    extras_text, key_text, keys_text, node_text, nodes_text, swept_text, user_text, users_text,
-    waiting_text,
-};
 use fresh_maps::{NodeTexts, first_frame};
 use machine_asks::MachineAnswer;
 use policy_asks::PolicyAnswer;
 use std::alloc::Global;
 use tail_base::{NoMemory, Text};
 use tailnet_desk::Answer;
-use wire_text::{login_at_text, registered_text};
+use wire_admin::{
+    extras_text, key_text, keys_text, node_text, nodes_text, swept_text, user_text, users_text,
+    waiting_text,
+};
+use wire_write::{login_at_text, registered_text};
 
 /// The bytes of a text.
 pub(crate) fn bytes_of(alloc: Global, text: &Text) -> Result<Vec<u8>, NoMemory>

@@ -4,12 +4,12 @@ ghost use Rattle.desk_state.specs.declared.refusal.Refusal.{Refusal};
 ghost use Rattle.desk_front.specs.Refusals as spec;
 
 use crate::faults::error_body;
-use admin_wire::refused_text;
 use desk_state::{Refusal, Scarce};
 use http::StatusCode;
 use std::alloc::Global;
 use tail_base::{NoMemory, Text};
 use tailnet_desk::Loss;
+use wire_admin::refused_text;
 
 fn scarce_name(kind: Scarce) -> &'static str
     ensures value { result.now ≡ spec.scarce_name kind }

@@ -6,8 +6,7 @@ ghost use Rattle.std.specs.Ordering.{int_eq};
 ghost use Rattle.std.specs.Str.{bytes_eq};
 ghost use Rattle.desk_state.specs.Same as spec;
 
-use net_addr::Moment;
-use net_addr::{Endpoint, Prefix};
+use net_addr::{Endpoint, Moment, Prefix};
 use net_rows::Machine;
 use tail_base::Tag;
 

@@ -5,9 +5,9 @@ use Rattle.std.proofs.lemmas.Grind.{flat_map-append}
 use Rattle.std.proofs.lemmas.List.{map-append, take_more, take_rest}
 use Rattle.tailcfg.specs.declared.node_row.NodeRow.{NodeRow}
 use Rattle.tailcfg.specs.declared.response.Response.{Response}
-use Rattle.wire_text.specs.Joined.{before_peers, behind_commas, behind_peers, comma_joined, node_row_text}
-use Rattle.wire_text.specs.Responses.{response_text}
-use Rattle.wire_text.proofs.JoinedLemmas.{text_in_parts}
+use Rattle.wire_write.specs.Joined.{before_peers, behind_commas, behind_peers, comma_joined, node_row_text}
+use Rattle.wire_write.specs.Responses.{response_text}
+use Rattle.wire_write.proofs.JoinedLemmas.{text_in_parts}
 
 -- the texts of one more row, each behind a comma
 commas_more : (rows : List NodeRow) (i : ℕ) (row : NodeRow) → i < length rows → row ≡ get_or rows i row

@@ -2,7 +2,7 @@
 use Rattle.std.specs.Prelude.{ℕ, List, ◌++◌, length}
 use Rattle.std.specs.Int.{w32, to_le_bytes}
 use Rattle.tailcfg.specs.declared.response.Response.{Response}
-use Rattle.wire_text.specs.Responses.{response_text}
+use Rattle.wire_write.specs.Responses.{response_text}
 
 -- a text with its length before it
 abbrev pub framed : List ℕ → List ℕ

@@ -4,8 +4,8 @@ ghost use Rattle.std.specs.Int.{w32, to_le_bytes};
 ghost use Rattle.std.specs.Option.{option_copied};
 ghost use Rattle.fresh_maps.specs.Frames.{frame_of};
 ghost use Rattle.fresh_maps.specs.Responses.{first_response};
-ghost use Rattle.wire_text.specs.Joined.{behind_commas, comma_joined, node_row_text};
-ghost use Rattle.wire_text.specs.Responses.{response_text};
+ghost use Rattle.wire_write.specs.Joined.{behind_commas, comma_joined, node_row_text};
+ghost use Rattle.wire_write.specs.Responses.{response_text};
 
 use crate::node_texts::NodeTexts;
 use crate::response::first_response;
@@ -13,7 +13,7 @@ use crate::view::View;
 use std::alloc::Global;
 use tail_base::{NoMemory, Text};
 use tailcfg::{NodeRow, Response};
-use wire_text::{ResponseParts, append_before_peers, append_behind_peers, append_response};
+use wire_write::{ResponseParts, append_before_peers, append_behind_peers, append_response};
 
 /// Puts a number over the first four bytes, the lowest first.
 fn put_length(bytes: &mut Vec<u8>, length: u32)

@@ -1,6 +1,6 @@
 //! The texts of nodes that were written last.
 ghost use Rattle.std.specs.Prelude.{◌≡◌, ◌++◌, ◌<◌, IfOk, IfSome, OnOk};
-ghost use Rattle.wire_text.specs.Joined.{node_row_text};
+ghost use Rattle.wire_write.specs.Joined.{node_row_text};
 
 use same_maps::same_node_row;
 use std::alloc::Global;
@@ -8,7 +8,7 @@ use std::marker::Model;
 use std::mem;
 use tail_base::{Duplicate, NoMemory};
 use tailcfg::NodeRow;
-use wire_text::append_node;
+use wire_write::append_node;
 
 /// How many texts are kept at most: twice as many as there may be machines, since slots go by id, and ids of
 /// machines that went leave gaps.

@@ -5,7 +5,7 @@ ghost use Rattle.fresh_maps.specs.Responses.{first_response};
 
 use crate::view::View;
 use tail_base::Text;
-use wire_text::ResponseParts;
+use wire_write::ResponseParts;
 
 /// The response that is a whole map, lent by the view, with the handle of its session and its number
 /// there, if it has any.

@@ -13,7 +13,7 @@ ghost use Rattle.store_loads.specs.Tells.{IsKnown};
 ghost use Rattle.store_loads.specs.Told.{store_tells};
 ghost use Rattle.store_reads.specs.Readable.{AreReadable, IsOutside};
 ghost use Rattle.store_reads.specs.Seen.{IsSeen};
-ghost use Rattle.store_texts.specs.Schema.{no_schema, schema_1};
+ghost use Rattle.store_sql.specs.Schema.{no_schema, schema_1};
 ghost use Rattle.sqlite.specs.Held.{state};
 ghost use Rattle.sqlite.specs.State.{HasCleanDisk, Survives};
 

@@ -7,7 +7,7 @@ use Rattle.tailnet_desk.specs.declared.entry.Event.{Event}
 use Rattle.tailnet_desk.specs.declared.reply.Reply.{Reply}
 use Rattle.connections.specs.Connection.{IsConnection, Told}
 use Rattle.connections.proofs.Seen.{serves_map}
-use Rattle.run_ends.specs.declared.closed.Closed.TheVariants.{Early}
+use Rattle.exit_status.specs.declared.closed.Closed.TheVariants.{Early}
 use Rattle.load_run.specs.Beginning.{IsBegun}
 use Rattle.load_run.specs.Early.{IsNextEarly, IsRunEarly, IsServedEarly}
 use Rattle.load_run.specs.Loads.{IsLoadEarly, load_front}

@@ -8,8 +8,8 @@ use Rattle.tailnet_desk.specs.declared.reply.Reply.{Reply}
 use Rattle.tailnet_desk.specs.declared.reply.Reply.TheVariants.{Lost}
 use Rattle.tailnet_desk.proofs.Histories.{history_of}
 use Rattle.connections.specs.Exchanges.{turns_of}
-use Rattle.run_ends.specs.Pieces.{Wrote}
-use Rattle.run_ends.specs.declared.status.Status.TheVariants as status
+use Rattle.exit_status.specs.Pieces.{Wrote}
+use Rattle.exit_status.specs.declared.status.Status.TheVariants as status
 use Rattle.load_run.specs.Beginning.{IsBegun}
 use Rattle.load_run.specs.Loads.{IsLoad, IsLoadText, IsReported, load_front, opening_point, seeding}
 use Rattle.load_run.specs.Report.{report}

@@ -12,7 +12,7 @@ use Rattle.connections.specs.Exchanges.{AreExchanges, Exchange, IsExchange, answ
 use Rattle.tailnet_desk.specs.Asks.{event_words}
 use Rattle.connections.specs.Tellings.{AreNext, MomentsTold, WordsTold, drawn, drawn_for, failed_draws, from_number}
 use Rattle.connections.proofs.Tellings.{same_moments}
-use Rattle.run_ends.specs.declared.closed.Closed.TheVariants.{End}
+use Rattle.exit_status.specs.declared.closed.Closed.TheVariants.{End}
 use Rattle.load_run.specs.Outside as outside
 use Rattle.load_run.specs.Served.{IsServed}
 use Rattle.load_run.specs.Steps.{Begins}

@@ -6,7 +6,7 @@ use Rattle.tailnet_desk.specs.Turns.{IsTurn}
 use Rattle.tailnet_desk.specs.declared.entry.Event.{Event}
 use Rattle.tailnet_desk.specs.declared.reply.Reply.{Reply}
 use Rattle.connections.specs.Connection.{IsConnection, Told}
-use Rattle.run_ends.specs.declared.closed.Closed.TheVariants.{Early}
+use Rattle.exit_status.specs.declared.closed.Closed.TheVariants.{Early}
 use Rattle.load_run.specs.Messages.{task_message}
 use Rattle.load_run.specs.Steps.{Runs, Stand, next_known, next_task}
 use Rattle.load_run.specs.declared.task.LoadPlan.{LoadPlan}

@@ -15,9 +15,9 @@ use Rattle.tailnet_desk.specs.declared.reply.Reply.TheVariants.{Lost}
 use Rattle.desk_front.specs.Wanted.{front_settings}
 use Rattle.desk_front.specs.declared.front_settings.FrontSettings.{FrontSettings}
 use Rattle.connections.specs.Exchanges.{turns_of}
-use Rattle.run_ends.specs.Pieces.{Wrote}
-use Rattle.run_ends.specs.declared.status.Status.{Status}
-use Rattle.run_ends.specs.declared.status.Status.TheVariants as status
+use Rattle.exit_status.specs.Pieces.{Wrote}
+use Rattle.exit_status.specs.declared.status.Status.{Status}
+use Rattle.exit_status.specs.declared.status.Status.TheVariants as status
 use Rattle.load_run.specs.Early.{IsRunEarly}
 use Rattle.load_run.specs.Given.{load_server, load_settings}
 use Rattle.load_run.specs.Report.{report}

@@ -1,7 +1,7 @@
 //! The command `load`.
 ghost use Rattle.std.specs.Prelude.{◌≡◌, ◌<◌, false, IfOk, IsErrOf, OnOk, replicate};
 ghost use Rattle.net_rows.specs.Rows.{empty_rows};
-ghost use Rattle.run_ends.specs.Lines.{Noted};
+ghost use Rattle.exit_status.specs.Lines.{Noted};
 ghost use Rattle.tailnet_desk.specs.Opening.{opening};
 ghost use Rattle.tailnet_desk.specs.Seated.{point_of};
 ghost use Rattle.load_run.specs.Beginning.{IsBegun, IsLoadSeeded, IsSeedAsked, IsSeedHeard, IsUnseeded, unheard};
@@ -23,10 +23,10 @@ use crate::run::{Run, Stopped};
 use crate::task::{FIRST_MOMENT, LoadPlan};
 use crate::watched::WatchedDesk;
 use desk_front::Front;
+use exit_status::{Status, note_line, write_all};
 use io_edge::Sink;
 use net_addr::Moment;
 use row_keeper::Keeper;
-use run_ends::{Status, note_line, write_all};
 use settings::Settings;
 use std::alloc::Global;
 use tail_base::{NoMemory, Text};

@@ -21,10 +21,10 @@ use crate::task::{LoadPlan, Task, TaskKind, moment_at, request_count, source_aft
 use crate::watched::WatchedDesk;
 use connections::serve;
 use desk_front::Front;
+use exit_status::Closed;
 use fresh_maps::NodeTexts;
 use io_edge::{MemorySink, MemorySource, NoPause, Sink};
 use row_keeper::Keeper;
-use run_ends::Closed;
 use std::alloc::Global;
 use tail_base::{Bytes, Duplicate, Items, NoMemory, Text};
 

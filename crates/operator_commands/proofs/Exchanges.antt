@@ -1,7 +1,7 @@
 -- The outcome of writes and reads of a link.
 use Rattle.std.proofs.Common.{◌≡◌, ◌≤◌, ℕ, Bool, true, false, Option, List, [], ◌++◌, Result, Ok, Err, refl, sym, ap, ◌∙◌, subst, inr, inl, arith}
-use Rattle.run_ends.specs.Pieces.{Wrote}
-use Rattle.run_ends.proofs.Writes.{wrote_more}
+use Rattle.exit_status.specs.Pieces.{Wrote}
+use Rattle.exit_status.proofs.Writes.{wrote_more}
 use Rattle.io_edge.specs.Edge.{Besides, and_held}
 use Rattle.io_edge.proofs.Told.{rose_later}
 use Rattle.http_client.specs.Answers.{IsBadAnswer}

@@ -11,7 +11,7 @@ use Rattle.operator_commands.specs.declared.unanswered.Unanswered.{Unanswered}
 use Rattle.operator_commands.specs.declared.unanswered.Unanswered.TheVariants as fault
 use Rattle.operator_requests.specs.Requests.{command_request, method_name}
 use Rattle.operator_requests.specs.declared.request.OperatorRequest.{OperatorRequest}
-use Rattle.run_ends.specs.Pieces.{Wrote}
+use Rattle.exit_status.specs.Pieces.{Wrote}
 
 -- the bytes of a request with a token
 abbrev pub request_bytes : List ℕ → OperatorRequest → List ℕ

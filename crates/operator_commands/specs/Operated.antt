@@ -8,10 +8,10 @@ use Rattle.operator_commands.specs.Filed.{IsFileRead}
 use Rattle.operator_commands.specs.declared.unanswered.Unanswered.{Unanswered}
 use Rattle.operator_commands.specs.declared.unanswered.Unanswered.TheVariants as fault
 use Rattle.operator_requests.specs.Requests.{file_of}
-use Rattle.run_ends.specs.Lines.{Noted}
-use Rattle.run_ends.specs.Pieces.{Wrote}
-use Rattle.run_ends.specs.declared.status.Status.{Status}
-use Rattle.run_ends.specs.declared.status.Status.TheVariants as status
+use Rattle.exit_status.specs.Lines.{Noted}
+use Rattle.exit_status.specs.Pieces.{Wrote}
+use Rattle.exit_status.specs.declared.status.Status.{Status}
+use Rattle.exit_status.specs.declared.status.Status.TheVariants as status
 
 -- what a sink tells at a moment
 pub record SinkPoint : Type 0 where

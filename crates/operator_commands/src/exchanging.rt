@@ -7,10 +7,10 @@ ghost use Rattle.io_edge.specs.Linked.{link_told};
 ghost use Rattle.operator_commands.specs.Exchange.{Exchanged, IsAnswerRead, IsConnected, IsRequestSent};
 
 use crate::unanswered::Unanswered;
+use exit_status::write_all;
 use http_client::{ServerAnswer, TakenAnswer, read_answer};
 use http_front::Buffer;
 use io_edge::{EdgeFault, Link};
-use run_ends::write_all;
 use std::alloc::Global;
 
 /// Connects the link to the address.

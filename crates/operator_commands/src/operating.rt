@@ -9,10 +9,10 @@ use crate::filing::file_bytes;
 use crate::telling::tell;
 use crate::unanswered::Unanswered;
 use command_words::OperatorCall;
+use exit_status::{Status, note_line};
 use http_client::ServerAnswer;
 use io_edge::{Files, Link, Sink};
 use operator_requests::file_of;
-use run_ends::{Status, note_line};
 use std::alloc::Global;
 
 /// Reads the file that the command sends, if it sends one, and then asks the server.

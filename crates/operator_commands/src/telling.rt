@@ -1,11 +1,11 @@
 //! An answer that is told.
 ghost use Rattle.std.specs.Prelude.{◌≡◌, is_err};
-ghost use Rattle.run_ends.specs.Pieces.{Wrote};
+ghost use Rattle.exit_status.specs.Pieces.{Wrote};
 ghost use Rattle.operator_commands.specs.Operated.{IsTold, is_success, sink_point, told_line};
 
+use exit_status::{Status, write_all};
 use http_client::ServerAnswer;
 use io_edge::{Failed, Sink};
-use run_ends::{Status, write_all};
 
 /// Whether a status is 2xx.
 fn is_success(status: u16) -> bool

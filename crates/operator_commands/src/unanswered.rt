@@ -2,7 +2,7 @@
 ghost use Rattle.std.specs.Prelude.{◌≡◌};
 ghost use Rattle.operator_commands.specs.Operated.{status_unanswered};
 
-use run_ends::Status;
+use exit_status::Status;
 
 /// Why a command got no answer.
 #[derive(Clone, Copy, Debug, PartialEq, Eq, Drop)]

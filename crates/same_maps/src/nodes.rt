@@ -7,8 +7,7 @@ ghost use Rattle.std.specs.Str.{bytes_eq};
 ghost use Rattle.same_maps.specs.Nodes as spec;
 ghost use Rattle.same_maps.specs.Parts.{same_endpoint, same_prefix};
 
-use net_addr::Moment;
-use net_addr::{Endpoint, Prefix};
+use net_addr::{Endpoint, Moment, Prefix};
 use tail_base::Tag;
 use tailcfg::{NodeRow, Profile};
 

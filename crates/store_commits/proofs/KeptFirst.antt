@@ -8,14 +8,14 @@ use Rattle.sqlite_value.specs.Order.{Row}
 use Rattle.sqlite_schema.specs.declared.schema.Schema.{Schema}
 use Rattle.sqlite_schema.specs.declared.schema.Table.{Table}
 use Rattle.store_rows.specs.Rows.{meta_cells}
-use Rattle.store_texts.specs.Making.{AreEmpty, LeadsTo}
-use Rattle.store_texts.specs.Ran.{IsPutBy}
-use Rattle.store_texts.specs.Schema.{meta_table}
-use Rattle.store_texts.specs.Texts.{insert_meta_text, update_meta_text}
-use Rattle.store_texts.proofs.Inserts.{insert_meta_means}
-use Rattle.store_texts.proofs.Places.{meta_place}
-use Rattle.store_texts.proofs.Puts.{cast_number, puts_row}
-use Rattle.store_texts.proofs.Updates.{update_meta_means}
+use Rattle.store_sql.specs.Making.{AreEmpty, LeadsTo}
+use Rattle.store_sql.specs.Ran.{IsPutBy}
+use Rattle.store_sql.specs.Schema.{meta_table}
+use Rattle.store_sql.specs.Texts.{insert_meta_text, update_meta_text}
+use Rattle.store_sql.proofs.Inserts.{insert_meta_means}
+use Rattle.store_sql.proofs.Places.{meta_place}
+use Rattle.store_sql.proofs.Puts.{cast_number, puts_row}
+use Rattle.store_sql.proofs.Updates.{update_meta_means}
 use Rattle.store_commits.specs.Kept.{Keeps, tree_row, value_of}
 
 -- the text of a function is the one that the definition names

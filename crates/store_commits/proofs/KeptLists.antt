@@ -16,7 +16,7 @@ use Rattle.sqlite_trees.specs.Tree as tree
 use Rattle.net_rows.specs.Shelf.{put_row, without, IsAscending}
 use Rattle.net_rows.proofs.RemoveLemmas.{put_row_is_insertion}
 use Rattle.store_rows.specs.Rows.{extra_cells}
-use Rattle.store_texts.proofs.Lists.{row_of, left}
+use Rattle.store_sql.proofs.Lists.{row_of, left}
 use Rattle.tailcfg.specs.declared.dns.DnsExtra.{DnsExtra}
 use Rattle.store_commits.specs.Kept.{tree_row, placed_rows}
 

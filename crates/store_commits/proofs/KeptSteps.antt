@@ -25,16 +25,16 @@ use Rattle.net_rows.specs.declared.user.User.{User}
 use Rattle.store_rows.specs.Addresses.{address_cell, v6_bytes}
 use Rattle.store_rows.specs.Cells.{expiry_cell, truth_cell}
 use Rattle.store_rows.specs.Rows.{auth_key_cells, extra_cells, machine_cells, meta_cells, pending_cells, policy_cells, user_cells}
-use Rattle.store_texts.specs.Ran.{HasRun, IsPutBy}
-use Rattle.store_texts.specs.Schema.{schema_1, meta_table, users_table, auth_keys_table, pending_table, machines_table, extras_table, policy_table}
-use Rattle.store_texts.specs.Texts.{clear_extras_text, delete_auth_keys_text, delete_machines_text, delete_pending_text, delete_users_text, insert_auth_keys_text, insert_extras_text, insert_machines_text, insert_meta_text, insert_pending_text, insert_policy_text, insert_users_text, update_auth_keys_text, update_machines_text, update_meta_text, update_pending_text, update_policy_text, update_users_text}
-use Rattle.store_texts.proofs.Deletes.{delete_users_means, delete_auth_keys_means, delete_pending_means, delete_machines_means}
-use Rattle.store_texts.proofs.Inserts.{insert_users_means, insert_auth_keys_means, insert_pending_means, insert_machines_means, insert_extras_means, insert_meta_means, insert_policy_means}
-use Rattle.store_texts.proofs.Updates.{update_users_means, update_auth_keys_means, update_pending_means, update_machines_means, update_meta_means, update_policy_means, clear_extras_means}
-use Rattle.store_texts.proofs.Lists.{row_of, left}
-use Rattle.store_texts.proofs.Places.{users_place, auth_keys_place, pending_place, machines_place, extras_place, meta_place, policy_place}
-use Rattle.store_texts.proofs.Puts.{cast_number, cast_nothing, cast_bytes, puts_row, takes_out, takes_all_out, adds_row}
-use Rattle.store_texts.specs.Standing.{SetsRows}
+use Rattle.store_sql.specs.Ran.{HasRun, IsPutBy}
+use Rattle.store_sql.specs.Schema.{schema_1, meta_table, users_table, auth_keys_table, pending_table, machines_table, extras_table, policy_table}
+use Rattle.store_sql.specs.Texts.{clear_extras_text, delete_auth_keys_text, delete_machines_text, delete_pending_text, delete_users_text, insert_auth_keys_text, insert_extras_text, insert_machines_text, insert_meta_text, insert_pending_text, insert_policy_text, insert_users_text, update_auth_keys_text, update_machines_text, update_meta_text, update_pending_text, update_policy_text, update_users_text}
+use Rattle.store_sql.proofs.Deletes.{delete_users_means, delete_auth_keys_means, delete_pending_means, delete_machines_means}
+use Rattle.store_sql.proofs.Inserts.{insert_users_means, insert_auth_keys_means, insert_pending_means, insert_machines_means, insert_extras_means, insert_meta_means, insert_policy_means}
+use Rattle.store_sql.proofs.Updates.{update_users_means, update_auth_keys_means, update_pending_means, update_machines_means, update_meta_means, update_policy_means, clear_extras_means}
+use Rattle.store_sql.proofs.Lists.{row_of, left}
+use Rattle.store_sql.proofs.Places.{users_place, auth_keys_place, pending_place, machines_place, extras_place, meta_place, policy_place}
+use Rattle.store_sql.proofs.Puts.{cast_number, cast_nothing, cast_bytes, puts_row, takes_out, takes_all_out, adds_row}
+use Rattle.store_sql.specs.Standing.{SetsRows}
 use Rattle.tailcfg.specs.declared.dns.DnsExtra.{DnsExtra}
 use Rattle.store_commits.specs.Kept.{AreById, Keeps, Makes, placed_rows, policy_row, tree_row, value_of}
 use Rattle.store_commits.specs.Gone.{gone_text, gone_id}

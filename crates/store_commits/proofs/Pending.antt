@@ -10,8 +10,8 @@ use Rattle.sqlite.specs.State.{State, HasCleanDisk, KeepsCommit, Survives, Execu
 use Rattle.sqlite.specs.Steps.{FailsToCommit}
 use Rattle.sqlite.specs.Held.{Held, state}
 use Rattle.sqlite.proofs.StateLemmas.{survives_then}
-use Rattle.store_texts.specs.Ran.{HasRun}
-use Rattle.store_texts.proofs.Running.{ran_as_said}
+use Rattle.store_sql.specs.Ran.{HasRun}
+use Rattle.store_sql.proofs.Running.{ran_as_said}
 use Rattle.store_commits.specs.Pending.{IsPending}
 
 keeps_none : (s : State) → KeepsCommit s s

@@ -2,7 +2,7 @@
 use Rattle.std.specs.Prelude.{ℕ, List}
 use Rattle.net_rows.specs.declared.change.RowKey.{RowKey}
 use Rattle.net_rows.specs.declared.change.RowKey.TheVariants.{User, Key, Pending, Machine}
-use Rattle.store_texts.specs.Texts.{delete_auth_keys_text, delete_machines_text, delete_pending_text, delete_users_text}
+use Rattle.store_sql.specs.Texts.{delete_auth_keys_text, delete_machines_text, delete_pending_text, delete_users_text}
 
 abbrev pub gone_text : RowKey → List ℕ
 gone_text (User id) = delete_users_text

@@ -10,9 +10,9 @@ use Rattle.sqlite.specs.Tree.{Trees}
 use Rattle.store_rows.specs.Rows.{auth_key_cells, extra_cells, machine_cells, meta_cells, pending_cells, policy_cells, user_cells}
 use Rattle.store_rows.specs.declared.cell.Cell.{Cell}
 use Rattle.store_rows.specs.declared.cell.Cell.TheVariants.{Null, Number, Text, Blob, Other}
-use Rattle.store_texts.specs.Ran.{HasRun}
-use Rattle.store_texts.specs.Schema.{schema_1}
-use Rattle.store_texts.specs.Texts.{insert_extras_text}
+use Rattle.store_sql.specs.Ran.{HasRun}
+use Rattle.store_sql.specs.Schema.{schema_1}
+use Rattle.store_sql.specs.Texts.{insert_extras_text}
 use Rattle.tailcfg.specs.declared.dns.DnsExtra.{DnsExtra}
 
 -- the value that a cell is stored as

@@ -5,10 +5,10 @@ ghost use Rattle.std.specs.Str.{is_utf8};
 ghost use Rattle.net_rows.specs.Rows.{after, put as put_of, put_all as put_all_of, take_all_out, take_out};
 ghost use Rattle.store_rows.specs.Readable.{IsReadableChange, IsReadableExtra, IsReadableRow};
 ghost use Rattle.store_rows.specs.Rows.{IsTypedCounters, extra_cells, meta_cells, policy_cells};
-ghost use Rattle.store_texts.specs.Texts.{insert_meta_text, insert_policy_text, update_meta_text, update_policy_text};
+ghost use Rattle.store_sql.specs.Texts.{insert_meta_text, insert_policy_text, update_meta_text, update_policy_text};
 ghost use Rattle.sqlite.specs.State.{HasCleanDisk, Survives};
 ghost use Rattle.sqlite.specs.Held.{state};
-ghost use Rattle.store_texts.specs.Ran.{IsPutBy};
+ghost use Rattle.store_sql.specs.Ran.{IsPutBy};
 ghost use Rattle.store_commits.specs.Gone.{gone_text, gone_id};
 ghost use Rattle.store_commits.specs.Kept.{HoldsMade, IsAdded, Makes, value_of};
 ghost use Rattle.store_commits.specs.Pending.{IsPending, IsSettled, Leaves};
@@ -21,7 +21,7 @@ use net_rows::{Change, Counters, Row, RowKey};
 use sqlite::{Alter, Connection, Transaction};
 use std::alloc::Global;
 use store_rows::{Cell, write_extra, write_meta, write_policy_text};
-use store_texts::{
+use store_sql::{
     clear_extras, delete_auth_keys, delete_machines, delete_pending, delete_users, insert_extras,
     insert_meta, insert_policy, update_meta, update_policy,
 };

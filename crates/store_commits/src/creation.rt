@@ -4,8 +4,8 @@ ghost use Rattle.net_rows.specs.Rows.{empty_rows};
 ghost use Rattle.sqlite.specs.Held.{state};
 ghost use Rattle.sqlite.specs.State.{HasCleanDisk, Survives};
 ghost use Rattle.sqlite_schema.specs.declared.schema.Table.{Table};
-ghost use Rattle.store_texts.specs.Making.{LeadsTo, making_texts};
-ghost use Rattle.store_texts.specs.Schema.{no_schema};
+ghost use Rattle.store_sql.specs.Making.{LeadsTo, making_texts};
+ghost use Rattle.store_sql.specs.Schema.{no_schema};
 ghost use Rattle.store_commits.specs.Kept.{AreStored, Keeps};
 ghost use Rattle.store_commits.specs.Pending.{IsPending, IsSettled, Leaves};
 
@@ -15,7 +15,7 @@ use crate::sql::run;
 use net_rows::Counters;
 use sqlite::{Alter, Connection, Transaction};
 use std::alloc::Global;
-use store_texts::{
+use store_sql::{
     create_auth_keys, create_extras, create_machines, create_meta, create_pending, create_policy,
     create_users,
 };

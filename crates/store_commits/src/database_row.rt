@@ -3,12 +3,12 @@ ghost use Rattle.std.specs.Prelude.{◌≡◌, ℕ, List, IfOk, OnOk};
 ghost use Rattle.store_rows.specs.Readable.{IsReadable, IsReadableMachine};
 ghost use Rattle.store_rows.specs.Rows.{IsTypedKey, IsTypedPending, IsTypedUser, auth_key_cells, machine_cells, pending_cells, user_cells};
 ghost use Rattle.store_rows.specs.declared.cell.Cell.{Cell};
-ghost use Rattle.store_texts.specs.Texts.{insert_auth_keys_text, insert_machines_text, insert_pending_text, insert_users_text, update_auth_keys_text, update_machines_text, update_pending_text, update_users_text};
+ghost use Rattle.store_sql.specs.Texts.{insert_auth_keys_text, insert_machines_text, insert_pending_text, insert_users_text, update_auth_keys_text, update_machines_text, update_pending_text, update_users_text};
 
 use net_rows::{AuthKey, Machine, Pending, User};
 use std::alloc::Global;
 use store_rows::{Cell, write_auth_key, write_machine, write_pending, write_user};
-use store_texts::{
+use store_sql::{
     insert_auth_keys, insert_machines, insert_pending, insert_users, update_auth_keys,
     update_machines, update_pending, update_users,
 };

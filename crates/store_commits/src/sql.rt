@@ -3,7 +3,7 @@ ghost use Rattle.std.specs.Prelude.{◌≡◌, is_ok, IfOk};
 ghost use Rattle.sqlite.specs.Held.{state};
 ghost use Rattle.sqlite.specs.State.{HasCleanDisk};
 ghost use Rattle.sqlite.specs.Values.{bound};
-ghost use Rattle.store_texts.specs.Ran.{HasRun};
+ghost use Rattle.store_sql.specs.Ran.{HasRun};
 ghost use Rattle.store_commits.specs.Pending.{IsPending};
 
 use crate::fault::Fault;

@@ -7,7 +7,7 @@ use Rattle.store_commits.specs.Kept.{AreStored}
 use Rattle.store_reads.specs.Readable.{AreReadable}
 use Rattle.store_reads.specs.Seen.{IsSeen}
 use Rattle.store_reads.proofs.Seen.{seen_none}
-use Rattle.store_texts.specs.Schema.{schema_1}
+use Rattle.store_sql.specs.Schema.{schema_1}
 
 -- where nothing was done, a crash leaves what it left before
 pub untouched : (a : State) → Survives a a (λ (trees : Trees). AreStored trees empty_rows)

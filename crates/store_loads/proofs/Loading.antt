@@ -16,7 +16,7 @@ use Rattle.store_commits.specs.Pending.{IsSettled, Leaves}
 use Rattle.store_reads.specs.Back.{IsOurs}
 use Rattle.store_reads.specs.Readable.{AreReadable, IsOutside}
 use Rattle.store_reads.specs.Seen.{IsSeen}
-use Rattle.store_texts.specs.Schema.{no_schema, schema_1}
+use Rattle.store_sql.specs.Schema.{no_schema, schema_1}
 use Rattle.store_loads.specs.Tells.{Holds, IsAtRest, IsFirst, IsKnown}
 use Rattle.store_loads.specs.Told.{is_known, is_schema, rows_of, store_tells}
 use Rattle.store_loads.proofs.Firsts.{empty_readable}

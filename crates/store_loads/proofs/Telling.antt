@@ -30,8 +30,8 @@ use Rattle.store_reads.proofs.ShownRows.{places_rise}
 use Rattle.store_rows.specs.Reading.{auth_key_of, extra_of, machine_in_cells, meta_of, pending_in_cells, policy_in_cells, user_in_cells}
 use Rattle.store_rows.specs.Rows.{IsTypedCounters, IsTypedExtra, IsTypedKey, IsTypedMachine, IsTypedPending, IsTypedUser, auth_key_cells, extra_cells, machine_cells, meta_cells, pending_cells, policy_cells, user_cells}
 use Rattle.store_rows.proofs.TableReads.{auth_key_reads, extra_reads, machine_reads, meta_reads, pending_reads, policy_reads, user_reads}
-use Rattle.store_texts.proofs.Lists.{row_of}
-use Rattle.store_texts.specs.Schema.{no_schema, schema_1}
+use Rattle.store_sql.proofs.Lists.{row_of}
+use Rattle.store_sql.specs.Schema.{no_schema, schema_1}
 use Rattle.tailcfg.specs.declared.dns.DnsExtra.{DnsExtra}
 use Rattle.store_loads.specs.Tells.{Holds}
 use Rattle.store_loads.specs.Told.{extras_in, if_sound, in_order, is_schema, next_in, policy_in_rows, rows_of, tables_in, store_tells, tree_cells, values_in}

@@ -3,7 +3,7 @@ use Rattle.std.specs.Prelude.{ℕ, false, List, [], ◌∷◌, Some, map}
 use Rattle.sqlite_value.specs.Keys.{plain}
 use Rattle.sqlite_schema.specs.declared.schema.Column.{Column}
 use Rattle.sqlite_schema.specs.declared.schema.Table.{Table}
-use Rattle.store_texts.specs.Schema.{column_of}
+use Rattle.store_sql.specs.Schema.{column_of}
 use Rattle.store_loads.specs.declared.forms.Form.{Form}
 
 -- the column that a form describes

@@ -7,7 +7,7 @@ use Rattle.sqlite.specs.Effect.{Database}
 use Rattle.sqlite.specs.State.{HasCleanDisk, State}
 use Rattle.store_commits.specs.Kept.{Keeps}
 use Rattle.store_reads.specs.Readable.{AreReadable}
-use Rattle.store_texts.specs.Schema.{no_schema}
+use Rattle.store_sql.specs.Schema.{no_schema}
 
 -- The database keeps these rows, which are read again and break no rule.
 pub record Holds (db : Database) (rows : Rows) : Type 0 where

@@ -17,7 +17,7 @@ use Rattle.sqlite_value.specs.Order.{Row, value_cmp}
 use Rattle.store_reads.specs.Readable.{cell_in}
 use Rattle.store_rows.specs.Reading.{auth_key_of, extra_of, machine_in_cells, meta_of, pending_in_cells, policy_in_cells, user_in_cells}
 use Rattle.store_rows.specs.declared.cell.Cell.{Cell}
-use Rattle.store_texts.specs.Schema.{no_schema, schema_1}
+use Rattle.store_sql.specs.Schema.{no_schema, schema_1}
 use Rattle.tailcfg.specs.declared.dns.DnsExtra.{DnsExtra}
 
 -- ---- one schema

@@ -1,7 +1,7 @@
 //! Columns and tables as schema 1 has them.
 ghost use Rattle.std.specs.Prelude.{◌≡◌, ◌↔◌, [], ◌∷◌, Some, false, true, map, IsTrue};
 ghost use Rattle.sqlite_value.specs.Keys.{plain};
-ghost use Rattle.store_texts.specs.Schema.{automatic_of, column_of};
+ghost use Rattle.store_sql.specs.Schema.{automatic_of, column_of};
 ghost use Rattle.store_loads.specs.Forms.{column_as, table_as};
 
 use sqlite_items::Items;

@@ -1,6 +1,6 @@
 //! Whether a database has the tables of schema 1.
 ghost use Rattle.std.specs.Prelude.{◌≡◌, ◌↔◌, ◌∷◌, [], codes, IsTrue};
-ghost use Rattle.store_texts.specs.Schema.{meta_table, users_table, auth_keys_table, pending_table, machines_table, extras_table, policy_table, schema_1, no_schema, automatic_of};
+ghost use Rattle.store_sql.specs.Schema.{meta_table, users_table, auth_keys_table, pending_table, machines_table, extras_table, policy_table, schema_1, no_schema, automatic_of};
 
 use crate::forms::{blob, is_index, is_table, number, optional, text};
 use sqlite_schema::schema::{Index, Schema, Table};

@@ -13,7 +13,7 @@ ghost use Rattle.store_loads.specs.Told.{store_tells};
 ghost use Rattle.store_reads.specs.Causes.{FailsOnlyFor, IsCaused};
 ghost use Rattle.store_reads.specs.Readable.{AreReadable, Fills, IsOutside};
 ghost use Rattle.store_reads.specs.Seen.{IsSeen};
-ghost use Rattle.store_texts.specs.Schema.{no_schema, schema_1};
+ghost use Rattle.store_sql.specs.Schema.{no_schema, schema_1};
 
 use crate::schema::{is_empty, is_schema_1};
 use net_rows::{Damage, Kind, Rows, Tables};
@@ -22,7 +22,7 @@ use sqlite::{Alter, Connection, Row};
 use std::alloc::Global;
 use store_commits::{Fault, create};
 use store_reads::{load_fault, read_rows, rows_of};
-use store_texts::select_schema;
+use store_sql::select_schema;
 
 /// What a database lists, whatever it is.
 fn listed<S: Alter>(conn: &mut Connection<S>) -> Result<Vec<Row>, Fault>

@@ -36,10 +36,10 @@ use Rattle.net_rows.specs.declared.rows.Rows.{Rows}
 use Rattle.net_rows.specs.declared.user.User.{User}
 use Rattle.store_rows.specs.declared.cell.Cell.{Cell}
 use Rattle.store_rows.specs.declared.cell.Cell.TheVariants as cell
-use Rattle.store_texts.specs.Schema.{auth_keys_table, column_of, extras_table, machines_table, meta_table, pending_table, policy_table, schema_1, users_table}
-use Rattle.store_texts.specs.Texts.{select_auth_keys_text, select_extras_text, select_machines_text, select_meta_text, select_pending_text, select_policy_text, select_users_text}
-use Rattle.store_texts.proofs.Selects.{select_auth_keys_means, select_extras_means, select_machines_means, select_meta_means, select_pending_means, select_policy_means, select_users_means}
-use Rattle.store_texts.proofs.Shows.{shows_each}
+use Rattle.store_sql.specs.Schema.{auth_keys_table, column_of, extras_table, machines_table, meta_table, pending_table, policy_table, schema_1, users_table}
+use Rattle.store_sql.specs.Texts.{select_auth_keys_text, select_extras_text, select_machines_text, select_meta_text, select_pending_text, select_policy_text, select_users_text}
+use Rattle.store_sql.proofs.Selects.{select_auth_keys_means, select_extras_means, select_machines_means, select_meta_means, select_pending_means, select_policy_means, select_users_means}
+use Rattle.store_sql.proofs.Shows.{shows_each}
 use Rattle.store_reads.specs.Back.{IsOfOurs, IsOurs, IsRowTaken, IsTakenExtra}
 use Rattle.store_reads.proofs.Lists.{shown_count}
 use Rattle.store_reads.proofs.ShownRows.{shown_places}

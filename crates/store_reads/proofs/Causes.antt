@@ -19,11 +19,11 @@ use Rattle.sqlite_trees.specs.declared.error.StoreError.TheVariants.{OutOfMemory
 use Rattle.store_commits.specs.Faults.{meaning_of}
 use Rattle.store_commits.specs.declared.fault.Fault.{Fault}
 use Rattle.store_commits.specs.declared.fault.Fault.TheVariants as fault
-use Rattle.store_texts.specs.Commands.{all_by_id}
-use Rattle.store_texts.specs.Means.{is_whole}
-use Rattle.store_texts.specs.Schema.{schema_1}
-use Rattle.store_texts.specs.Texts.{select_auth_keys_text, select_extras_text, select_machines_text, select_meta_text, select_pending_text, select_policy_text, select_users_text}
-use Rattle.store_texts.proofs.Selects.{select_auth_keys_means, select_extras_means, select_machines_means, select_meta_means, select_pending_means, select_policy_means, select_users_means}
+use Rattle.store_sql.specs.Commands.{all_by_id}
+use Rattle.store_sql.specs.Means.{is_whole}
+use Rattle.store_sql.specs.Schema.{schema_1}
+use Rattle.store_sql.specs.Texts.{select_auth_keys_text, select_extras_text, select_machines_text, select_meta_text, select_pending_text, select_policy_text, select_users_text}
+use Rattle.store_sql.proofs.Selects.{select_auth_keys_means, select_extras_means, select_machines_means, select_meta_means, select_pending_means, select_policy_means, select_users_means}
 use Rattle.store_reads.specs.Causes.{FailsOnlyFor, HasCause, IsCaused, ListsOurs, TakesNone, load_fault_of}
 use Rattle.store_reads.specs.Seen.{IsSeen}
 

@@ -12,7 +12,7 @@ use Rattle.sqlite.specs.Tree.{Trees}
 use Rattle.sqlite.proofs.Callers.{IsPlain}
 use Rattle.sqlite.proofs.StateLemmas.{survives_then}
 use Rattle.store_commits.specs.Kept.{Keeps}
-use Rattle.store_texts.specs.Schema.{schema_1}
+use Rattle.store_sql.specs.Schema.{schema_1}
 use Rattle.store_reads.specs.Seen.{IsSeen, StaysOpen}
 
 -- a text without RETURNING that showed rows left what the database shows

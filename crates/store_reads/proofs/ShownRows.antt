@@ -16,10 +16,10 @@ use Rattle.tailcfg.specs.declared.dns.DnsExtra.{DnsExtra}
 use Rattle.store_commits.specs.Kept.{Keeps, policy_row, tree_row}
 use Rattle.store_commits.proofs.KeptLists.{image_of, with_places, extra_rest, placed_are}
 use Rattle.store_rows.specs.Rows.{auth_key_cells, extra_cells, machine_cells, meta_cells, pending_cells, policy_cells, user_cells}
-use Rattle.store_texts.specs.Texts.{select_auth_keys_text, select_extras_text, select_machines_text, select_meta_text, select_pending_text, select_policy_text, select_users_text}
-use Rattle.store_texts.proofs.Lists.{row_of}
-use Rattle.store_texts.proofs.Selects.{select_auth_keys_means, select_extras_means, select_machines_means, select_meta_means, select_pending_means, select_policy_means, select_users_means}
-use Rattle.store_texts.proofs.Shows.{shows_all}
+use Rattle.store_sql.specs.Texts.{select_auth_keys_text, select_extras_text, select_machines_text, select_meta_text, select_pending_text, select_policy_text, select_users_text}
+use Rattle.store_sql.proofs.Lists.{row_of}
+use Rattle.store_sql.proofs.Selects.{select_auth_keys_means, select_extras_means, select_machines_means, select_meta_means, select_pending_means, select_policy_means, select_users_means}
+use Rattle.store_sql.proofs.Shows.{shows_all}
 use Rattle.store_reads.specs.Readable.{shown_extras, shown_row}
 use Rattle.store_reads.proofs.Lists.{rising}
 

@@ -12,7 +12,7 @@ use Rattle.store_rows.specs.Readable.{IsReadable, IsReadableExtra}
 use Rattle.store_rows.specs.Rows.{IsTypedCounters, IsTypedKey, IsTypedMachine, IsTypedPending, IsTypedUser, auth_key_cells, extra_cells, machine_cells, meta_cells, pending_cells, user_cells}
 use Rattle.store_rows.specs.declared.cell.Cell.{Cell}
 use Rattle.store_rows.specs.declared.cell.Cell.TheVariants.{Null, Number, Text, Blob, Other}
-use Rattle.store_texts.specs.Schema.{schema_1}
+use Rattle.store_sql.specs.Schema.{schema_1}
 use Rattle.store_reads.specs.Readable.{shown_row}
 use Rattle.tailcfg.specs.declared.dns.DnsExtra.{DnsExtra}
 

@@ -12,9 +12,9 @@ use Rattle.sqlite_sql.specs.Term.{Term}
 use Rattle.sqlite_typing.specs.Types.{accepts_program}
 use Rattle.store_commits.specs.declared.fault.Fault.{Fault}
 use Rattle.store_commits.specs.declared.fault.Fault.TheVariants as fault
-use Rattle.store_texts.specs.Commands.{all_by_id}
-use Rattle.store_texts.specs.Means.{Means}
-use Rattle.store_texts.specs.Schema.{schema_1}
+use Rattle.store_sql.specs.Commands.{all_by_id}
+use Rattle.store_sql.specs.Means.{Means}
+use Rattle.store_sql.specs.Schema.{schema_1}
 
 -- The disk has failed, the store was shut before, or the connection limits the steps of a statement.
 abbrev pub HasCause : State → State → Type 0

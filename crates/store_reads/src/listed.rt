@@ -7,7 +7,7 @@ ghost use Rattle.sqlite.specs.Listing.{understood};
 ghost use Rattle.sqlite.specs.State.{HasCleanDisk, Shown};
 ghost use Rattle.sqlite_value.specs.Order.{Row};
 ghost use Rattle.store_commits.specs.declared.fault.Fault.TheVariants.{NoMemory};
-ghost use Rattle.store_texts.specs.Schema.{schema_1};
+ghost use Rattle.store_sql.specs.Schema.{schema_1};
 ghost use Rattle.store_reads.specs.Readable.{Fills, IsOutside, IsReadable, Yields, shown_row};
 ghost use Rattle.store_reads.specs.Causes.{FailsOnlyFor, IsCaused, ListsOurs, load_fault_of};
 ghost use Rattle.store_reads.specs.Back.{IsRowTaken};

@@ -5,12 +5,12 @@ ghost use Rattle.store_reads.specs.Back.{IsOfOurs};
 ghost use Rattle.store_rows.specs.Reads.{IsReadBack};
 ghost use Rattle.store_rows.specs.Rows.{IsTypedKey, IsTypedMachine, IsTypedPending, IsTypedUser, auth_key_cells, machine_cells, pending_cells, user_cells};
 ghost use Rattle.store_rows.specs.declared.cell.Cell.{Cell};
-ghost use Rattle.store_texts.specs.Texts.{select_auth_keys_text, select_machines_text, select_pending_text, select_users_text};
+ghost use Rattle.store_sql.specs.Texts.{select_auth_keys_text, select_machines_text, select_pending_text, select_users_text};
 
 use net_rows::{AuthKey, Kind, Machine, Pending, User};
 use std::alloc::Global;
 use store_rows::{Cell, read_auth_key, read_machine, read_pending, read_user};
-use store_texts::{select_auth_keys, select_machines, select_pending, select_users};
+use store_sql::{select_auth_keys, select_machines, select_pending, select_users};
 use tail_base::NoMemory;
 
 /// Rows that are read from a table of their own.

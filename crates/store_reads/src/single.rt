@@ -13,7 +13,7 @@ ghost use Rattle.store_commits.specs.Kept.{Keeps};
 ghost use Rattle.store_commits.specs.declared.fault.Fault.TheVariants.{NoMemory};
 ghost use Rattle.store_reads.specs.Back.{HoldsExtras, HoldsNext, HoldsPolicy, IsOurs, IsTakenExtra};
 ghost use Rattle.store_rows.specs.Rows.{IsTypedCounters, extra_cells, meta_cells, policy_cells};
-ghost use Rattle.store_texts.specs.Schema.{schema_1};
+ghost use Rattle.store_sql.specs.Schema.{schema_1};
 ghost use Rattle.store_reads.specs.Causes.{FailsOnlyFor, IsCaused};
 ghost use Rattle.store_reads.specs.Readable.{AreReadable, Fills, IsReadableExtra, Yields, shown_extras, shown_row};
 ghost use Rattle.store_reads.specs.Seen.{IsSeen};
@@ -27,7 +27,7 @@ use sqlite::{Alter, Connection, Row};
 use std::alloc::Global;
 use store_commits::Fault;
 use store_rows::{read_extra, read_meta, read_policy_text};
-use store_texts::{select_extras, select_meta, select_policy};
+use store_sql::{select_extras, select_meta, select_policy};
 use tail_base::{Items, Text};
 use tailcfg::DnsExtra;
 

@@ -5,7 +5,7 @@ ghost use Rattle.sqlite.specs.Held.{state};
 ghost use Rattle.sqlite.specs.Listing.{understood};
 ghost use Rattle.sqlite.specs.State.{HasCleanDisk, Shown};
 ghost use Rattle.sqlite_schema.specs.declared.schema.Schema.{Schema};
-ghost use Rattle.store_texts.specs.Schema.{schema_1};
+ghost use Rattle.store_sql.specs.Schema.{schema_1};
 ghost use Rattle.store_reads.specs.Causes.{FailsOnlyFor, HasCause, ListsOurs, load_fault_of};
 ghost use Rattle.store_reads.specs.Seen.{IsSeen};
 

@@ -5,7 +5,7 @@ ghost use Rattle.net_rows.specs.declared.rows.Rows.{Rows};
 ghost use Rattle.sqlite.specs.Held.{state};
 ghost use Rattle.sqlite.specs.State.{HasCleanDisk};
 ghost use Rattle.store_commits.specs.Kept.{AreStored, Keeps};
-ghost use Rattle.store_texts.specs.Schema.{schema_1};
+ghost use Rattle.store_sql.specs.Schema.{schema_1};
 ghost use Rattle.store_reads.specs.Readable.{AreReadable, Fills, Yields};
 ghost use Rattle.store_reads.specs.Causes.{IsCaused};
 ghost use Rattle.store_reads.specs.Back.{ExtrasStand, HoldsReadable, IsOurs, KeysStand, MachinesStand, NextStands, PendingStands, PolicyStands, UsersStand};

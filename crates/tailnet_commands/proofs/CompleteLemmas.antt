@@ -27,15 +27,15 @@ use Rattle.connections.specs.Exchanges.{Exchange, IsExchange, AreExchanges, IsAn
 use Rattle.tailnet_commands.specs.Pipe.{Piped}
 use Rattle.tailnet_commands.specs.ToldRows.{RefusesToldRows, ServesToldRows}
 use Rattle.tailnet_commands.specs.Run.{IsUnopened}
-use Rattle.run_ends.specs.Statuses.{status_of}
+use Rattle.exit_status.specs.Statuses.{status_of}
 use Rattle.tailnet_commands.specs.Outside.{Outside}
 use Rattle.connections.specs.Connection.{IsConnection, Told, IsEarly}
-use Rattle.run_ends.specs.declared.closed.Closed.{Closed}
-use Rattle.run_ends.specs.declared.closed.Closed.TheVariants as closed
-use Rattle.run_ends.specs.declared.ended.Ended.{Ended}
-use Rattle.run_ends.specs.declared.ended.Ended.TheVariants as ended
-use Rattle.run_ends.specs.declared.status.Status.{Status}
-use Rattle.run_ends.specs.declared.status.Status.TheVariants as status
+use Rattle.exit_status.specs.declared.closed.Closed.{Closed}
+use Rattle.exit_status.specs.declared.closed.Closed.TheVariants as closed
+use Rattle.exit_status.specs.declared.ended.Ended.{Ended}
+use Rattle.exit_status.specs.declared.ended.Ended.TheVariants as ended
+use Rattle.exit_status.specs.declared.status.Status.{Status}
+use Rattle.exit_status.specs.declared.status.Status.TheVariants as status
 
 -- an answer that leaves the connection to its request doesn't end it early
 pub not_early : (close : Bool) → ended_by close ≡ Some closed.Early → ⊥

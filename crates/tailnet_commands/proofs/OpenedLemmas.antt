@@ -7,8 +7,8 @@ use Rattle.tailnet_desk.specs.declared.desk.OpenFault.TheVariants as fault
 use Rattle.tailnet_commands.specs.Opened.{IsAskedOnce, IsDeskFault, KeepsRows, OpenerTold}
 use Rattle.tailnet_commands.specs.Outside.{Outside}
 use Rattle.tailnet_commands.specs.Run.{IsFaultOf, IsUnopened, Ran, Untouched}
-use Rattle.run_ends.specs.declared.ended.Ended.{Ended}
-use Rattle.run_ends.specs.declared.ended.Ended.TheVariants as ended
+use Rattle.exit_status.specs.declared.ended.Ended.{Ended}
+use Rattle.exit_status.specs.declared.ended.Ended.TheVariants as ended
 
 -- a desk that didn't open
 pub unopened : (f : OpenFault) (e : Ended) (settings : FileSettings) (old new : OpenerTold) → IsFaultOf f e → KeepsRows old new → IsAskedOnce settings old new → (f ≡ fault.KeeperFault → Rose old.faults new.faults)

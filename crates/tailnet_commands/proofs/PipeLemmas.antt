@@ -6,8 +6,8 @@ use Rattle.server_settings.specs.declared.file_settings.FileSettings.{FileSettin
 use Rattle.tailnet_commands.specs.Outside.{Outside}
 use Rattle.tailnet_commands.specs.Pipe.{AreSettingsOf, IsUnread, Piped}
 use Rattle.tailnet_commands.specs.Run.{IsUnbegun, Ran, Untouched}
-use Rattle.run_ends.specs.declared.ended.Ended.{Ended}
-use Rattle.run_ends.specs.declared.ended.Ended.TheVariants as ended
+use Rattle.exit_status.specs.declared.ended.Ended.{Ended}
+use Rattle.exit_status.specs.declared.ended.Ended.TheVariants as ended
 
 -- what is known is so where it is told
 pub told_by_itself : (o : Option Rows) → IfSome o (λ rows. IsWhereTold rows o)

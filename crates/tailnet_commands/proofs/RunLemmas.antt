@@ -27,7 +27,7 @@ use Rattle.tailnet_commands.specs.Outside.{Outside}
 use Rattle.tailnet_commands.specs.Seeding.{IsSeeded}
 use Rattle.connections.proofs.Seen.{serves_from, with_answers}
 use Rattle.connections.proofs.Tellings.{same_moments}
-use Rattle.run_ends.specs.declared.closed.Closed.{Closed}
+use Rattle.exit_status.specs.declared.closed.Closed.{Closed}
 
 -- what is where an object tells, is where one still tells
 pub where_still : {A : Type 0} (x : A) (a b : Option A) → StillTells a b → IsWhereTold x a → IsWhereTold x b

@@ -6,11 +6,11 @@ use Rattle.tail_base.specs.Steps.{◌>>=◌}
 use Rattle.policy_rows.specs.Faults.{fault_text}
 use Rattle.policy_rows.specs.declared.fault.PolicyFault.{PolicyFault}
 use Rattle.policy_tests.specs.Tests.{tested}
-use Rattle.run_ends.specs.Pieces.{Wrote}
+use Rattle.exit_status.specs.Pieces.{Wrote}
 use Rattle.tailnet_commands.specs.Pipe.{IsTooLarge}
 use Rattle.tailnet_commands.specs.declared.limits.TheConstants.{FILE_LIMIT}
-use Rattle.run_ends.specs.declared.status.Status.{Status}
-use Rattle.run_ends.specs.declared.status.Status.TheVariants as status
+use Rattle.exit_status.specs.declared.status.Status.{Status}
+use Rattle.exit_status.specs.declared.status.Status.TheVariants as status
 
 -- the verdict on a text: it is a policy that passes its tests over no machines, or else its first fault
 unfoldable pub verdict_of : List ℕ → Result (Unit {0}) PolicyFault

@@ -14,8 +14,8 @@ use Rattle.tailnet_desk.specs.Opening.{unread_policy}
 use Rattle.tailnet_commands.specs.Pipe.{Outcome}
 use Rattle.tailnet_commands.specs.Outside.{Outside}
 use Rattle.tailnet_commands.specs.declared.limits.TheConstants.{FILE_LIMIT}
-use Rattle.run_ends.specs.declared.status.Status.{Status}
-use Rattle.run_ends.specs.declared.status.Status.TheVariants as status
+use Rattle.exit_status.specs.declared.status.Status.{Status}
+use Rattle.exit_status.specs.declared.status.Status.TheVariants as status
 
 -- the request isn't answered 400
 abbrev pub IsAccepted : Wanted → Type 0

@@ -11,8 +11,8 @@ use Rattle.server_settings.specs.declared.file_settings.FileSettings.{FileSettin
 use Rattle.tailnet_desk.specs.Opening.{opening}
 use Rattle.tailnet_desk.specs.Seated.{Point}
 use Rattle.tailnet_commands.specs.Run.{IsUnopened}
-use Rattle.run_ends.specs.declared.ended.Ended.{Ended}
-use Rattle.run_ends.specs.declared.ended.Ended.TheVariants as ended
+use Rattle.exit_status.specs.declared.ended.Ended.{Ended}
+use Rattle.exit_status.specs.declared.ended.Ended.TheVariants as ended
 
 -- what an opener tells: its rows, the names that it was asked for, and its count of faults
 pub record OpenerTold : Type 0 where

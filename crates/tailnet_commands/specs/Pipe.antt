@@ -4,15 +4,15 @@ use Rattle.io_edge.specs.Edge.{Rose}
 use Rattle.server_settings.specs.declared.file_settings.FileSettings.{FileSettings}
 use Rattle.tail_words.specs.SettingsText.{broken_at, settings_of}
 use Rattle.tail_words.specs.declared.fault.SettingsRule.{SettingsRule}
-use Rattle.run_ends.specs.Lines.{Noted, is_made, ended_line}
-use Rattle.run_ends.specs.Statuses.{status_of}
+use Rattle.exit_status.specs.Lines.{Noted, is_made, ended_line}
+use Rattle.exit_status.specs.Statuses.{status_of}
 use Rattle.tailnet_commands.specs.Outside.{Outside}
 use Rattle.tailnet_commands.specs.Run.{Conversation, IsAskedFor, IsUnasked, IsUnbegun, IsUnopened, Untouched}
-use Rattle.run_ends.specs.declared.closed.Closed.{Closed}
-use Rattle.run_ends.specs.declared.ended.Ended.{Ended}
-use Rattle.run_ends.specs.declared.ended.Ended.TheVariants as ended
+use Rattle.exit_status.specs.declared.closed.Closed.{Closed}
+use Rattle.exit_status.specs.declared.ended.Ended.{Ended}
+use Rattle.exit_status.specs.declared.ended.Ended.TheVariants as ended
 use Rattle.tailnet_commands.specs.declared.limits.TheConstants.{FILE_LIMIT}
-use Rattle.run_ends.specs.declared.status.Status.{Status}
+use Rattle.exit_status.specs.declared.status.Status.{Status}
 
 -- where the file is told, it has at most 1 MiB, and these are its settings
 abbrev pub AreSettingsOf : Option (Option (List ℕ)) → FileSettings → Type 0

@@ -22,9 +22,9 @@ use Rattle.connections.specs.Tellings.{MomentsTold, from_number}
 use Rattle.tailnet_commands.specs.Outside.{Outside}
 use Rattle.tailnet_commands.specs.Seeding.{IsSeeding, after_answers}
 use Rattle.connections.specs.Connection.{IsConnection}
-use Rattle.run_ends.specs.declared.closed.Closed.{Closed}
-use Rattle.run_ends.specs.declared.ended.Ended.{Ended}
-use Rattle.run_ends.specs.declared.ended.Ended.TheVariants as ended
+use Rattle.exit_status.specs.declared.closed.Closed.{Closed}
+use Rattle.exit_status.specs.declared.ended.Ended.{Ended}
+use Rattle.exit_status.specs.declared.ended.Ended.TheVariants as ended
 
 -- nothing was read or written, no random words were drawn, and the opener's rows are as before
 pub record Untouched (old new : Outside) : Type 0 where

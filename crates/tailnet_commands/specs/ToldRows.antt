@@ -2,8 +2,8 @@
 use Rattle.std.specs.Prelude.{ℕ, Option, List, IsSome}
 use Rattle.io_edge.specs.Edge.{IsWhereTold}
 use Rattle.net_rows.specs.declared.change.Kind.{Kind}
-use Rattle.run_ends.specs.declared.closed.Closed.{Closed}
-use Rattle.run_ends.specs.declared.ended.Ended.TheVariants as ended
+use Rattle.exit_status.specs.declared.closed.Closed.{Closed}
+use Rattle.exit_status.specs.declared.ended.Ended.TheVariants as ended
 use Rattle.tailnet_commands.specs.Outside.{Outside}
 use Rattle.tailnet_commands.specs.Pipe.{Piped}
 use Rattle.tailnet_commands.specs.Run.{IsUnopened}

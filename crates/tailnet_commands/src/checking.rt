@@ -3,15 +3,15 @@ ghost use Rattle.std.specs.Prelude.{◌≡◌, ◌++◌, IfOk, false, codes};
 ghost use Rattle.tail_base.specs.Steps.{Gives};
 ghost use Rattle.policy_rows.specs.Faults.{fault_text};
 ghost use Rattle.tailnet_commands.specs.Check.{Checked, Said, check_line, verdict_line, verdict_of, verdict_status};
-ghost use Rattle.run_ends.specs.Lines.{Noted};
+ghost use Rattle.exit_status.specs.Lines.{Noted};
 
 use crate::limits::FILE_LIMIT;
+use exit_status::{Status, note_line, write_all};
 use io_edge::{FileFault, Files, Sink};
 use net_rows::Tables;
 use policy_doc::read_policy;
 use policy_rows::{PolicyFault, fault_text};
 use policy_tests::tested;
-use run_ends::{Status, note_line, write_all};
 use std::alloc::Global;
 use tail_base::{Failure, NoMemory, Text};
 

@@ -4,10 +4,10 @@ ghost use Rattle.tailnet_commands.specs.Opened.{IsDeskFault, IsDeskOpened, opene
 ghost use Rattle.tailnet_commands.specs.Run.{IsFaultOf};
 ghost use Rattle.tailnet_desk.specs.Seated.{point_of};
 
+use exit_status::Ended;
 use io_edge::{Clock, EdgeFault};
 use net_addr::Moment;
 use row_keeper::Opener;
-use run_ends::Ended;
 use server_settings::FileSettings;
 use std::alloc::Global;
 use tailnet_desk::{Desk, OpenFault};

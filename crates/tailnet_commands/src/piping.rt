@@ -8,16 +8,20 @@ ghost use Rattle.tailnet_commands.specs.Pipe.{AreSettingsOf, IsSettingsFile, IsU
 use crate::limits::FILE_LIMIT;
 use crate::running::run;
 use desk_front::Front;
+use exit_status::{Ended, Status, note, status_of};
 use io_edge::{Clock, Entropy, FileFault, Files, Sink, Source};
 use row_keeper::Opener;
-use run_ends::{Ended, Status, note, status_of};
 use server_settings::FileSettings;
 use std::alloc::Global;
 use tail_base::{Failure, NoMemory, Text};
 use tail_words::read_settings;
 
 /// The settings of a file.
-pub fn settings_file<F: Files>(alloc: Global, files: &mut F, name: &str) -> Result<FileSettings, Ended>
+pub fn settings_file<F: Files>(
+    alloc: Global,
+    files: &mut F,
+    name: &str,
+) -> Result<FileSettings, Ended>
     ensures read { IsSettingsFile result (F.holds files.old name.now)
         (F.faults files.old) (F.faults files.new) }
 {

@@ -21,8 +21,8 @@ use Rattle.tailnet_commands.specs.Opened.{IsDeskFault, IsDeskOpened, OpenerTold}
 use Rattle.tailnet_commands.specs.Pipe.{AreSettingsOf, IsUnread}
 use Rattle.tailnet_commands.specs.Run.{IsUnbegun, Untouched}
 use Rattle.tailnet_commands.proofs.PipeLemmas.{ran_piped, unread_piped}
-use Rattle.run_ends.specs.declared.ended.Ended.{Ended}
-use Rattle.run_ends.specs.declared.ended.Ended.TheVariants as ended
+use Rattle.exit_status.specs.declared.ended.Ended.{Ended}
+use Rattle.exit_status.specs.declared.ended.Ended.TheVariants as ended
 use Rattle.tailnet_serve.proofs.Closing.{map_map}
 use Rattle.tailnet_serve.specs.declared.serve_end.ServeEnd.{ServeEnd}
 use Rattle.tailnet_serve.specs.declared.serve_end.ServeEnd.TheVariants as end

@@ -4,7 +4,7 @@ use Rattle.std.proofs.Math.Bool.{or_assoc, or-false}
 use Rattle.std.proofs.lemmas.List.{append-nil}
 use Rattle.io_edge.specs.Edge.{IsWhereTold, Rose}
 use Rattle.desk_front.specs.declared.front_settings.FrontSettings.{FrontSettings}
-use Rattle.run_ends.specs.declared.closed.Closed.{Closed}
+use Rattle.exit_status.specs.declared.closed.Closed.{Closed}
 use Rattle.session_hub.specs.Seats.{HubView, SeatView}
 use Rattle.tailnet_serve.specs.Runs.{IsSeatRun}
 use Rattle.tailnet_serve.specs.Visits.{Visit, is_any_starved, is_starved}

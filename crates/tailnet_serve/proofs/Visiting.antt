@@ -7,7 +7,7 @@ use Rattle.tailnet_desk.proofs.Histories.{Chain-map}
 use Rattle.session_hub.specs.Seats.{SeatView}
 use Rattle.connections.specs.Connection.{IsConnection, Told}
 use Rattle.connections.specs.Exchanges.{turns_of}
-use Rattle.run_ends.specs.declared.closed.Closed.{Closed}
+use Rattle.exit_status.specs.declared.closed.Closed.{Closed}
 use Rattle.tailnet_serve.specs.Runs.{IsSeatRun, IsSeatStep}
 use Rattle.tailnet_serve.specs.Visits.{AreComers, AreVisits, Drawing, IsAnyTurn, IsVisit, Visit, and_all_finished, drawing_in, finished_of, visit_turns}
 use Rattle.tailnet_serve.specs.Works.{HasPlaces, IsWork, Standing}

@@ -3,12 +3,12 @@ use Rattle.std.specs.Prelude.{◌≡◌, ◌⊎◌, ℕ, ℤ, Bool, false, Optio
 use Rattle.io_edge.specs.Edge.{Rose, IsWhereTold}
 use Rattle.net_rows.specs.declared.rows.Rows.{Rows}
 use Rattle.server_settings.specs.declared.file_settings.FileSettings.{FileSettings}
-use Rattle.run_ends.specs.Lines.{Noted, ended_line, is_made}
-use Rattle.run_ends.specs.Statuses.{status_of}
-use Rattle.run_ends.specs.declared.ended.Ended.{Ended}
-use Rattle.run_ends.specs.declared.ended.Ended.TheVariants as ended
-use Rattle.run_ends.specs.declared.status.Status.{Status}
-use Rattle.run_ends.specs.declared.status.Status.TheVariants as status
+use Rattle.exit_status.specs.Lines.{Noted, ended_line, is_made}
+use Rattle.exit_status.specs.Statuses.{status_of}
+use Rattle.exit_status.specs.declared.ended.Ended.{Ended}
+use Rattle.exit_status.specs.declared.ended.Ended.TheVariants as ended
+use Rattle.exit_status.specs.declared.status.Status.{Status}
+use Rattle.exit_status.specs.declared.status.Status.TheVariants as status
 use Rattle.connections.specs.Connection.{Told}
 use Rattle.tailnet_commands.specs.Outside.{DoorsTold, Outside}
 use Rattle.tailnet_commands.specs.Pipe.{AreSettingsOf, Piped}

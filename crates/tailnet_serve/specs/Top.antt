@@ -4,10 +4,10 @@ use Rattle.command_words.specs.declared.invocation.Invocation.{Invocation}
 use Rattle.command_words.specs.declared.invocation.Invocation.TheVariants as asked
 use Rattle.load_run.specs.Loads.{Loaded, load_line}
 use Rattle.operator_commands.specs.Operated.{Operated, OperatorPoint}
-use Rattle.run_ends.specs.Lines.{Noted, ended_line, usage_line}
-use Rattle.run_ends.specs.declared.ended.Ended.TheVariants as ended
-use Rattle.run_ends.specs.declared.status.Status.{Status}
-use Rattle.run_ends.specs.declared.status.Status.TheVariants as status
+use Rattle.exit_status.specs.Lines.{Noted, ended_line, usage_line}
+use Rattle.exit_status.specs.declared.ended.Ended.TheVariants as ended
+use Rattle.exit_status.specs.declared.status.Status.{Status}
+use Rattle.exit_status.specs.declared.status.Status.TheVariants as status
 use Rattle.tailnet_commands.specs.Check.{Checked, check_line}
 use Rattle.tailnet_commands.specs.Outside.{Outside}
 use Rattle.tailnet_commands.specs.Pipe.{Outcome}

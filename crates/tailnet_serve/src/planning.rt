@@ -7,8 +7,8 @@ ghost use Rattle.tailnet_serve.specs.Service.{limits_of};
 
 use crate::worker::WorkLimits;
 use desk_front::Front;
+use exit_status::Ended;
 use io_edge::Files;
-use run_ends::Ended;
 use server_settings::{FileSettings, ServerFields};
 use std::alloc::Global;
 use tail_base::{Duplicate, NoMemory, Text};

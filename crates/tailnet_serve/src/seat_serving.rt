@@ -5,10 +5,10 @@ ghost use Rattle.tailnet_serve.specs.Runs.{IsSeatStep};
 
 use connections::serve;
 use desk_front::Front;
+use exit_status::Closed;
 use fresh_maps::NodeTexts;
 use io_edge::{Clock, Entropy, Pause, Sink, Source};
 use row_keeper::Keeper;
-use run_ends::Closed;
 use session_hub::{Hub, HubTurns, Seat};
 use std::alloc::Global;
 use std::sync::Wait;

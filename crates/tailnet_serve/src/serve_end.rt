@@ -1,10 +1,10 @@
 //! How a run of `serve` ended.
-ghost use Rattle.run_ends.specs.Lines.{Noted};
+ghost use Rattle.exit_status.specs.Lines.{Noted};
 ghost use Rattle.std.specs.Prelude.{◌≡◌};
 ghost use Rattle.tailnet_serve.specs.Serve as spec;
 
+use exit_status::{Ended, Status, note, note_line, status_of};
 use io_edge::Sink;
-use run_ends::{Ended, Status, note, note_line, status_of};
 use std::alloc::Global;
 
 /// How a run of `serve` ended.

@@ -9,11 +9,11 @@ ghost use Rattle.tailnet_serve.specs.Top.{WordsDone, Top, asks_doors, asks_link}
 use crate::serving::serve_command;
 use crate::wordless::end_wordless;
 use command_words::{Invocation, read_invocation};
+use exit_status::{Status, note_usage};
 use io_edge::{Clock, Door, Doors, Entropy, Files, Link, Pause, Sink, Source};
 use load_run::load_command;
 use operator_commands::operator_command;
 use row_keeper::Opener;
-use run_ends::{Status, note_usage};
 use std::alloc::Global;
 use std::sync::Wait;
 use std::thread::Threads;

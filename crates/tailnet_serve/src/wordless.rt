@@ -1,9 +1,9 @@
 //! The end of a run that had no memory for its words.
 ghost use Rattle.std.specs.Prelude.{◌≡◌, false};
-ghost use Rattle.run_ends.specs.Lines.{Noted, ended_line};
+ghost use Rattle.exit_status.specs.Lines.{Noted, ended_line};
 
+use exit_status::{Ended, Status, note};
 use io_edge::Sink;
-use run_ends::{Ended, Status, note};
 use std::alloc::Global;
 
 /// Leaves the line of a run that was out of memory on errors, and gives its status.

@@ -6,10 +6,10 @@ ghost use Rattle.tailnet_serve.specs.Works.{HasPlaces, IsTaken, IsWorked, door_t
 use crate::seat_serving::serve_seat;
 use crate::worker::{Report, Stop, WorkLimits, Worker};
 use desk_front::Front;
+use exit_status::Closed;
 use fresh_maps::NodeTexts;
 use io_edge::{Clock, Door, Entropy, Failed, Pause};
 use row_keeper::Keeper;
-use run_ends::Closed;
 use session_hub::Hub;
 use std::alloc::Global;
 use std::sync::Wait;

@@ -1,7 +1,7 @@
 use Rattle.std.proofs.Common.{refl, sym, true, Some, arith}
 use Rattle.http_front.specs.AnswerBytes.{answer}
 use Rattle.connections.specs.Exchanges.{breaks, ended_by}
-use Rattle.run_ends.specs.declared.closed.Closed.TheVariants.{Early}
+use Rattle.exit_status.specs.declared.closed.Closed.TheVariants.{Early}
 use Rattle.connections.proofs.AnswerLemmas.{answered_fixed, answered_ask, answered_poll, exchange_fixed, exchange_faulty}
 use Rattle.connections.proofs.answering.answer_wanted.Goals as goal
 

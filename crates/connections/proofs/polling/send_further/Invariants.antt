@@ -1,7 +1,7 @@
 use Rattle.std.proofs.Common.{ℕ, Option, List, Result}
 use Rattle.connections.specs.Polled.{FurtherSent}
 use Rattle.connections.specs.Tellings.{Giving, writing}
-use Rattle.run_ends.specs.declared.closed.Closed.{Closed}
+use Rattle.exit_status.specs.declared.closed.Closed.{Closed}
 use Rattle.connections.proofs.polling.send_further.Given as goal
 
 -- what is sent from here on completes what is sent in all

@@ -2,7 +2,7 @@ use Rattle.std.proofs.Common.{◌≡◌, arith, refl, [], ◌-◌, ◌==◌, fal
 use Rattle.std.proofs.lemmas.Bool.Decides.{nat_tests}
 use Rattle.io_edge.proofs.Told.{left_nothing}
 use Rattle.connections.proofs.ServeLemmas.{serves_none, serves_more}
-use Rattle.run_ends.specs.declared.closed.Closed.TheVariants.{NoMemory}
+use Rattle.exit_status.specs.declared.closed.Closed.TheVariants.{NoMemory}
 use Rattle.connections.proofs.serving.serve.Goals as goal
 
 pub returns-in_default : goal.returns-in_default

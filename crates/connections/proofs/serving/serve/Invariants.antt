@@ -1,6 +1,6 @@
 use Rattle.std.proofs.Common.{◌<◌, []}
 use Rattle.connections.specs.Connection.{IsConnection, Told, told}
-use Rattle.run_ends.specs.declared.closed.Closed.{Closed}
+use Rattle.exit_status.specs.declared.closed.Closed.{Closed}
 use Rattle.connections.proofs.serving.serve.Given as goal
 
 -- what is served from here on completes what is served in all

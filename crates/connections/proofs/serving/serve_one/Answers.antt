@@ -1,6 +1,6 @@
 use Rattle.std.proofs.Common.{arith, refl, inl, inr, []}
 use Rattle.connections.proofs.ServeLemmas.{serves_none, serves_refused, served_last, goes_one}
-use Rattle.run_ends.specs.declared.closed.Closed.TheVariants.{End, Early, ReadFault, NoMemory}
+use Rattle.exit_status.specs.declared.closed.Closed.TheVariants.{End, Early, ReadFault, NoMemory}
 use Rattle.connections.proofs.serving.serve_one.Goals as goal
 
 pub returns-in-Request-clause-goes : goal.returns-in-Request-clause-goes

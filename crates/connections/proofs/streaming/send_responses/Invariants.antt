@@ -1,6 +1,6 @@
 use Rattle.std.proofs.Common.{ℕ, Option, List, Result, drop}
-use Rattle.run_ends.specs.Pieces.{Sent}
-use Rattle.run_ends.specs.declared.closed.Closed.{Closed}
+use Rattle.exit_status.specs.Pieces.{Sent}
+use Rattle.exit_status.specs.declared.closed.Closed.{Closed}
 use Rattle.connections.specs.Polls.{chunks_for}
 use Rattle.connections.proofs.streaming.send_responses.Given as goal
 

@@ -1,7 +1,7 @@
 use Rattle.std.proofs.Common.{◌∙◌, ◌++◌, ap}
 use Rattle.std.specs.Prelude.{map}
 use Rattle.tailcfg.specs.declared.response.Response.{Response}
-use Rattle.wire_text.specs.Joined.{comma_joined, node_row_text}
+use Rattle.wire_write.specs.Joined.{comma_joined, node_row_text}
 use Rattle.fresh_maps.proofs.TextLemmas.{parts_made}
 use Rattle.fresh_maps.proofs.frame.append_with_peers.Goals as goal
 

@@ -2,7 +2,7 @@ use Rattle.std.proofs.Common.{◌≡◌, map, inl, inr, subst, subst₂, rules, 
 use Rattle.sqlite.specs.Held.{state}
 use Rattle.sqlite.specs.State.{HasCleanDisk}
 use Rattle.sqlite.specs.Values.{bound}
-use Rattle.store_texts.specs.Ran.{HasRun}
+use Rattle.store_sql.specs.Ran.{HasRun}
 use Rattle.store_commits.specs.Kept.{value_of}
 use Rattle.store_commits.proofs.commits.put_cells.Goals as goal
 

@@ -1,7 +1,7 @@
 use Rattle.std.proofs.Common.{◌≡◌, ◌+◌, [], refl, true, subst, rules, arith}
 use Rattle.sqlite.specs.Held.{state}
 use Rattle.sqlite.specs.State.{HasCleanDisk}
-use Rattle.store_texts.specs.Ran.{HasRun}
+use Rattle.store_sql.specs.Ran.{HasRun}
 use Rattle.store_rows.specs.Readable.{IsReadableExtra}
 use Rattle.store_commits.proofs.KeptChange.{one_more_extra, one_more_readable}
 use Rattle.store_commits.proofs.KeptSteps.{extras_gone}

@@ -5,8 +5,8 @@ use Rattle.net_rows.specs.declared.rows.Rows.{Rows}
 use Rattle.sqlite.specs.Held.{state}
 use Rattle.store_rows.specs.Rows.{auth_key_cells, machine_cells, pending_cells, policy_cells, user_cells}
 use Rattle.tailcfg.specs.declared.dns.DnsExtra.{DnsExtra}
-use Rattle.store_texts.specs.Ran.{IsPutBy}
-use Rattle.store_texts.specs.Texts.{insert_auth_keys_text, insert_machines_text, insert_pending_text, insert_policy_text, insert_users_text, update_auth_keys_text, update_machines_text, update_pending_text, update_policy_text, update_users_text}
+use Rattle.store_sql.specs.Ran.{IsPutBy}
+use Rattle.store_sql.specs.Texts.{insert_auth_keys_text, insert_machines_text, insert_pending_text, insert_policy_text, insert_users_text, update_auth_keys_text, update_machines_text, update_pending_text, update_policy_text, update_users_text}
 use Rattle.store_commits.specs.Kept.{Makes, value_of}
 use Rattle.store_commits.proofs.KeptChange.{where_ok}
 use Rattle.store_commits.proofs.KeptSteps.{key_put, machine_put, pending_put, policy_put, user_put}

@@ -3,7 +3,7 @@ use Rattle.sqlite.specs.Held.{state}
 use Rattle.sqlite.specs.Values.{bound_value}
 use Rattle.sqlite_value.specs.Value.{owned}
 use Rattle.sqlite_value.specs.declared.value.Value.TheVariants.{Int}
-use Rattle.store_texts.specs.Ran.{HasRun}
+use Rattle.store_sql.specs.Ran.{HasRun}
 use Rattle.store_commits.specs.Gone.{gone_id}
 use Rattle.store_commits.proofs.KeptSteps.{row_gone}
 use Rattle.store_commits.proofs.commits.remove.Goals as goal

@@ -6,8 +6,8 @@ use Rattle.net_rows.specs.declared.rows.Rows.{Rows}
 use Rattle.sqlite.specs.Held.{state}
 use Rattle.sqlite.specs.State.{HasCleanDisk}
 use Rattle.store_rows.specs.Rows.{meta_cells}
-use Rattle.store_texts.specs.Ran.{IsPutBy}
-use Rattle.store_texts.specs.Texts.{insert_meta_text, update_meta_text}
+use Rattle.store_sql.specs.Ran.{IsPutBy}
+use Rattle.store_sql.specs.Texts.{insert_meta_text, update_meta_text}
 use Rattle.store_commits.specs.Kept.{Makes, value_of}
 use Rattle.store_commits.proofs.KeptChange.{where_ok}
 use Rattle.store_commits.proofs.KeptSteps.{next_put}

@@ -7,7 +7,7 @@ use Rattle.sqlite.specs.Tree.{Trees}
 use Rattle.sqlite.proofs.Callers.{survives_begin}
 use Rattle.sqlite.proofs.StateLemmas.{survives_then}
 use Rattle.store_commits.proofs.Pending.{opened_err}
-use Rattle.store_texts.specs.Schema.{no_schema}
+use Rattle.store_sql.specs.Schema.{no_schema}
 use Rattle.store_commits.specs.Kept.{AreStored, Keeps}
 use Rattle.store_commits.proofs.creation.create.Goals as goal
 

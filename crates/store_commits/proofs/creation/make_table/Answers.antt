@@ -1,5 +1,5 @@
 use Rattle.sqlite.specs.Held.{state}
-use Rattle.store_texts.proofs.Creates.{leads_on}
+use Rattle.store_sql.proofs.Creates.{leads_on}
 use Rattle.store_commits.proofs.creation.make_table.Goals as goal
 
 pub returns-clause-leads : goal.returns-clause-leads

@@ -1,8 +1,8 @@
 use Rattle.std.proofs.Common.{sym, subst}
 use Rattle.sqlite.specs.Given.{IsPlain}
 use Rattle.sqlite.specs.Listing.{understood}
-use Rattle.store_texts.specs.Schema.{no_schema}
-use Rattle.store_texts.proofs.Selects.{select_schema_plain}
+use Rattle.store_sql.specs.Schema.{no_schema}
+use Rattle.store_sql.proofs.Selects.{select_schema_plain}
 use Rattle.store_loads.proofs.tables.listed.Goals as goal
 
 pub returns : goal.returns

@@ -4,10 +4,10 @@ use Rattle.sqlite.specs.Given.{IsPlain}
 use Rattle.sqlite.specs.Held.{state}
 use Rattle.sqlite.specs.Listing.{understood}
 use Rattle.sqlite.specs.State.{Shown}
-use Rattle.store_texts.specs.Schema.{schema_1}
-use Rattle.store_texts.proofs.Selects.{select_meta_means}
+use Rattle.store_sql.specs.Schema.{schema_1}
+use Rattle.store_sql.proofs.Selects.{select_meta_means}
 use Rattle.std.proofs.lemmas.Result.{IfOk-weaker}
-use Rattle.store_texts.specs.Texts.{select_meta_text}
+use Rattle.store_sql.specs.Texts.{select_meta_text}
 use Rattle.store_reads.proofs.BackLemmas.{next_stands}
 use Rattle.store_reads.specs.Causes.{FailsOnlyFor, HasCause, ListsOurs}
 use Rattle.store_reads.proofs.Causes.{caused_less, meta_listed}

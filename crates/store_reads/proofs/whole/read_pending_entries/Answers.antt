@@ -1,6 +1,6 @@
 use Rattle.std.proofs.lemmas.Result.{IfOk-weaker}
 use Rattle.sqlite.specs.Held.{state}
-use Rattle.store_texts.proofs.Selects.{select_pending_means}
+use Rattle.store_sql.proofs.Selects.{select_pending_means}
 use Rattle.store_reads.proofs.BackLemmas.{pending_stand}
 use Rattle.store_reads.proofs.Causes.{pending_listed}
 use Rattle.store_reads.proofs.ShownRows.{shown_pending}

@@ -1,6 +1,6 @@
 use Rattle.std.proofs.lemmas.Result.{IfOk-weaker}
 use Rattle.sqlite.specs.Held.{state}
-use Rattle.store_texts.proofs.Selects.{select_users_means}
+use Rattle.store_sql.proofs.Selects.{select_users_means}
 use Rattle.store_reads.proofs.BackLemmas.{users_stand}
 use Rattle.store_reads.proofs.Causes.{users_listed}
 use Rattle.store_reads.proofs.ShownRows.{shown_users}

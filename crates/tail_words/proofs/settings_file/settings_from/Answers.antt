@@ -6,14 +6,14 @@ use Rattle.toml.specs.View.{table_view}
 use Rattle.tail_words.proofs.FieldLemmas.{base_domain_in, server_fits, server_url_in, tailnet_fits, token_in}
 use Rattle.tail_words.proofs.settings_file.settings_from.Goals as goal
 
-pub new-requires : goal.new-requires
-new-requires c =
+pub new-tailnet-requires : goal.new-tailnet-requires
+new-tailnet-requires c =
     let table : Members = table_view c.args.table.now in
     let base = base_domain_in table _ c.in_ok-base_domain.ensures.value in
     record { rules = subst AreSettings (sym c.in_ok-tailnet_fields_of.ensures.value) (tailnet_fits _ table base) }
 
-pub new-requires-2 : goal.new-requires-2
-new-requires-2 c =
+pub new-server-requires : goal.new-server-requires
+new-server-requires c =
     let table : Members = table_view c.args.table.now in
     let url = server_url_in table _ c.in_ok-server_url.ensures.value in
     let token = token_in table _ c.in_ok-token.ensures.value in

@@ -1,6 +1,6 @@
 use Rattle.std.proofs.Common.{◌∙◌, ap, sym}
 use Rattle.same_maps.proofs.NodeLemmas.{nodes_equal}
-use Rattle.wire_text.specs.Joined.{node_row_text}
+use Rattle.wire_write.specs.Joined.{node_row_text}
 use Rattle.fresh_maps.proofs.node_texts.NodeText.text_of.Goals as goal
 
 pub returns-then-same_node_row : goal.returns-then-same_node_row

@@ -1,5 +1,0 @@
-//! Tests of keepers and openers in memory.
-#![tactic(auto)]
-
-#[cfg(test)]
-mod keepers;

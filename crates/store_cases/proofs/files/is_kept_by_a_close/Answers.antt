@@ -1,9 +1,0 @@
-use denote.Param.Send.{sendable}
-use Rattle.store_cases.proofs.files.is_kept_by_a_close.Goals as goal
-use Rattle.keeper_sqlite.proofs.Sent.{host_send}
-
-pub keep_and_close-requires-send-O-Keeper : goal.keep_and_close-requires-send-O-Keeper
-keep_and_close-requires-send-O-Keeper c κs = search (sendable, host_send)
-
-pub reads-requires-send-O-Keeper : goal.reads-requires-send-O-Keeper
-reads-requires-send-O-Keeper c κs = search (sendable, host_send)

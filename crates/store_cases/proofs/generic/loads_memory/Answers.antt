@@ -1,6 +1,0 @@
-use denote.Param.Send.{sendable}
-use Rattle.store_cases.proofs.generic.loads_memory.Goals as goal
-use Rattle.keeper_sqlite.proofs.Sent.{host_send}
-
-pub loads-requires-send-O-Keeper : goal.loads-requires-send-O-Keeper
-loads-requires-send-O-Keeper c κs = search (sendable, host_send)

@@ -1,6 +1,0 @@
-use denote.Param.Send.{sendable}
-use Rattle.store_cases.proofs.others.fails.Goals as goal
-use Rattle.keeper_sqlite.proofs.Sent.{host_send}
-
-pub fails_by-requires-send-O-Keeper : goal.fails_by-requires-send-O-Keeper
-fails_by-requires-send-O-Keeper c κs = search (sendable, host_send)

@@ -1,5 +1,0 @@
-//! Tries of the adapters over TCP.
-#![tactic(auto)]
-
-#[cfg(test)]
-mod tests;

@@ -1,9 +1,0 @@
-use Rattle.wire_text.specs.Joined.{before_peers}
-use Rattle.wire_text.proofs.TokenLemmas.{printed, then}
-use Rattle.wire_text.proofs.joined.append_before_peers.Goals as goal
-
-pub returns : goal.returns
-unfolding before_peers
-returns c =
-    let wrote = then c.in_ok-write_first.ensures.adds (then c.in_ok-write_name.ensures.adds c.in_ok-begin_array.ensures.adds) in
-    record { value = printed c.new-out.ensures.before c.new-out.ensures.tokens wrote c.into_inner.ensures.items }

@@ -1,9 +1,0 @@
-use Rattle.wire_text.specs.Joined.{behind_peers}
-use Rattle.wire_text.proofs.TokenLemmas.{printed, then}
-use Rattle.wire_text.proofs.joined.append_behind_peers.Goals as goal
-
-pub returns : goal.returns
-unfolding behind_peers
-returns c =
-    let wrote = then c.in_ok-end_array.ensures.adds c.in_ok-write_changed.ensures.adds in
-    record { value = printed c.new-out.ensures.before c.new-out.ensures.tokens wrote c.into_inner.ensures.items }

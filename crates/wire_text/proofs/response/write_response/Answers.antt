@@ -1,6 +1,0 @@
-use Rattle.wire_text.proofs.JoinedLemmas.{whole_tokens}
-use Rattle.wire_text.proofs.TokenLemmas.{recast, then}
-use Rattle.wire_text.proofs.response.write_response.Goals as goal
-
-pub returns : goal.returns
-returns c = record { adds = recast (whole_tokens c.args.response.now) (then c.in_ok-write_first.ensures.adds c.in_ok-write_peers.ensures.adds) }

@@ -1,0 +1,7 @@
+use Rattle.wire_write.proofs.TokenLemmas.{opened, next, last}
+use Rattle.wire_write.specs.Filters.{ports_data}
+use Rattle.wire_write.proofs.filter.PortRangeTokenForm.write_json.Goals as goal
+
+pub returns : goal.returns
+unfolding ports_data
+returns c = record { adds = opened _ c.in_ok-begin_object.ensures.adds (next _ _ c.in_ok-write_member.ensures.adds (next _ _ c.in_ok-write_member-2.ensures.adds (last c.in_ok-end_object.ensures.adds))) }
