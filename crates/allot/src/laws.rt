@@ -1,10 +1,12 @@
 //! Laws of the definitions. None of these functions does anything: each states a law.
-ghost use Rattle.std.specs.Prelude.{◌≡◌, ◌≢◌, ◌↔◌, ◌<◌, ◌≤◌, ℕ, List, Contains, Some, None, length, true, false};
+ghost use Rattle.std.specs.Prelude.{◌≡◌, ◌≢◌, ◌↔◌, ◌<◌, ◌≤◌, ℕ, List, Contains, Some, None, codes, length, true, false};
+ghost use Rattle.net_addr.specs.AddrTexts.{addr_text};
 ghost use Rattle.net_addr.specs.Bits.{Address, Block};
 ghost use Rattle.net_addr.specs.Blocks.{holds};
 ghost use Rattle.net_rows.specs.declared.limits.TheConstants.{MACHINE_LIMIT};
 ghost use Rattle.net_rows.specs.declared.machine.Machine.{Machine};
 ghost use Rattle.tail_base.specs.Labels.{is_label, label_of_host, numbered_label};
+ghost use Rattle.allot.specs.declared.addresses.TheConstants.{CHROMEOS_FIRST, CHROMEOS_LAST, SERVICE_V4, SERVICE_V6};
 ghost use Rattle.allot.specs.Addresses.{IsFree, free_address, has_address, may_be_given};
 ghost use Rattle.allot.specs.Names.{free_name, has_name};
 
@@ -36,4 +38,16 @@ pub fn the_least_free_name_is_given()
         → (n : ℕ) × (1 ≤ n) × (free_name machines host ≡ numbered_label (label_of_host host) n)
         × ((k : ℕ) → 1 ≤ k → k < n
         → has_name machines (numbered_label (label_of_host host) k) ≡ true) }
+{}
+
+/// The addresses that no machine gets, as texts: Tailscale's own service, and the range of ChromeOS.
+pub fn the_numbers_are_these()
+    ensures service_v4 { addr_text (record { v6 = false; bits = SERVICE_V4 })
+        ≡ codes "100.100.100.100" }
+    ensures service_v6 { addr_text (record { v6 = true; bits = SERVICE_V6 })
+        ≡ codes "fd7a:115c:a1e0::53" }
+    ensures chromeos_first { addr_text (record { v6 = false; bits = CHROMEOS_FIRST })
+        ≡ codes "100.115.92.0" }
+    ensures chromeos_last { addr_text (record { v6 = false; bits = CHROMEOS_LAST })
+        ≡ codes "100.115.93.255" }
 {}

@@ -3,7 +3,7 @@ use Rattle.std.proofs.Common.{◌≡◌, ◌≤◌, ◌<◌, ◌+◌, ◌∙◌,
 use Rattle.std.proofs.lemmas.List.{at_drop_all}
 use Rattle.tailcfg.specs.declared.response.Response.{Response}
 use Rattle.fresh_maps.specs.Frames.{frame_of}
-use Rattle.http_chunks.specs.Streams.{chunk_of}
+use Rattle.http_front.specs.Streams.{chunk_of}
 use Rattle.io_edge.specs.Edge.{and_held}
 use Rattle.io_edge.proofs.Told.{held_more, held_nothing, rose_later}
 use Rattle.exit_status.specs.Pieces.{IsSent, Sent}

@@ -4,7 +4,7 @@ use Rattle.tail_base.specs.declared.key.MachineKey.{MachineKey}
 use Rattle.tailcfg.specs.declared.response.Response.{Response}
 use Rattle.fresh_maps.specs.Frames.{frame_of}
 use Rattle.map_delta.specs.Delta.{greeting}
-use Rattle.http_chunks.specs.Streams.{chunk_of, chunks_of, last_chunk, stream_head}
+use Rattle.http_front.specs.Streams.{chunk_of, chunks_of, last_chunk, stream_head}
 use Rattle.tailnet_desk.specs.Chains.{Turned}
 use Rattle.tailnet_desk.specs.declared.entry.Event.TheVariants as event
 use Rattle.tailnet_desk.specs.declared.reply.Reply.{Reply}

@@ -1,7 +1,7 @@
 //! The bytes of a poll's answer, piece by piece.
 ghost use Rattle.std.specs.Prelude.{◌≡◌, ◌++◌, IfOk};
 ghost use Rattle.fresh_maps.specs.Frames.{frame_of};
-ghost use Rattle.http_chunks.specs.Streams as chunks;
+ghost use Rattle.http_front.specs.Streams as chunks;
 ghost use Rattle.exit_status.specs.Pieces.{Sent};
 ghost use Rattle.tailnet_desk.specs.Step.{drain_reply};
 ghost use Rattle.connections.specs.Polled.{Completed, GoesOn};
@@ -9,7 +9,7 @@ ghost use Rattle.connections.specs.Polls.{chunks_for, drained_bytes, greeting_by
 
 use exit_status::{Closed, send};
 use fresh_maps::{NodeTexts, frame_bytes};
-use http_chunks::{chunk_of, last_chunk, stream_head};
+use http_front::{chunk_of, last_chunk, stream_head};
 use io_edge::Sink;
 use map_delta::greeting;
 use std::alloc::Global;

@@ -1,9 +1,10 @@
-pub mod Streams
-pub mod Refusals
-pub mod Serving
-pub mod Targets
-pub mod PathLemmas
-pub mod MethodLemmas
+pub mod ChunkLemmas
 pub mod Heads
 pub mod Looks
+pub mod MethodLemmas
 pub mod Needs
+pub mod PathLemmas
+pub mod Refusals
+pub mod Serving
+pub mod Streams
+pub mod Targets

@@ -1,7 +1,8 @@
+pub mod AnswerBytes
 pub mod HeadFaults
 pub mod Lines
-pub mod Requests
-pub mod Target
 pub mod Looks
+pub mod Requests
+pub mod Streams
 pub mod Taking
-pub mod AnswerBytes
+pub mod Target

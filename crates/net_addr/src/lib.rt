@@ -22,7 +22,7 @@ pub use endpoint::Endpoint;
 pub use groups::{longest_run, start_of_run, v6_groups};
 pub use laws::{
     addr_texts_differ, address_searches_find, endpoint_texts_differ, moment_texts_differ,
-    prefix_texts_differ, sorted_routes_rise,
+    prefix_texts_differ, sorted_routes_rise, the_numbers_are_these,
 };
 pub use moment::{FIRST_SECOND, LAST_SECOND, Moment};
 pub use numbers::ones;

@@ -1,5 +1,6 @@
 //! Laws of rows and tables. None of these functions does anything: each states a law.
 ghost use Rattle.std.specs.Prelude.{◌≡◌, ◌==◌, ◌↔◌, ℕ, List, Some, None, if◌then◌else◌};
+ghost use Rattle.net_rows.specs.declared.limits.TheConstants.{COUNTER_LIMIT, EXTRA_LIMIT, KEY_LIMIT, MACHINE_LIMIT, PENDING_LIMIT, TAG_LIMIT, USER_LIMIT};
 ghost use Rattle.net_rows.specs.Damage.{damage};
 ghost use Rattle.net_rows.specs.Rows.{Rows};
 ghost use Rattle.net_rows.specs.Shelf.{IsAscending, put_row, row_at, without};
@@ -26,4 +27,15 @@ pub fn rows_are_maps<T: HasId>()
 /// each key and machine has a user, and all limits hold.
 pub fn sound_rows_have_no_damage()
     ensures sound { (t : Rows) → damage t ≡ None ↔ AreSound t }
+{}
+
+/// How much the tables hold.
+pub fn the_numbers_are_these()
+    ensures counter { COUNTER_LIMIT ≡ 2147483647 }
+    ensures users { USER_LIMIT ≡ 256 }
+    ensures keys { KEY_LIMIT ≡ 1024 }
+    ensures pending { PENDING_LIMIT ≡ 256 }
+    ensures machines { MACHINE_LIMIT ≡ 1024 }
+    ensures extras { EXTRA_LIMIT ≡ 256 }
+    ensures tags { TAG_LIMIT ≡ 32 }
 {}

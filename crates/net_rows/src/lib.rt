@@ -23,7 +23,7 @@ pub use check::damage;
 pub use fits::TableRow;
 pub use id::HasId;
 pub use key::AuthKey;
-pub use laws::{rows_are_maps, sound_rows_have_no_damage};
+pub use laws::{rows_are_maps, sound_rows_have_no_damage, the_numbers_are_these};
 pub use limits::{
     COUNTER_LIMIT, EXTRA_LIMIT, KEY_LIMIT, MACHINE_LIMIT, PENDING_LIMIT, TAG_LIMIT, USER_LIMIT,
 };

@@ -5,6 +5,7 @@
 mod defaults;
 mod fields;
 mod file_settings;
+mod laws;
 mod limits;
 mod server_settings;
 
@@ -13,5 +14,6 @@ pub use defaults::{
 };
 pub use fields::ServerFields;
 pub use file_settings::FileSettings;
+pub use laws::the_numbers_are_these;
 pub use limits::{COUNT_LIMIT, VISIBLE_LIMIT};
 pub use server_settings::ServerSettings;

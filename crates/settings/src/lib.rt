@@ -5,6 +5,7 @@
 mod defaults;
 mod domain;
 mod fields;
+mod laws;
 mod limits;
 mod settings;
 
@@ -14,6 +15,7 @@ pub use defaults::{
 };
 pub use domain::is_domain;
 pub use fields::SettingsFields;
+pub use laws::the_numbers_are_these;
 pub use limits::{
     BASE_DOMAIN_LIMIT, DNS_ROUTE_LIMIT, DOMAIN_LIMIT, PREFIX_V4_LEN_LIMIT, PREFIX_V6_LEN_LIMIT,
     RESOLVER_LIMIT, SEARCH_LIMIT, SECONDS_LIMIT, WORKER_LIMIT,

@@ -1,6 +1,6 @@
 //! Laws of streams. None of these functions does anything: each states a law.
 ghost use Rattle.std.specs.Prelude.{◌≡◌, ℕ, List, ◌++◌, All};
-ghost use Rattle.http_chunks.specs.Streams.{IsFrame, chunks_of, last_chunk, stream_of};
+ghost use Rattle.http_front.specs.Streams.{IsFrame, chunks_of, last_chunk, stream_of};
 
 /// No two lists of frames, none of them empty, have one stream.
 pub fn streams_differ()

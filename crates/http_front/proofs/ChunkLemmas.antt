@@ -7,7 +7,7 @@ use Rattle.std.specs.Str.Parse.{AllDigits, digits_value}
 use Rattle.std.proofs.lemmas.Fmt.{digits_is_IsNumeral, hex_one_digit}
 use Rattle.std.proofs.lemmas.List.{append_cancel_left}
 use Rattle.std.proofs.lemmas.List.Elements.{All-head, All-tail}
-use Rattle.http_chunks.specs.Streams.{IsFrame, chunk_of, chunks_of, last_chunk, stream_head, stream_of}
+use Rattle.http_front.specs.Streams.{IsFrame, chunk_of, chunks_of, last_chunk, stream_head, stream_of}
 
 -- hexadecimal digits end where the line does
 same_digits : (xs ys ms ns : List ℕ) → AllDigits 16 xs → AllDigits 16 ys → xs ++ (13 ∷ ms) ≡ ys ++ (13 ∷ ns) → (xs ≡ ys) × (ms ≡ ns)

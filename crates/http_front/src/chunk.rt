@@ -1,6 +1,6 @@
 //! Heads and chunks.
 ghost use Rattle.std.specs.Prelude.{◌≡◌, IfOk};
-ghost use Rattle.http_chunks.specs.Streams.{chunk_of, last_chunk, stream_head};
+ghost use Rattle.http_front.specs.Streams.{chunk_of, last_chunk, stream_head};
 
 use std::alloc::Global;
 use tail_base::NoMemory;
