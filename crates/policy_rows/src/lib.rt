@@ -7,6 +7,7 @@
 mod approver;
 mod code;
 mod dest;
+mod escaping;
 mod fault;
 mod flow;
 mod group;
