@@ -1,6 +1,7 @@
 -- A policy's faults and their places.
 use Rattle.std.specs.Prelude.{ℕ, ◌++◌, List, [], ◌∷◌, codes}
 use Rattle.std.specs.Fmt.{decimal}
+use Rattle.json.specs.Print.{escape}
 use Rattle.policy_rows.specs.declared.code.PolicyCode.{PolicyCode}
 use Rattle.policy_rows.specs.declared.code.PolicyCode.TheVariants as code
 use Rattle.policy_rows.specs.declared.fault.PolicyFault.{PolicyFault}
@@ -42,6 +43,6 @@ number_of_code code.TooMany = 19
 number_of_code code.BadTest = 20
 number_of_code code.TestFailed = 21
 
--- a fault as a text: `P4 acls[0].src[1]`
+-- a fault as a text: `P4 acls[0].src[1]`; its place is written as JSON has it between quotes, so the text is one line
 abbrev pub fault_text : PolicyFault → List ℕ
-fault_text fault = codes "P" ++ (decimal (number_of_code fault.code) ++ (codes " " ++ fault.place))
+fault_text fault = codes "P" ++ (decimal (number_of_code fault.code) ++ (codes " " ++ escape fault.place))

@@ -1,5 +1,6 @@
 pub mod Dests
 pub mod Faults
+pub mod Flows
 pub mod Internet
 pub mod Named
 pub mod Names

@@ -4,6 +4,7 @@ ghost use Rattle.tail_base.specs.Steps.{Gives};
 ghost use Rattle.policy_rows.specs.Faults.{fault_at, fault_text};
 
 use crate::code::PolicyCode;
+use crate::escaping::escaped;
 use std::alloc::Global;
 use tail_base::{Failure, NoMemory, Text};
 
@@ -29,12 +30,13 @@ pub fn refused<T: Drop>(
     Err(Failure::Fault(PolicyFault { code, place }))
 }
 
-/// A fault as a text: `P`, the number of its code, a space, and its place.
+/// A fault as a text: `P`, the number of its code, a space, and its place as JSON has it between quotes.
 pub fn fault_text(alloc: Global, fault: &PolicyFault) -> Result<Text, NoMemory>
     ensures value { IfOk result (λ text. text ≡ fault_text fault.now) }
 {
     let number = fault.code.number();
-    let place = fault.place.as_str();
+    let place = escaped(alloc, fault.place.as_str())?;
+    let place = place.as_str();
     let text = format!(in alloc; "P{number} {place}")?;
     Ok(Text::from_string(text))
 }

@@ -1,16 +1,19 @@
 //! The rows of a policy, which is a Tailscale policy file
 //! (<https://tailscale.com/kb/1337/policy-syntax>), and what single texts in it are read as:
-//! selectors, destinations and protocols; whom a selector names, and what the internet is. A policy's
+//! selectors, destinations, flows and protocols; whom a selector names, and what the internet is. A policy's
 //! fault has a code and a place.
 #![tactic(auto)]
 
 mod approver;
 mod code;
 mod dest;
+mod escaping;
 mod fault;
+mod flow;
 mod group;
 mod host;
 mod internet;
+mod laws;
 mod names;
 mod naming;
 mod nets;
@@ -29,6 +32,7 @@ pub use approver::Approver;
 pub use code::PolicyCode;
 pub use dest::{Dest, read_dest, read_test_dest};
 pub use fault::{PolicyFault, fault_text, refused};
+pub use flow::{Flow, read_flow};
 pub use group::Group;
 pub use host::Host;
 pub use internet::{
@@ -36,6 +40,7 @@ pub use internet::{
     PRIVATE_12_BASE, PRIVATE_12_LEN, PRIVATE_16_BASE, PRIVATE_16_LEN, internet_nets, is_internet,
     not_internet,
 };
+pub use laws::the_numbers_are_these;
 pub use names::{Names, is_name};
 pub use naming::{is_named, members_of};
 pub use nets::host_net;

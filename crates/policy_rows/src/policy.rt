@@ -16,7 +16,8 @@ pub struct Policy {
     pub groups: Items<Group>,
     pub hosts: Items<Host>,
     pub tags: Items<TagOwner>,
-    /// The rules. None where the policy has no `acls`, which lets everything through.
+    /// The rules of `acls` and, behind them, those of `grants`. None where the policy has neither, which
+    /// lets everything through.
     pub rules: Option<Items<Rule>>,
     pub route_approvers: Items<Approver>,
     pub exit_approvers: Items<Selector>,

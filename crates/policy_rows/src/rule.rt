@@ -6,8 +6,8 @@ use port_sets::Protos;
 use std::alloc::Global;
 use tail_base::{Duplicate, Items, NoMemory};
 
-/// What an entry of `acls` lets through: each of the protocols from each of the sources to each of the
-/// destinations.
+/// What an entry of `acls` lets through, or an entry of `grants` by one element of its `ip`: each of the
+/// protocols from each of the sources to each of the destinations.
 #[derive(Drop)]
 pub struct Rule {
     pub protos: Protos,
