@@ -46,6 +46,11 @@ def model(world, repository):
     return command_faults([f"{TOP}/model/compare", str(CONVERSATIONS)], 900)
 
 
+def ctl(world, repository):
+    """tailnetctl against the program, over loopback."""
+    return command_faults([sys.executable, "-B", "-m", "unittest", "discover", "-q", "-s", "ctl/tests", "-t", "ctl"], 300)
+
+
 READING = {
     "names": documents.names,
     "links": documents.links,
@@ -57,7 +62,7 @@ READING = {
     "wrong-bodies": sources.wrong_bodies,
     **LISTS,
 }
-RUNNING = {"ends": ends, "transcripts": transcripts.transcripts, "model": model}
+RUNNING = {"ends": ends, "transcripts": transcripts.transcripts, "ctl": ctl, "model": model}
 
 
 def checked(name, check, *arguments):
