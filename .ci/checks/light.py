@@ -12,6 +12,7 @@ import time
 
 sys.dont_write_bytecode = True
 
+import deployed
 import documents
 import sources
 import transcripts
@@ -62,7 +63,15 @@ READING = {
     "wrong-bodies": sources.wrong_bodies,
     **LISTS,
 }
-RUNNING = {"ends": ends, "transcripts": transcripts.transcripts, "ctl": ctl, "model": model}
+RUNNING = {
+    "ends": ends,
+    "transcripts": transcripts.transcripts,
+    "shell": deployed.shell_blocks,
+    "units": deployed.units,
+    "certificates": deployed.certificates,
+    "ctl": ctl,
+    "model": model,
+}
 
 
 def checked(name, check, *arguments):
