@@ -69,6 +69,38 @@ def certificates(world, repository):
     return faults_of([f"{TOP}/bench/certificates", world.program])
 
 
+# What has to stand in the package, and what it has to do once it is unpacked.
+PACKED = """
+set -eu
+export PATH=$PWD/usr/bin:$PATH HOME=$PWD
+tailnetctl --version | grep -qx 'tailnetctl 0.1~trial'
+policy-lint usr/share/tailnetd/examples/office.hujson
+usr/share/tailnetd/examples/first-minutes > /dev/null
+for page in usr/share/man/man8/tailnetd.8.gz usr/share/man/man1/tailnetctl.1.gz usr/share/man/man1/policy-lint.1.gz; do zcat "$page" > /dev/null; done
+bash -n usr/share/bash-completion/completions/tailnetctl
+if command -v zsh > /dev/null; then zsh -n usr/share/zsh/vendor-completions/_tailnetctl; fi
+for script in ../control/postinst ../control/prerm ../control/postrm; do sh -n "$script"; done
+if grep -rn /usr/local usr/lib/systemd usr/lib/tailnetd; then exit 1; fi
+"""
+
+
+def release(world, repository):
+    """A package is made, is unpacked, and runs."""
+    if is_missing("release", "dpkg-deb", "dpkg", "curl"):
+        return []
+    with tempfile.TemporaryDirectory() as folder:
+        faults = faults_of([f"{TOP}/deploy/release", "0.1~trial", folder])
+        packages = glob(f"{folder}/*.deb")
+        if faults or len(packages) != 1:
+            return faults or ["deploy/release makes no package"]
+        return (
+            faults_of(["sha256sum", "--check", *[os.path.basename(path) + ".sha256" for path in packages]], cwd=folder)
+            or faults_of(["dpkg", "-x", packages[0], f"{folder}/root"])
+            or faults_of(["dpkg-deb", "-e", packages[0], f"{folder}/control"])
+            or faults_of(["bash", "-c", PACKED], cwd=f"{folder}/root")
+        )
+
+
 def shell_faults(world, page, number, block):
     """Why a block of a page fails as a script, in a folder of its own with the repository's commands on the path."""
     with tempfile.TemporaryDirectory() as folder:

@@ -69,6 +69,7 @@ RUNNING = {
     "shell": deployed.shell_blocks,
     "units": deployed.units,
     "certificates": deployed.certificates,
+    "release": deployed.release,
     "ctl": ctl,
     "model": model,
 }

@@ -108,6 +108,8 @@ def token_of(words, environment, kept, path, address):
             return token_in(named), f"{named} (by {source})"
     if "token" not in kept and "token_file" not in kept:
         advice = "Name its file by --token-file or TAILNETD_TOKEN_FILE, or write ~/.config/tailnetd/ctl.toml with token_file = \"..\""
+        if os.path.exists(SYSTEM_FILE) and not os.access(SYSTEM_FILE, os.R_OK):
+            advice = f"Run it as root, whose {SYSTEM_FILE} is; or name a file of your own by --token-file or TAILNETD_TOKEN_FILE"
         raise Trouble("there is no token", advice, Status.SETTINGS)
     if "server" in kept and address_of(kept["server"]) != address:
         advice = "Name the file of its token by --token-file"
