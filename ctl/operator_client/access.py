@@ -55,12 +55,20 @@ def address_of(text):
     return Address(parts.scheme == "https", parts.hostname, port)
 
 
+def is_open_to_others(path, status):
+    """Whether others may read a file. What systemd hands to a unit lies in a folder of its own, where the group's rights are
+    those of the unit's user."""
+    handed = os.environ.get("CREDENTIALS_DIRECTORY")
+    if handed and os.path.dirname(os.path.realpath(path)) == os.path.realpath(handed):
+        return bool(status.st_mode & 0o007)
+    return stat.S_ISREG(status.st_mode) and bool(status.st_mode & 0o077)
+
+
 def private_text(path, what):
     """The text of a file that nobody else may read."""
     try:
         with open(path, encoding="utf-8") as file:
-            status = os.fstat(file.fileno())
-            if stat.S_ISREG(status.st_mode) and status.st_mode & 0o077:
+            if is_open_to_others(path, os.fstat(file.fileno())):
                 advice = f"It holds the operator's token: chmod 600 {path}"
                 raise Trouble(f"{path} may be read by others, and isn't used", advice, Status.SETTINGS)
             return file.read(65536)

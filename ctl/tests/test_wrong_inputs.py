@@ -132,6 +132,15 @@ class Access(TailnetTest):
         self.assertEqual(got.status, 3)
         self.assertIn("may be read by others", got.errors)
 
+    def test_a_token_that_systemd_hands_to_a_unit(self):
+        folder = f"{self.server.folder.name}/credentials"
+        os.makedirs(folder, exist_ok=True)
+        path = self.server.file("credentials/token", "secret-of-the-tests\n", 0o440)
+        self.assertEqual(self.ran("users", "--token-file", path).status, 3)
+        self.assertEqual(self.ran("users", "--token-file", path, CREDENTIALS_DIRECTORY=folder).status, 0)
+        os.chmod(path, 0o444)
+        self.assertEqual(self.ran("users", "--token-file", path, CREDENTIALS_DIRECTORY=folder).status, 3)
+
     def test_token_is_for_one_server(self):
         home, path = self.settings('server = "tail.example:8080"\ntoken = "secret-of-the-tests"\n')
         got = ran("users", "--server", self.server.address, environment=home)
