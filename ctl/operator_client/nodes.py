@@ -4,8 +4,7 @@ from .asking import is_agreed
 from .names import node_of
 from .shown import plain, print_json, print_table, say
 from .times import shown, wire_time
-
-EXITS = ["0.0.0.0/0", "::/0"]
+from .trouble import Status, Trouble
 
 
 def state_of(row):
@@ -94,6 +93,9 @@ def approved_with(row, named):
 
 def approve(client, words):
     row = node_of(rows_of(client), words.node)
+    if not (words.none or words.routes or row["advertised"]):
+        advice = "Let it advertise some, and see `tailnetctl node routes NAME`"
+        raise Trouble(f"{plain(row['name'])} advertises no routes", advice, Status.REFUSED)
     approved = [] if words.none else approved_with(row, words.routes)
     print_nodes(words, client.value("POST", f"/api/v1/node/{row['id']}/routes", {"routes": approved}))
 

@@ -56,8 +56,15 @@ def run(words):
         raise Trouble(f"the answer of {client.address} has another form than tailnetd's: {fault!r}", advice, Status.SERVER) from None
 
 
+def write_any_text():
+    """Lets the output escape what its encoding doesn't have, in place of breaking off."""
+    if hasattr(sys.stdout, "reconfigure"):
+        sys.stdout.reconfigure(errors="backslashreplace")
+
+
 def main(line):
     """Runs the command of a line, and gives what the program ends with."""
+    write_any_text()
     try:
         refuse_token(line)
         words = read(line)

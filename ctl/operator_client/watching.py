@@ -44,39 +44,56 @@ def frames(response):
         yield json.loads(text)
 
 
-def names_of(rows):
-    return ", ".join(row["Name"].split(".")[0] for row in rows)
+class Told:
+    """What a machine was told so far: the names of the machines that it sees."""
+
+    def __init__(self):
+        self.names = {}
+
+    def seen(self, rows):
+        """Keeps the names of rows, and gives them."""
+        names = {row["ID"]: row["Name"].split(".")[0] for row in rows}
+        self.names |= names
+        return ", ".join(names.values())
+
+    def name(self, number):
+        return self.names.get(number, f"machine {number}")
+
+    def patched(self, patch):
+        """What a patch tells of a machine."""
+        name = self.name(patch["NodeID"])
+        told = [f"{name} is {'online' if patch['Online'] else 'offline'}"] if "Online" in patch else []
+        more = {"Endpoints": "endpoints", "DERPRegion": "DERP region", "DiscoKey": "disco key"}
+        return told + [f"{name} has {word} {json.dumps(patch[key])}" for key, word in more.items() if key in patch]
+
+    def sentences(self, response):
+        """What a response tells the machine, for a person."""
+        told = []
+        if "Node" in response:
+            told.append(f"this machine is {response['Node']['Name']} ({response['Node']['Addresses'][0]})")
+        for key, words in (("Peers", "sees"), ("PeersChanged", "sees anew")):
+            if key in response:
+                told.append(f"{words} {self.seen(response[key])}")
+        if "PeersRemoved" in response:
+            told.append(f"sees {', '.join(map(self.name, response['PeersRemoved']))} no more")
+        for patch in response.get("PeersChangedPatch", []):
+            told += self.patched(patch)
+        told += [f"has another {name}" for name in ("PacketFilter", "DNSConfig") if name in response and "Domain" not in response]
+        return told or [f"has session {response.get('MapSessionHandle', 'without a handle')}"]
 
 
-def sentences(response):
-    """What a response tells a machine, for a person."""
-    told = []
-    if "Node" in response:
-        told.append(f"this machine is {response['Node']['Name']} ({response['Node']['Addresses'][0]})")
-    for key, words in (("Peers", "sees"), ("PeersChanged", "sees anew")):
-        if key in response:
-            told.append(f"{words} {names_of(response[key])}")
-    if "PeersRemoved" in response:
-        told.append(f"sees machine {', '.join(map(str, response['PeersRemoved']))} no more")
-    for patch in response.get("PeersChangedPatch", []):
-        what = ", ".join(f"{key} {json.dumps(value)}" for key, value in patch.items() if key != "NodeID")
-        told.append(f"machine {patch['NodeID']}: {what}")
-    told += [f"has another {name}" for name in ("PacketFilter", "DNSConfig") if name in response and "Domain" not in response]
-    return told or [f"has session {response.get('MapSessionHandle', 'without a handle')}"]
-
-
-def print_response(words, response):
+def print_response(words, told, response):
     if words.json:
         print(json.dumps(response, ensure_ascii=True).replace("<", "\\u003c").replace(">", "\\u003e"), flush=True)
     else:
-        print(plain_lines("\n".join(sentences(response))), flush=True)
+        print(plain_lines("\n".join(told.sentences(response))), flush=True)
 
 
 def watch(address, words):
     """Polls in a machine's place, and prints each response as it comes."""
     machine, node = keys_in(words.file)
     connection = opened(address, SILENCE)
-    count = 0
+    told, count = Told(), 0
     try:
         connection.request("POST", "/machine/map", json.dumps({"NodeKey": node, "Stream": True}), {"Ts-Machine-Key": machine})
         response = connection.getresponse()
@@ -84,7 +101,7 @@ def watch(address, words):
             what = f"{address} doesn't take the poll: status {response.status} and '{plain(response.read(200).decode(errors='replace'))}'"
             raise Trouble(what, "The machine has to be registered with these keys, and live", Status.REFUSED)
         for frame in frames(response):
-            print_response(words, frame)
+            print_response(words, told, frame)
             count += 1
             if words.count and count >= words.count:
                 return

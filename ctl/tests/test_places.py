@@ -51,6 +51,8 @@ CASES = [
     ('{"tests": [{"src": "ann@", "accept": ["bob@:22",\n "bob@:22,80"]}]}', "2:2 P20 tests[0].accept[1]"),
     ('{"acls": [], "tests": [\n  {"src": "ann@", "accept": ["bob@:22"]}]}', "2:30 P21 tests[0].accept[0]"),
     ('{"Tests": [{"src": "ann@",\n"deny": ["bob@:22"]}]}', "2:10 P21 tests[0].deny[0]"),
+    ('{"ssh": ' + "[" * 127 + "]" * 127 + "}", "1:135 P1 json"),
+    ('{"ssh": "\\ud800"}', "1:9 P1 json"),
     ('{"a": 1, "a": 2}', "1:10 P3 a"),
     ('{"groups": {"group:a": 1, "group:a": []}, "hosts": 1}', "1:52 P5 hosts"),
 ]
@@ -84,6 +86,10 @@ class Places(unittest.TestCase):
         for text, wanted in CASES:
             self.assertEqual(self.found(text), [wanted], text[:200])
             self.assertEqual(self.server.policy(), before)
+
+    def test_what_is_as_deep_as_it_may_be(self):
+        text = '{"ssh": ' + "[" * 126 + "]" * 126 + "}"
+        self.assertEqual((self.found(text), self.found(text, "--offline")), ([], []))
 
     def test_bytes_that_are_no_text(self):
         path = f"{self.server.folder.name}/raw.hujson"

@@ -6,6 +6,7 @@ import re
 from .tailnet import MACHINES, TailnetTest
 from operator_client.shown import table
 from operator_client.times import shown
+from operator_client.watching import Told
 
 
 def cells(line):
@@ -143,6 +144,19 @@ class Changes(TailnetTest):
 
     def test_sweep(self):
         self.assertEqual(self.done("sweep").output, "removed 0 ephemeral machines and 0 waiting entries\n")
+
+    def test_nothing_to_approve(self):
+        self.assertIn("machine-11 advertises no routes. ", self.ran("node", "approve", "machine-11").errors)
+
+    def test_what_a_response_tells(self):
+        told = Told()
+        row = {"ID": 7, "Name": "gate.tail.example."}
+        self.assertEqual(told.sentences({"Peers": [row], "Domain": "x"}), ["sees gate"])
+        patches = [{"NodeID": 7, "Online": False}, {"NodeID": 7, "Online": True, "Endpoints": ["192.0.2.7:1"]}, {"NodeID": 8, "DERPRegion": 3}]
+        wanted = ["gate is offline", "gate is online", 'gate has endpoints ["192.0.2.7:1"]', "machine 8 has DERP region 3"]
+        self.assertEqual(told.sentences({"PeersChangedPatch": patches}), wanted)
+        self.assertEqual(told.sentences({"PeersRemoved": [7, 9], "PacketFilter": []}), ["sees gate, machine 9 no more", "has another PacketFilter"])
+        self.assertEqual(told.sentences({"MapSessionHandle": "s1"}), ["has session s1"])
 
     def test_watch(self):
         path = self.server.file("machine.keys", f"mkey:{3:064x}\nnodekey:{3 + 65536:064x}\n")
