@@ -102,12 +102,12 @@ def release(world, repository):
 
 
 def shell_faults(world, page, number, block):
-    """Why a block of a page fails as a script, in a folder of its own with the repository's commands on the path."""
+    """Why a block of a page fails as a script, in a folder that looks like a clone and keeps what the script writes."""
     with tempfile.TemporaryDirectory() as folder:
         os.symlink(world.program, f"{folder}/tailnetd")
-        os.symlink(f"{TOP}/ctl/tailnetctl", f"{folder}/tailnetctl")
-        os.symlink(f"{TOP}/examples", f"{folder}/examples")
-        environment = {"PATH": f"{folder}:{os.environ['PATH']}", "HOME": folder, "TAILNETD_EXAMPLES": f"{TOP}/examples"}
+        for name in ("ctl", "deploy", "examples", "model"):
+            os.symlink(f"{TOP}/{name}", f"{folder}/{name}")
+        environment = {"PATH": os.environ["PATH"], "HOME": folder}
         script = "\n".join(line for _, line in block)
         try:
             status, text = told(["sh", "-eu", "-c", script], cwd=folder, env=environment)
