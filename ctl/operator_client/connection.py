@@ -11,7 +11,7 @@ from .shown import plain
 from .trouble import Status, Trouble
 
 # A person waits no longer for a line that says that nothing comes.
-SECONDS = 9
+SECONDS = 8
 LARGEST = 16 * 1024 * 1024
 
 

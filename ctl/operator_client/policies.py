@@ -88,21 +88,22 @@ def meant(client, text, hosts):
     return next(iter(found), text)
 
 
-def hosts_of(client):
-    """The names of hosts in the policy in force."""
+def hosts_of(policy):
+    """The names of hosts in a policy."""
     try:
-        found = questions.hujson.read(client.text(PATH)).member("hosts")
+        found = questions.hujson.read(policy).member("hosts")
     except questions.hujson.NoJson:
-        return []
+        advice = "It may be another program, or another version of tailnetd"
+        raise Trouble("the policy in force can't be read", advice, Status.SERVER) from None
     return [key.value for key, _ in found.members] if found else []
 
 
-def question_of(client, words):
+def question_of(client, policy, words):
     """The question that the words ask. The last colon parts a destination from its port."""
     dest, colon, port = words.dest.rpartition(":")
     if not colon or not port.isdigit() or int(port) > 65535:
         raise Trouble(f"'{plain(words.dest)}' has no port", "Write it as laptop:22, tag:web:443 or [fd00::1]:22", Status.WORDS)
-    hosts = hosts_of(client)
+    hosts = hosts_of(policy)
     return questions.Question(meant(client, words.source, hosts), f"{meant(client, dest, hosts)}:{int(port)}", words.protocol)
 
 
@@ -116,8 +117,9 @@ SENTENCES = {
 
 def can(client, words):
     """Whether one end reaches another, by the policy in force."""
-    question = question_of(client, words)
-    reach = questions.reach_of(client, question)
+    policy = client.text(PATH)
+    question = question_of(client, policy, words)
+    reach = questions.reach_of(client, policy, question)
     if words.json:
         print_json({"answer": reach.value, "src": question.source, "dst": question.dest, "proto": question.protocol})
     else:

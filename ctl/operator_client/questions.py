@@ -125,10 +125,9 @@ def unaskable(question, code, place):
     return Trouble(what, advice, Status.REFUSED)
 
 
-def reach_of(client, question):
-    """Whether the source reaches the destination by the policy in force, over the live machines. An empty group stands for
-    nobody, of whom both is so."""
-    policy = client.text("/api/v1/policy")
+def reach_of(client, policy, question):
+    """Whether the source reaches the destination by a policy that is in force, over the live machines. An empty group stands
+    for nobody, of whom both is so."""
     accepts, denies = (passes(client, policy, question, key) for key in ("accept", "deny"))
     if accepts:
         return Reach.NOBODY if denies else Reach.ALL

@@ -248,7 +248,7 @@ class Strangers(unittest.TestCase):
             self.assertEqual(one.returncode, 4)
             self.assertEqual(
                 errors,
-                f"tailnetctl: {stranger.address} doesn't answer within 9 seconds. It may be stopped, or all its workers may be taken: see workers in its settings.\n",
+                f"tailnetctl: {stranger.address} doesn't answer within 8 seconds. It may be stopped, or all its workers may be taken: see workers in its settings.\n",
             )
 
     def test_a_server_that_keeps_what_cannot_pass(self):
