@@ -12,6 +12,7 @@ import time
 
 sys.dont_write_bytecode = True
 
+import deployed
 import documents
 import sources
 import transcripts
@@ -46,6 +47,11 @@ def model(world, repository):
     return command_faults([f"{TOP}/model/compare", str(CONVERSATIONS)], 900)
 
 
+def ctl(world, repository):
+    """tailnetctl against the program, over loopback."""
+    return command_faults([sys.executable, "-B", "-m", "unittest", "discover", "-q", "-s", "ctl/tests", "-t", "ctl"], 300)
+
+
 READING = {
     "names": documents.names,
     "links": documents.links,
@@ -57,7 +63,16 @@ READING = {
     "wrong-bodies": sources.wrong_bodies,
     **LISTS,
 }
-RUNNING = {"ends": ends, "transcripts": transcripts.transcripts, "model": model}
+RUNNING = {
+    "ends": ends,
+    "transcripts": transcripts.transcripts,
+    "shell": deployed.shell_blocks,
+    "units": deployed.units,
+    "certificates": deployed.certificates,
+    "release": deployed.release,
+    "ctl": ctl,
+    "model": model,
+}
 
 
 def checked(name, check, *arguments):
