@@ -9,9 +9,10 @@ import (
 	"sync"
 	"syscall"
 	"time"
-
-	"golang.org/x/sys/unix"
 )
+
+// tcpUserTimeout is Linux's TCP_USER_TIMEOUT, which package syscall doesn't name.
+const tcpUserTimeout = 18
 
 // A listener takes connections, not too many at once of those that aren't upgraded,
 // in all and of one address.
@@ -28,7 +29,7 @@ func listen(ctx context.Context, address string, limits limits, plain bool) (*li
 	config := net.ListenConfig{Control: func(_, _ string, c syscall.RawConn) error {
 		var err error
 		if e := c.Control(func(fd uintptr) {
-			err = unix.SetsockoptInt(int(fd), unix.IPPROTO_TCP, unix.TCP_USER_TIMEOUT, int(limits.write.Milliseconds()))
+			err = syscall.SetsockoptInt(int(fd), syscall.IPPROTO_TCP, tcpUserTimeout, int(limits.write.Milliseconds()))
 		}); e != nil {
 			return e
 		}

@@ -8,10 +8,10 @@ import (
 	"net"
 	"net/http"
 	"strings"
+	"syscall"
 	"testing"
 	"time"
 
-	"golang.org/x/sys/unix"
 	"tailnetd-front/internal/tailclient"
 )
 
@@ -211,7 +211,7 @@ func TestDeadPeersAreNoticed(t *testing.T) {
 		t.Fatal(err)
 	}
 	raw.Control(func(fd uintptr) {
-		if ms, err := unix.GetsockoptInt(int(fd), unix.IPPROTO_TCP, unix.TCP_USER_TIMEOUT); ms != 30000 || err != nil {
+		if ms, err := syscall.GetsockoptInt(int(fd), syscall.IPPROTO_TCP, 18); ms != 30000 || err != nil {
 			t.Error(ms, err)
 		}
 	})
