@@ -6,6 +6,7 @@ import (
 	"crypto/cipher"
 	"crypto/hmac"
 	"encoding/binary"
+	"encoding/hex"
 	"errors"
 	"fmt"
 	"hash"
@@ -27,6 +28,9 @@ func (k Key) Public() (public Key) {
 	copy(public[:], b)
 	return public
 }
+
+// Hex is its 64 hexadecimal digits.
+func (k Key) Hex() string { return hex.EncodeToString(k[:]) }
 
 // An Initiator is the client's half of Noise_IK_25519_ChaChaPoly_BLAKE2s: the
 // Noise Protocol Framework, revision 34, sections 5 and 7.5.
