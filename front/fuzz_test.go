@@ -2,10 +2,11 @@ package main
 
 import (
 	"bytes"
+	"encoding/base64"
 	"encoding/json"
 	"errors"
 	"io"
-	"net"
+	"net/http"
 	"reflect"
 	"testing"
 
@@ -99,27 +100,78 @@ func FuzzReadFrame(f *testing.F) {
 	})
 }
 
-// No bytes behind a handshake make the reader of records give any, or hang.
-func FuzzConn(f *testing.F) {
-	f.Add([]byte{4, 0, 16, 0, 0, 0, 0, 0, 0, 0, 0, 0, 0, 0, 0, 0, 0, 0, 0})
-	f.Add([]byte{3, 0, 1, 'x'})
-	f.Fuzz(func(t *testing.T, b []byte) {
+// fuzzSession is a session whose keys are always the same.
+func fuzzSession(t *testing.T) session {
+	in, err := parseInitiation(initiationOfOnes())
+	if err != nil {
+		t.Fatal(err)
+	}
+	ephemeral, private := fill(4), fill(3)
+	_, s, err := respond(pairFrom(t, private[:]), in, bytes.NewReader(ephemeral[:]))
+	if err != nil {
+		t.Fatal(err)
+	}
+	return s
+}
+
+// No bytes behind a handshake make the reader of records give any, or hang; nor do
+// bytes behind good records, of which a byte is changed, but what was whole before.
+func FuzzRecords(f *testing.F) {
+	f.Add([]byte{}, uint32(0), byte(0), []byte{4, 0, 16, 0, 0, 0, 0, 0, 0, 0, 0, 0, 0, 0, 0, 0, 0, 0, 0})
+	f.Add([]byte{1, 0, 255}, uint32(3), byte(1), []byte{3, 0, 1, 'x'})
+	f.Add([]byte{7}, uint32(9999), byte(128), []byte{4, 255, 255})
+	f.Fuzz(func(t *testing.T, sizes []byte, at uint32, mask byte, tail []byte) {
+		if len(sizes) > 8 {
+			sizes = sizes[:8]
+		}
+		s := fuzzSession(t)
+		sealing := counter{cipher: s.receive}
+		var stream, want []byte
+		for _, size := range sizes {
+			plain := bytes.Repeat([]byte{size}, int(size)*15)
+			n, err := sealing.next()
+			if err != nil {
+				t.Fatal(err)
+			}
+			header := []byte{typeRecord, byte((len(plain) + tagLen) >> 8), byte(len(plain) + tagLen)}
+			record := s.receive.Encrypt(header, n, nil, plain)
+			if mask == 0 || int(at) >= len(stream)+len(record) {
+				want = append(want, plain...)
+			}
+			stream = append(stream, record...)
+		}
+		if int(at) < len(stream) {
+			stream[at] ^= mask
+		}
+		over := &recorded{from: bytes.NewReader(append(stream, tail...))}
+		c := newConn(over, over, s, defaultLimits())
+		got, err := io.ReadAll(onlyReader{c})
+		if !bytes.Equal(got, want) || !over.closed {
+			t.Fatalf("%d bytes, not %d: %v", len(got), len(want), err)
+		}
+	})
+}
+
+// The one header that is taken is the one that a client made.
+func FuzzHandshake(f *testing.F) {
+	good := initiationOfOnes()
+	text := base64.StdEncoding.EncodeToString(good)
+	f.Add(text)
+	f.Add(text[:len(text)-1])
+	f.Add("AAAA")
+	zero := tailclient.NewInitiator(113, fill(1), fill(2), fill(3).Public()).MessageAs(tailclient.Key{}, fill(2).Public())
+	f.Add(base64.StdEncoding.EncodeToString(zero))
+	f.Fuzz(func(t *testing.T, text string) {
+		r := &http.Request{Method: "POST", Proto: "HTTP/1.1", ProtoMajor: 1, ProtoMinor: 1, Header: http.Header{"Upgrade": {upgradeProtocol}, handshakeHeader: {text}}}
+		in, err := initiationOf(r)
+		if err != nil {
+			return
+		}
 		private := fill(3)
-		static, err := keyPair(private[:])
-		if err != nil {
-			t.Fatal(err)
-		}
-		in, err := parseInitiation(initiationOfOnes())
-		if err != nil {
-			t.Fatal(err)
-		}
-		_, s, err := respond(static, in, nil)
-		if err != nil {
-			t.Fatal(err)
-		}
-		c := newConn(closedConn{}, bytes.NewReader(b), s, defaultLimits())
-		if n, err := c.Read(make([]byte, maxMessage)); n != 0 || err == nil {
-			t.Fatal(n, err)
+		_, _, err = respond(pairFrom(t, private[:]), in, nil)
+		sent, _ := base64.StdEncoding.DecodeString(text)
+		if (err == nil) != bytes.Equal(sent, good) {
+			t.Fatalf("%q: %v", text, err)
 		}
 	})
 }
@@ -127,8 +179,3 @@ func FuzzConn(f *testing.F) {
 func initiationOfOnes() []byte {
 	return tailclient.NewInitiator(113, fill(1), fill(2), fill(3).Public()).Message()
 }
-
-// A closedConn has no far end.
-type closedConn struct{ net.Conn }
-
-func (closedConn) Close() error { return nil }

@@ -17,6 +17,26 @@ import (
 // registers is a stub that takes each registration.
 var registers = http.HandlerFunc(func(w http.ResponseWriter, r *http.Request) { io.WriteString(w, "{}") })
 
+// The numbers that documents name. Other tests shorten them.
+func TestLimitsAreAsDocumented(t *testing.T) {
+	want := limits{
+		head: 16384, handshake: 10 * time.Second,
+		conns: 4096, perAddress: 256, outside: 1024, outsideOne: 64, streams: 16,
+		opened: 600, read: 16777216, register: 60, minute: time.Minute,
+		body: 1048576, bodies: 67108864,
+		idle: 300 * time.Second, write: 30 * time.Second,
+		polls: 1000, dial: 5 * time.Second, ask: 30 * time.Second, end: time.Second,
+		quiet: 50 * time.Second, give: 5 * time.Second,
+		again: 2 * time.Second, hold: 60 * time.Second,
+	}
+	if got := defaultLimits(); got != want {
+		t.Errorf("%+v", got)
+	}
+	if maxFrame != 16777216 || maxAnswer != 1048576 || pieceLen != 65536 || longestShown != 128 || oldestClient != 68 || maxCiphertext != 4093 || maxPlaintext != 4077 {
+		t.Error("a constant is another")
+	}
+}
+
 // As many registrations of one address, over whichever connection.
 func TestRegistrationsLimit(t *testing.T) {
 	r := newRig(t, registers, func(l *limits) { l.register = 3 })
@@ -71,6 +91,50 @@ func TestStreamsInAMinute(t *testing.T) {
 			}
 			time.Sleep(row.pause)
 		}
+	}
+}
+
+// The 17th stream at once is refused by itself, whatever a client makes of the number
+// that it was told, and the 16 go on.
+func TestSeventeenthStream(t *testing.T) {
+	more := make(chan struct{})
+	r := newRig(t, http.HandlerFunc(func(w http.ResponseWriter, r *http.Request) {
+		io.Copy(io.Discard, r.Body)
+		<-more
+		w.Write(frameOf(`{"Seq":1}`))
+	}), nil)
+	c := r.connect(t, fill(1))
+	c.SetDeadline(time.Now().Add(10 * time.Second))
+	f := http2.NewFramer(c, onlyReader{c})
+	io.WriteString(c, http2.ClientPreface)
+	f.WriteSettings()
+	f.WriteSettingsAck()
+	for n := uint32(0); n < 17; n++ {
+		f.WriteHeaders(http2.HeadersFrameParam{StreamID: 2*n + 1, EndHeaders: true, BlockFragment: head("POST", "/machine/map")})
+		f.WriteData(2*n+1, true, []byte("{}"))
+	}
+	ended, refused := map[uint32]bool{}, false
+	for len(ended) < 16 {
+		frame, err := f.ReadFrame()
+		if err != nil {
+			t.Fatalf("%v, with %d of 16 answered", err, len(ended))
+		}
+		switch x := frame.(type) {
+		case *http2.RSTStreamFrame:
+			if x.StreamID != 33 {
+				t.Errorf("stream %d is reset: %v", x.StreamID, x.ErrCode)
+			} else if !refused {
+				refused = true
+				close(more)
+			}
+		case *http2.DataFrame:
+			if x.StreamEnded() {
+				ended[x.StreamID] = true
+			}
+		}
+	}
+	if !refused || ended[33] {
+		t.Error("the 17th isn't refused")
 	}
 }
 

@@ -7,7 +7,7 @@ import subprocess
 from transcripts import TOP
 
 BUILD = f"{TOP}/front/build"
-OWN = ["tailnetd-front", "tailnetd-front/internal/tailclient"]
+OWN = ["tailnetd-front", *(f"tailnetd-front/internal/{name}" for name in ("tailclient", "office", "clients", "bench"))]
 
 
 class Absent(Exception):
@@ -57,7 +57,7 @@ def front(_repository):
     faults = [f"{os.path.relpath(path, TOP)}: isn't as gofmt writes it" for path in unformatted if "/out/" not in path]
     # (the race detector needs a C compiler)
     race = ["-race"] if shutil.which("gcc") or shutil.which("cc") else []
-    return faults + run([*go, "go", "vet", *OWN], 120) + run([*go, "go", "test", *race, *OWN], 300)
+    return faults + run([*go, "go", "vet", *OWN], 120) + run([*go, "go", "test", "-timeout", "200s", *race, *OWN], 300)
 
 
 def front_clients(world, _repository):

@@ -52,6 +52,15 @@ func (o Operator) Key(ctx context.Context, login string) (string, error) {
 	return key.Key, err
 }
 
+// Plain is a machine's request to the server itself, which has to be answered 200.
+func (o Operator) Plain(ctx context.Context, m *Machine, path, members string) error {
+	status, b, err := o.send(ctx, "POST", path, "Ts-Machine-Key", "mkey:"+m.Key.Public().Hex(), m.body(members))
+	if err == nil && status != 200 {
+		err = fmt.Errorf("%s %s: %d %s", path, members, status, b)
+	}
+	return err
+}
+
 // Map is what the server answers a machine's plain request for its whole map.
 func (o Operator) Map(ctx context.Context, m *Machine) (string, error) {
 	status, b, err := o.send(ctx, "POST", "/machine/map", "Ts-Machine-Key", "mkey:"+m.Key.Public().Hex(), m.body(`"ReadOnly":true`))
