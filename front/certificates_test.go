@@ -16,6 +16,25 @@ import (
 	"tailnetd-front/internal/tailclient"
 )
 
+// TLS begins with 1.2.
+func TestOldTLSIsRefused(t *testing.T) {
+	pair := new(certificates)
+	pair.cert, pair.key = certificate(t)
+	if err := pair.load(); err != nil {
+		t.Fatal(err)
+	}
+	for version, taken := range map[uint16]bool{tls.VersionTLS11: false, tls.VersionTLS12: true, tls.VersionTLS13: true} {
+		a, b := net.Pipe()
+		go tls.Server(a, pair.config()).HandshakeContext(within(t, time.Second))
+		err := tls.Client(b, &tls.Config{InsecureSkipVerify: true, MinVersion: version, MaxVersion: version}).HandshakeContext(within(t, time.Second))
+		if (err == nil) != taken {
+			t.Errorf("version %x: %v", version, err)
+		}
+		a.Close()
+		b.Close()
+	}
+}
+
 // The files are read again on SIGHUP. Each row says what is in them then, and which
 // certificate a client sees; a connection that is there goes on.
 func TestCertificatesAreReadAgain(t *testing.T) {

@@ -8,6 +8,7 @@ import (
 	"net"
 	"net/http"
 	"strings"
+	"sync/atomic"
 	"syscall"
 	"testing"
 	"time"
@@ -93,6 +94,39 @@ func TestHealthWithoutServer(t *testing.T) {
 	h := r.http(t, fill(1))
 	if got := post(t, h, "/machine/map", "{}"); got.StatusCode != http.StatusBadGateway {
 		t.Error(got.Status)
+	}
+}
+
+// Each look at tailnetd takes one of its workers, so it is remembered for a second.
+func TestHealthIsRemembered(t *testing.T) {
+	l, err := net.Listen("tcp", "127.0.0.1:0")
+	if err != nil {
+		t.Fatal(err)
+	}
+	defer l.Close()
+	var looks atomic.Int32
+	go func() {
+		for {
+			c, err := l.Accept()
+			if err != nil {
+				return
+			}
+			looks.Add(1)
+			c.Close()
+		}
+	}()
+	r := rigAt(t, l.Addr().String(), nil, nil)
+	for n := 0; n < 5; n++ {
+		if got := r.raw(t, "GET /health HTTP/1.1\r\nHost: x\r\n\r\n"); !strings.HasPrefix(got, "HTTP/1.1 200 ") {
+			t.Error(got)
+		}
+	}
+	soon(t, "a look", func() bool { return looks.Load() > 0 })
+	r.server.looked = r.server.looked.Add(-2 * time.Second)
+	r.raw(t, "GET /health HTTP/1.1\r\nHost: x\r\n\r\n")
+	soon(t, "another", func() bool { return looks.Load() > 1 })
+	if got := looks.Load(); got > 2 {
+		t.Errorf("%d looks", got)
 	}
 }
 

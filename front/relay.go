@@ -80,7 +80,7 @@ func (r *relay) hand(text []byte) error {
 // MapResponse.KeepAlive).
 func takesDERPMap(text []byte) bool {
 	const longestKeepAlive = 256
-	if trimmed := bytes.TrimLeft(text, " \t\r\n"); len(trimmed) == 0 || trimmed[0] != '{' {
+	if trimmed := bytes.TrimLeft(text, blanks); len(trimmed) == 0 || trimmed[0] != '{' {
 		return false
 	}
 	if len(text) > longestKeepAlive {

@@ -74,7 +74,7 @@ func (s *served) change(ctx context.Context, number int) error {
 }
 
 // A stub answers polls as the server does: a whole map, and then a patch for each
-// change.
+// change, to one poll after the other, as their turns come in the server.
 type stub struct {
 	listener net.Listener
 	server   *http.Server
@@ -84,7 +84,14 @@ type stub struct {
 	address  string // the front's
 
 	mu    sync.Mutex
-	polls map[chan []byte]struct{}
+	polls map[*told]struct{}
+}
+
+// Told is a poll of the stub.
+type told struct {
+	context.Context
+	frames  chan []byte
+	written chan struct{}
 }
 
 func (r run) stubbed(ctx context.Context, folder string) (*stub, error) {
@@ -92,7 +99,7 @@ func (r run) stubbed(ctx context.Context, folder string) (*stub, error) {
 	if err != nil {
 		return nil, err
 	}
-	s := &stub{listener: l, first: office.Frame(wholeMap(r.clients)), polls: map[chan []byte]struct{}{}}
+	s := &stub{listener: l, first: office.Frame(wholeMap(r.clients)), polls: map[*told]struct{}{}}
 	s.server = &http.Server{Handler: s}
 	go s.server.Serve(l)
 	if s.address, err = office.FreeAddress(); err == nil {
@@ -117,43 +124,60 @@ func (s *stub) machines() []*office.Machine { return s.all }
 func (s *stub) close()                      { s.front.Kill(); s.server.Close() }
 
 func (s *stub) ServeHTTP(w http.ResponseWriter, r *http.Request) {
-	frames := make(chan []byte, 64)
+	poll := &told{Context: r.Context(), frames: make(chan []byte), written: make(chan struct{})}
+	w.Write(s.first)
+	w.(http.Flusher).Flush()
 	s.mu.Lock()
-	s.polls[frames] = struct{}{}
+	s.polls[poll] = struct{}{}
 	s.mu.Unlock()
 	defer func() {
 		s.mu.Lock()
-		delete(s.polls, frames)
+		delete(s.polls, poll)
 		s.mu.Unlock()
 	}()
-	w.Write(s.first)
-	w.(http.Flusher).Flush()
 	for {
 		select {
-		case <-r.Context().Done():
+		case <-poll.Done():
 			return
-		case frame := <-frames:
+		case frame := <-poll.frames:
 			w.Write(frame)
 			w.(http.Flusher).Flush()
+			select {
+			case <-poll.Done():
+				return
+			case poll.written <- struct{}{}:
+			}
 		}
 	}
 }
 
 func (s *stub) change(_ context.Context, number int) error {
 	frame := office.Frame([]byte(fmt.Sprintf(`{"PeersChangedPatch":[{"Endpoints":["192.0.2.1:%d"],"NodeID":%d}],"Seq":%d}`, number, number%len(s.all)+1, number+1)))
-	s.mu.Lock()
-	defer s.mu.Unlock()
-	told := 0
-	for frames := range s.polls {
+	for _, poll := range s.some(seenBy) {
 		select {
-		case frames <- frame:
-		default: // it is behind by 64 frames
+		case <-poll.Done():
+			continue
+		case poll.frames <- frame:
 		}
-		if told++; told == seenBy {
-			break
+		select {
+		case <-poll.Done():
+		case <-poll.written:
 		}
 	}
 	return nil
+}
+
+// some are polls, others each time if there are more.
+func (s *stub) some(most int) []*told {
+	s.mu.Lock()
+	defer s.mu.Unlock()
+	var polls []*told
+	for poll := range s.polls {
+		if polls = append(polls, poll); len(polls) == most {
+			break
+		}
+	}
+	return polls
 }
 
 // wholeMap is a map of as many machines, as the server writes it.
