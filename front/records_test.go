@@ -65,6 +65,7 @@ func pairOf(t *testing.T, change func(*limits)) (*Conn, *tailclient.Conn) {
 	if front == nil {
 		t.Fatal("no connection")
 	}
+	front.SetReadDeadline(time.Now().Add(10 * time.Second)) // a test may fail, and not hang
 	t.Cleanup(func() { front.Close(); client.Close() })
 	return front, client
 }
