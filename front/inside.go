@@ -25,7 +25,7 @@ func (f *front) inside(conn *Conn, opened *opened, machine machineKey, from neti
 		f.running.enter(1)
 		defer f.running.leave(1)
 		first.Do(func() { conn.SetReadDeadline(time.Time{}) }) // the handshake's
-		w, start := &reply{ResponseWriter: rw, machine: machine.Short()}, time.Now()
+		w, start := &reply{ResponseWriter: rw, machine: machine.Short(), within: f.limits.write}, time.Now()
 		defer func() { f.log.line(from, w.machine, r.Method, r.URL, w.status, time.Since(start)) }()
 		f.route(w, r, machine, from)
 	})
@@ -41,7 +41,7 @@ func (f *front) route(w *reply, r *http.Request, machine machineKey, from netip.
 		w.Header().Set("Allow", http.MethodPost)
 		w.say(http.StatusMethodNotAllowed, "POST alone")
 	case path == pathHealth:
-		w.tell(answer{http.StatusOK, "application/json", []byte("{}")}, f.limits.write)
+		w.tell(answer{http.StatusOK, "application/json", []byte("{}")})
 	case path == pathRegister && f.limits.perAddress > 0 && !f.registrations.take(networkOf(from), time.Now()):
 		w.say(http.StatusTooManyRequests, "too many registrations")
 	default:

@@ -533,6 +533,31 @@ func TestSlowStream(t *testing.T) {
 	}
 }
 
+// A window that is shut from the beginning: also a short answer is given up.
+func TestShutWindow(t *testing.T) {
+	r := newRig(t, registers, func(l *limits) { l.write = 100 * time.Millisecond })
+	c := r.connect(t, fill(1))
+	c.SetDeadline(time.Now().Add(5 * time.Second))
+	f := http2.NewFramer(c, onlyReader{c})
+	io.WriteString(c, http2.ClientPreface)
+	f.WriteSettings(http2.Setting{ID: http2.SettingInitialWindowSize, Val: 0})
+	reset := map[uint32]bool{}
+	for n, path := range []string{"/machine/set-dns", "/machine/update-health", "/machine/register", "/machine/map"} {
+		id := uint32(2*n + 1)
+		f.WriteHeaders(http2.HeadersFrameParam{StreamID: id, EndHeaders: true, BlockFragment: head("POST", path)})
+		f.WriteData(id, true, []byte("{}"))
+	}
+	for len(reset) < 4 {
+		frame, err := f.ReadFrame()
+		if err != nil {
+			t.Fatalf("%v, with %v reset", err, reset)
+		}
+		if x, ok := frame.(*http2.RSTStreamFrame); ok && x.ErrCode == http2.ErrCodeInternal {
+			reset[x.StreamID] = true
+		}
+	}
+}
+
 // A client that doesn't read its connection at all.
 func TestSlowConnection(t *testing.T) {
 	big := strings.Repeat("x", 16<<20)

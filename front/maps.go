@@ -9,7 +9,7 @@ import (
 // serveMap hands on a map request and the frames that answer it. A poll stays for as
 // long as its client, tailnetd and the front do; all others have a time.
 func (f *front) serveMap(ctx context.Context, w *reply, machine machineKey, asked request) {
-	relay := relay{send: func(frame []byte) error { return w.send(frame, f.limits.write) }}
+	relay := relay{send: w.send}
 	if asked.zstd {
 		relay.encoder = f.encoder
 	}
@@ -54,5 +54,5 @@ func (f *front) refused(w *reply, got *http.Response) {
 		w.fail(err)
 		return
 	}
-	w.tell(a, f.limits.write)
+	w.tell(a)
 }

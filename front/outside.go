@@ -65,6 +65,5 @@ func (f *front) serveKey(w *reply, v string) {
 		w.say(http.StatusInternalServerError, "no key")
 		return
 	}
-	w.Header().Set("Content-Type", "application/json")
-	w.Write(body)
+	w.tell(answer{http.StatusOK, "application/json", body})
 }

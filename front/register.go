@@ -18,7 +18,7 @@ func (f *front) register(ctx context.Context, w *reply, machine machineKey, aske
 			return
 		}
 		if !a.waitsAt(asked.followup) || time.Now().Add(f.limits.again).After(end) {
-			w.tell(a, f.limits.write)
+			w.tell(a)
 			return
 		}
 		if wait(ctx, f.limits.again) != nil {

@@ -3,7 +3,6 @@ package main
 import (
 	"errors"
 	"fmt"
-	"io"
 	"net"
 	"net/http"
 	"time"
@@ -17,7 +16,8 @@ const pieceLen = 64 << 10
 type reply struct {
 	http.ResponseWriter
 	status  int
-	machine string // - as long as none is proved
+	machine string        // - as long as none is proved
+	within  time.Duration // of one write; 0 where the connection has a time of its own
 }
 
 func (r *reply) WriteHeader(status int) {
@@ -37,20 +37,21 @@ func (r *reply) Write(b []byte) (int, error) {
 // send writes and flushes, and resets the stream if the client's window stays shut
 // for too long (RFC 9113, section 5.2). Each piece has its own time, so that a long
 // frame isn't too long for a slow line.
-func (r *reply) send(b []byte, within time.Duration) error {
-	defer r.deadline(time.Time{})
+func (r *reply) send(b []byte) error {
+	watch := r.watch()
+	defer watch.stop()
 	for len(b) > 0 {
 		piece := b
 		if len(piece) > pieceLen {
 			piece = piece[:pieceLen]
 		}
-		r.deadline(time.Now().Add(within))
+		watch.again()
 		if _, err := r.Write(piece); err != nil {
 			return fmt.Errorf("write: %w", err)
 		}
 		b = b[len(piece):]
 	}
-	r.deadline(time.Now().Add(within))
+	watch.again()
 	return r.flush()
 }
 
@@ -63,26 +64,22 @@ func (r *reply) flush() error {
 	return nil
 }
 
-func (r *reply) deadline(t time.Time) {
-	if d, ok := r.ResponseWriter.(interface{ SetWriteDeadline(time.Time) error }); ok {
-		d.SetWriteDeadline(t)
-	}
-}
-
 // say answers with a line of text.
 func (r *reply) say(status int, text string) {
-	r.Header().Set("Content-Type", "text/plain; charset=utf-8")
-	r.WriteHeader(status)
-	io.WriteString(r, text+"\n")
+	r.tell(answer{status, "text/plain; charset=utf-8", []byte(text + "\n")})
 }
 
-// tell hands an answer to a client of HTTP/2.
-func (r *reply) tell(a answer, within time.Duration) {
+// tell answers with a whole body.
+func (r *reply) tell(a answer) {
 	if a.kind != "" {
 		r.Header().Set("Content-Type", a.kind)
 	}
 	r.WriteHeader(a.status)
-	r.send(a.body, within)
+	if r.within == 0 {
+		r.Write(a.body)
+		return
+	}
+	r.send(a.body)
 }
 
 // fail answers for a tailnetd that doesn't, or not in time.
