@@ -243,7 +243,7 @@ func TestKeepAlive(t *testing.T) {
 				t.Errorf("%s, not %s", got, want)
 			}
 		}
-		if took := time.Since(start); took < 90*time.Millisecond || took > time.Second {
+		if took := time.Since(start); took < 90*time.Millisecond || took > 3*time.Second {
 			t.Errorf("three keep-alives in %v", took)
 		}
 	}
@@ -390,7 +390,7 @@ func TestPollsLimit(t *testing.T) {
 		next(t, polls[n].Body, false)
 	}
 	start := time.Now()
-	if got := post(t, h, "/machine/map", `{"Stream":true}`); got.StatusCode != 503 || time.Since(start) > time.Second {
+	if got := post(t, h, "/machine/map", `{"Stream":true}`); got.StatusCode != 503 || time.Since(start) > 3*time.Second {
 		t.Error(got.Status, time.Since(start))
 	}
 	one := post(t, h, "/machine/map", `{}`) // the rest goes on
@@ -431,7 +431,7 @@ func TestServerThatDoesNotAnswer(t *testing.T) {
 	h := r.http(t, fill(1))
 	for path, body := range map[string]string{"/machine/map": `{"Stream":true}`, "/machine/register": `{}`} {
 		start := time.Now()
-		if got := post(t, h, path, body); got.StatusCode != 504 || time.Since(start) > time.Second {
+		if got := post(t, h, path, body); got.StatusCode != 504 || time.Since(start) > 3*time.Second {
 			t.Errorf("%s: %s after %v", path, got.Status, time.Since(start))
 		}
 	}

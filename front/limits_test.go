@@ -235,7 +235,7 @@ func TestOutsideLimitOverTLS(t *testing.T) {
 		t.Fatal(err)
 	}
 	defer c.Close()
-	c.SetReadDeadline(time.Now().Add(time.Second))
+	c.SetReadDeadline(time.Now().Add(3 * time.Second))
 	if got, err := io.ReadAll(c); len(got) != 0 || err != nil {
 		t.Errorf("%q, %v", got, err)
 	}

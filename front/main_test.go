@@ -204,7 +204,7 @@ func TestProgramEnds(t *testing.T) {
 		if err != nil {
 			t.Error(err)
 		}
-	case <-time.After(time.Second):
+	case <-time.After(3 * time.Second):
 		t.Error("it doesn't end")
 	}
 }

@@ -232,6 +232,36 @@ func (o *opened) endsInOrder() {
 	}
 }
 
+// Bodies up to 1 MiB are answered through the front as they are without it, whether the
+// server reads them or not, and a longer one doesn't get there.
+func TestLongBodies(t *testing.T) {
+	o := open(t)
+	o.makeUsers()
+	m := o.add()
+	node := `{"NodeKey":"nodekey:` + m.Node.Public().Hex() + `"`
+	for _, row := range []struct{ path, begin, end string }{
+		{"/machine/map", node + `,"ReadOnly":true,"Unknown":"`, `"}`},
+		{"/machine/map", node + `,"Stream":"`, `"}`},
+		{"/machine/map", `[`, ``},
+		{"/machine/register", `{"NodeKey":"nodekey:00","Unknown":"`, `"}`},
+		{"/machine/register", node, `}}`},
+	} {
+		const most = 1 << 20
+		m.Cut() // of one connection the front reads 16 MiB in a minute
+		body := row.begin + strings.Repeat("x", most-len(row.begin)-len(row.end)) + row.end
+		for n := 0; n < 5; n++ {
+			status, text, err := m.Send(o.ctx, row.path, body)
+			wantStatus, want, wantErr := o.Send(o.ctx, m, row.path, body)
+			if err != nil || wantErr != nil || status != wantStatus || text != want {
+				t.Errorf("%s %.80s: %d %.200q %v, and without a front %d %.200q %v", row.path, row.begin, status, text, err, wantStatus, want, wantErr)
+			}
+		}
+		if status, text, err := m.Send(o.ctx, row.path, body+" "); err != nil || status != http.StatusRequestEntityTooLarge {
+			t.Errorf("a byte more: %d %.200q %v", status, text, err)
+		}
+	}
+}
+
 // A machine whose client has gone is offline once the server notices it, which is at its
 // next writes to the connection that the front has closed.
 func TestOfflineWhenGone(t *testing.T) {

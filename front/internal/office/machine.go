@@ -71,11 +71,16 @@ func (m *Machine) connect(ctx context.Context) (*http2.ClientConn, error) {
 
 // Ask is a request that ends, and its answer.
 func (m *Machine) Ask(ctx context.Context, path, members string) (int, string, error) {
+	return m.Send(ctx, path, m.body(members))
+}
+
+// Send is a request with a body as it is.
+func (m *Machine) Send(ctx context.Context, path, body string) (int, string, error) {
 	h, err := m.connect(ctx)
 	if err != nil {
 		return 0, "", err
 	}
-	a, err := tailclient.Post(ctx, h, path, m.body(members))
+	a, err := tailclient.Post(ctx, h, path, body)
 	if err != nil {
 		return 0, "", err
 	}

@@ -61,6 +61,12 @@ func (o Operator) Plain(ctx context.Context, m *Machine, path, members string) e
 	return err
 }
 
+// Send is a machine's request to the server itself, with a body as it is.
+func (o Operator) Send(ctx context.Context, m *Machine, path, body string) (int, string, error) {
+	status, b, err := o.send(ctx, "POST", path, "Ts-Machine-Key", "mkey:"+m.Key.Public().Hex(), body)
+	return status, string(b), err
+}
+
 // Map is what the server answers a machine's plain request for its whole map.
 func (o Operator) Map(ctx context.Context, m *Machine) (string, error) {
 	status, b, err := o.send(ctx, "POST", "/machine/map", "Ts-Machine-Key", "mkey:"+m.Key.Public().Hex(), m.body(`"ReadOnly":true`))
