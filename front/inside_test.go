@@ -533,6 +533,30 @@ func TestSlowStream(t *testing.T) {
 	}
 }
 
+// Of a client that takes nothing one frame is held, beside what the system's buffers
+// hold, and tailnetd waits.
+func TestOneFrameIsHeld(t *testing.T) {
+	var wrote atomic.Int32
+	frame := frameOf(strings.Repeat("x", 1<<20))
+	r := newRig(t, http.HandlerFunc(func(w http.ResponseWriter, r *http.Request) {
+		io.Copy(io.Discard, r.Body)
+		for n := 0; n < 200; n++ {
+			if _, err := w.Write(frame); err != nil {
+				return
+			}
+			wrote.Add(1)
+		}
+	}), nil)
+	poll := post(t, r.http(t, fill(1)), "/machine/map", `{"Stream":true}`)
+	for was := int32(-1); wrote.Load() != was; time.Sleep(300 * time.Millisecond) {
+		was = wrote.Load()
+	}
+	if got := wrote.Load(); got > 60 {
+		t.Errorf("%d MiB were taken of tailnetd", got)
+	}
+	poll.Body.Close()
+}
+
 // A window that is shut from the beginning: also a short answer is given up.
 func TestShutWindow(t *testing.T) {
 	r := newRig(t, registers, func(l *limits) { l.write = 100 * time.Millisecond })
