@@ -32,11 +32,12 @@ func (o *open) remove(c *Conn) {
 }
 
 // close closes all, and gives a channel that is closed when none is served any more.
+// Each is closed by itself, since TLS waits for a far end that doesn't read.
 func (o *open) close() <-chan struct{} {
 	o.mu.Lock()
 	defer o.mu.Unlock()
 	for c := range o.conns {
-		c.Close()
+		go c.Close()
 	}
 	o.conns = nil
 	ended := make(chan struct{})
