@@ -8,7 +8,7 @@ FENCE = re.compile(r"^```.*?^```[^\S\n]*$", re.DOTALL | re.MULTILINE)
 CODE = re.compile(r"`([^`\n]+)`")
 # a name that stands for any: `CRATE::FUNCTION`, `crates/NAME/specs`
 PLACEHOLDER = re.compile(r"[A-Z][A-Z_]+\b(?!\.md)")
-FOLDERS = ("crates", "docs", "examples", "model", "bench", ".ci")
+FOLDERS = ("crates", "docs", "examples", "model", "bench", "front", ".ci")
 OUTSIDE = ("std", "core")
 # words of ours that strangers don't know, and paths that they don't have
 WORDS = [

@@ -14,6 +14,7 @@ sys.dont_write_bytecode = True
 
 import deployed
 import documents
+import fronts
 import sources
 import transcripts
 from repository import Repository
@@ -63,6 +64,7 @@ READING = {
     "wrong-bodies": sources.wrong_bodies,
     **LISTS,
 }
+BUILDING = {"front": fronts.front}
 RUNNING = {
     "ends": ends,
     "transcripts": transcripts.transcripts,
@@ -71,14 +73,19 @@ RUNNING = {
     "certificates": deployed.certificates,
     "release": deployed.release,
     "ctl": ctl,
+    "front-clients": fronts.front_clients,
     "model": model,
 }
 
 
 def checked(name, check, *arguments):
-    """Runs a check, prints its faults, and returns whether there is one."""
+    """Runs a check, prints its faults, and returns whether there is one. What can't run on this machine isn't one."""
     begun = time.monotonic()
-    faults = check(*arguments)
+    try:
+        faults = check(*arguments)
+    except fronts.Absent as absent:
+        print(f"{name}: not run: {absent}", flush=True)
+        return False
     seconds = time.monotonic() - begun
     print(f"{name}: {'ok' if not faults else f'{len(faults)} faults'} ({seconds:.1f} s)", flush=True)
     for fault in faults:
@@ -88,7 +95,8 @@ def checked(name, check, *arguments):
 
 def run_checks(names):
     repository = Repository(TOP)
-    failed = [name for name in names if name in READING and checked(name, READING[name], repository)]
+    alone = {**READING, **BUILDING}
+    failed = [name for name in names if name in alone and checked(name, alone[name], repository)]
     running = [name for name in names if name in RUNNING]
     if not running:
         return failed
@@ -115,7 +123,7 @@ def shorten():
 def main(words):
     if words == ["--shorten"]:
         return shorten()
-    known = {**READING, **RUNNING}
+    known = {**READING, **BUILDING, **RUNNING}
     unknown = [word for word in words if word not in known]
     if unknown:
         print(f"light: no check is called {' '.join(unknown)}; there are {' '.join(known)}", file=sys.stderr)

@@ -1,0 +1,152 @@
+package main
+
+import (
+	"bytes"
+	"context"
+	"fmt"
+	"io"
+	"net/http"
+	"strconv"
+	"strings"
+	"sync"
+	"time"
+
+	"tailnetd-front/internal/office"
+	"tailnetd-front/internal/tailclient"
+)
+
+// marker stands before the number of a change in each frame that tells of it.
+const marker = `"192.0.2.1:`
+
+// Polls are those of one leg.
+type polls struct {
+	subject subject
+	count   int
+	front   bool
+	failed  chan error
+	stop    context.CancelFunc
+
+	mu     sync.Mutex
+	began  map[int]time.Time
+	took   []time.Duration
+	closed bool
+	ended  sync.WaitGroup
+}
+
+func newPolls(s subject, count int, front bool) *polls {
+	return &polls{subject: s, count: count, front: front, failed: make(chan error, count), began: map[int]time.Time{}}
+}
+
+// up begins all polls, some at a time, and waits for the first frame of each.
+func (p *polls) up(ctx context.Context) error {
+	ctx, p.stop = context.WithCancel(ctx)
+	at, first := make(chan struct{}, 16), make(chan struct{}, p.count)
+	for _, m := range p.subject.machines()[:p.count] {
+		p.ended.Add(1)
+		go func(m *office.Machine) {
+			defer p.ended.Done()
+			at <- struct{}{}
+			var once sync.Once
+			err := p.poll(ctx, m, func() { once.Do(func() { <-at; first <- struct{}{} }) })
+			if !p.isClosed() {
+				p.failed <- fmt.Errorf("a poll ended: %v", err)
+			}
+		}(m)
+	}
+	late := time.After(2 * time.Minute)
+	for n := 0; n < p.count; n++ {
+		select {
+		case <-first:
+		case err := <-p.failed:
+			return err
+		case <-late:
+			return fmt.Errorf("%d polls are up after 2 minutes", n)
+		}
+	}
+	return nil
+}
+
+func (p *polls) poll(ctx context.Context, m *office.Machine, came func()) error {
+	members := `"NodeKey":"nodekey:` + m.Node.Public().Hex() + `","Stream":true`
+	var answer *http.Response
+	if p.front {
+		c, err := p.subject.dialer().Connect(ctx, m.Key)
+		if err != nil {
+			return err
+		}
+		defer c.Close()
+		h, err := c.HTTP()
+		if err != nil {
+			return err
+		}
+		if answer, err = tailclient.Post(ctx, h, "/machine/map", `{`+members+`,"Compress":"zstd"}`); err != nil {
+			return err
+		}
+	} else {
+		r, err := http.NewRequestWithContext(ctx, "POST", "http://"+p.subject.plain()+"/machine/map", strings.NewReader(`{`+members+`}`))
+		if err != nil {
+			return err
+		}
+		r.Header.Set("Ts-Machine-Key", "mkey:"+m.Key.Public().Hex())
+		if answer, err = (&http.Transport{DisableKeepAlives: true, DisableCompression: true}).RoundTrip(r); err != nil {
+			return err
+		}
+	}
+	defer answer.Body.Close()
+	if answer.StatusCode != http.StatusOK {
+		b, _ := io.ReadAll(answer.Body)
+		return fmt.Errorf("%s %s", answer.Status, b)
+	}
+	return office.ReadFrames(answer.Body, p.front, func(frame []byte) error {
+		p.came(frame, time.Now())
+		came()
+		return nil
+	})
+}
+
+// came notes how long a frame took that tells of a change.
+func (p *polls) came(frame []byte, now time.Time) {
+	at := bytes.Index(frame, []byte(marker))
+	if at < 0 || len(frame) > 4096 { // a whole map tells of all
+		return
+	}
+	digits := frame[at+len(marker):]
+	number, err := strconv.Atoi(string(digits[:bytes.IndexByte(digits, '"')]))
+	if err != nil {
+		return
+	}
+	p.mu.Lock()
+	defer p.mu.Unlock()
+	if began, ok := p.began[number]; ok {
+		p.took = append(p.took, now.Sub(began))
+	}
+}
+
+func (p *polls) sent(number int) {
+	p.mu.Lock()
+	defer p.mu.Unlock()
+	p.began[number] = time.Now()
+}
+
+func (p *polls) times() []time.Duration {
+	p.mu.Lock()
+	defer p.mu.Unlock()
+	return append([]time.Duration(nil), p.took...)
+}
+
+func (p *polls) isClosed() bool {
+	p.mu.Lock()
+	defer p.mu.Unlock()
+	return p.closed
+}
+
+// close ends all polls, and waits for it.
+func (p *polls) close() {
+	p.mu.Lock()
+	p.closed = true
+	p.mu.Unlock()
+	if p.stop != nil {
+		p.stop()
+		p.ended.Wait()
+	}
+}

@@ -1,0 +1,215 @@
+package office
+
+import (
+	"context"
+	"encoding/binary"
+	"errors"
+	"fmt"
+	"io"
+	"net"
+	"net/http"
+	"sync"
+	"time"
+
+	"github.com/klauspost/compress/zstd"
+	"golang.org/x/net/http2"
+	"tailnetd-front/internal/tailclient"
+)
+
+// A Machine is a client of the front, which follows its poll and comes back when that
+// or its connection ends.
+type Machine struct {
+	Key, Node tailclient.Key
+	Compress  bool
+	Took      func(frame []byte) // is told of each frame, if it is there
+	Dialer    tailclient.Dialer
+
+	mu      sync.Mutex
+	conn    *tailclient.Conn
+	http    *http2.ClientConn
+	poll    io.Closer
+	view    tailclient.View
+	polls   int
+	refused string // what a poll was answered in place of frames, at last
+	fault   error  // of a frame that can't be folded
+}
+
+// NewMachine is a machine with new keys.
+func NewMachine(d tailclient.Dialer) *Machine {
+	return &Machine{Key: tailclient.NewKey(), Node: tailclient.NewKey(), Dialer: d}
+}
+
+func (m *Machine) body(members string) string {
+	if members != "" {
+		members = "," + members
+	}
+	return fmt.Sprintf(`{"NodeKey":"nodekey:%s","Version":113%s}`, m.Node.Public().Hex(), members)
+}
+
+// connect gives the connection that there is, or a new one.
+func (m *Machine) connect(ctx context.Context) (*http2.ClientConn, error) {
+	m.mu.Lock()
+	defer m.mu.Unlock()
+	if m.http != nil && m.http.CanTakeNewRequest() {
+		return m.http, nil
+	}
+	if m.conn != nil {
+		m.conn.Close()
+	}
+	c, err := m.Dialer.Connect(ctx, m.Key)
+	if err != nil {
+		return nil, err
+	}
+	h, err := c.HTTP()
+	if err != nil {
+		c.Close()
+		return nil, err
+	}
+	m.conn, m.http = c, h
+	return h, nil
+}
+
+// Ask is a request that ends, and its answer.
+func (m *Machine) Ask(ctx context.Context, path, members string) (int, string, error) {
+	return m.Send(ctx, path, m.body(members))
+}
+
+// Send is a request with a body as it is.
+func (m *Machine) Send(ctx context.Context, path, body string) (int, string, error) {
+	h, err := m.connect(ctx)
+	if err != nil {
+		return 0, "", err
+	}
+	a, err := tailclient.Post(ctx, h, path, body)
+	if err != nil {
+		return 0, "", err
+	}
+	defer a.Body.Close()
+	b, err := io.ReadAll(a.Body)
+	return a.StatusCode, string(b), err
+}
+
+// Cut ends its connection without a word, as one whose cable was pulled and whose
+// system told the other end.
+func (m *Machine) Cut() {
+	m.mu.Lock()
+	defer m.mu.Unlock()
+	if m.conn != nil {
+		if tcp, ok := m.conn.Conn.(*net.TCPConn); ok {
+			tcp.SetLinger(0)
+		}
+		m.conn.Close()
+	}
+}
+
+// Follow polls until ctx ends or a poll is refused by the server, and comes back
+// whenever the poll or the connection ends.
+func (m *Machine) Follow(ctx context.Context) {
+	defer m.Cut()
+	for ctx.Err() == nil && !m.isRefused() {
+		if m.followOnce(ctx) != nil || ctx.Err() == nil {
+			select {
+			case <-ctx.Done():
+			case <-time.After(50 * time.Millisecond):
+			}
+		}
+	}
+}
+
+func (m *Machine) isRefused() bool {
+	m.mu.Lock()
+	defer m.mu.Unlock()
+	return m.refused != ""
+}
+
+func (m *Machine) followOnce(ctx context.Context) error {
+	h, err := m.connect(ctx)
+	if err != nil {
+		return err
+	}
+	members := `"Stream":true,"KeepAlive":true`
+	if m.Compress {
+		members += `,"Compress":"zstd"`
+	}
+	ctx, cancel := context.WithCancel(ctx)
+	defer cancel()
+	a, err := tailclient.Post(ctx, h, "/machine/map", m.body(members))
+	if err != nil {
+		return err
+	}
+	defer a.Body.Close()
+	if a.StatusCode != http.StatusOK {
+		b, err := io.ReadAll(a.Body)
+		if a.StatusCode == http.StatusUnauthorized && err == nil {
+			m.mu.Lock()
+			m.refused = string(b)
+			m.mu.Unlock()
+		}
+		return fmt.Errorf("poll: %s %s", a.Status, b)
+	}
+	m.mu.Lock()
+	m.polls++
+	m.poll = a.Body
+	m.mu.Unlock()
+	return ReadFrames(a.Body, m.Compress, m.take)
+}
+
+func (m *Machine) take(frame []byte) error {
+	m.mu.Lock()
+	defer m.mu.Unlock()
+	if err := m.view.Fold(frame); err != nil {
+		m.fault = fmt.Errorf("%w in %.300s", err, frame)
+		return m.fault
+	}
+	if m.Took != nil {
+		m.Took(frame)
+	}
+	return nil
+}
+
+// ReadFrames gives each frame of a poll to take, until they end, which is no error.
+func ReadFrames(from io.Reader, compressed bool, take func(frame []byte) error) error {
+	decoder, err := zstd.NewReader(nil, zstd.WithDecoderConcurrency(1), zstd.WithDecoderLowmem(true), zstd.WithDecoderMaxWindow(8<<20))
+	if err != nil {
+		return err
+	}
+	defer decoder.Close()
+	for {
+		var length [4]byte
+		if _, err := io.ReadFull(from, length[:]); errors.Is(err, io.EOF) {
+			return nil
+		} else if err != nil {
+			return err
+		}
+		frame := make([]byte, binary.LittleEndian.Uint32(length[:]))
+		if _, err := io.ReadFull(from, frame); err != nil {
+			return err
+		}
+		if compressed {
+			if frame, err = decoder.DecodeAll(frame, nil); err != nil {
+				return err
+			}
+		}
+		if err := take(frame); err != nil {
+			return err
+		}
+	}
+}
+
+// State is what a machine has by now.
+type State struct {
+	Map, DERPMap, Refused string
+	Polls, Frames         int
+	Fault                 error
+}
+
+// State gives it.
+func (m *Machine) State() State {
+	m.mu.Lock()
+	defer m.mu.Unlock()
+	s := State{DERPMap: string(m.view.DERPMap), Refused: m.refused, Polls: m.polls, Frames: m.view.Frames, Fault: m.fault}
+	if s.Frames > 0 {
+		s.Map = m.view.String()
+	}
+	return s
+}
