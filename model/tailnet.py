@@ -10,7 +10,7 @@ from sessions import NUMBER_LIMIT, Session
 from texts import LAST_MOMENT, ZERO_KEY, clamped, is_label, label_of_host, login_of, numbered
 
 COUNTER_LIMIT = 2147483647
-LIMITS = {"User": 256, "Key": 1024, "Pending": 256, "Machine": 512}
+LIMITS = {"User": 256, "Key": 1024, "Pending": 256, "Machine": 1024}
 RESERVED_V4 = [ipaddress.ip_network("100.100.100.100/32"), ipaddress.ip_network("100.115.92.0/23")]
 RESERVED_V6 = [ipaddress.ip_network("fd7a:115c:a1e0::53/128")]
 

@@ -45,9 +45,10 @@ fn is_judged(alloc: Global, text: &[u8], verdict: &[u8]) -> Result<bool, NoMemor
 }
 
 /// Policies without tests, and what is written of each.
-const JUDGED: [(&[u8], &[u8]); 4] = [
+const JUDGED: [(&[u8], &[u8]); 5] = [
     (b"{/* none */ \"acls\": [],} // end", b"ok\n"),
     (b"{\"acls\":[],\"ACLs\":[]}", b"P3 acls\n"),
+    (b"{\"x\\nok\":1}", b"P3 x\\nok\n"),
     (
         b"{\"groups\":{\"group:a\":[\"b\"]}}",
         b"P6 groups.group:a[0]\n",
