@@ -116,11 +116,17 @@ def shell_faults(world, page, number, block):
     return [f"{page}:{number}: the block ends with {status}: {text[-300:]}"] if status != 0 else []
 
 
+def tools_of(block):
+    """The tools of a block that aren't on every machine."""
+    needed = {"openssl ": "openssl", "curl ": "curl", "examples/first-minutes": "curl"}
+    return sorted({tool for text, tool in needed.items() if any(text in line for _, line in block)})
+
+
 def shell_blocks(world, repository):
     """Each block of README and OPERATING that is marked `sh run` runs."""
     faults = []
     for page in PAGES:
         for word, block in blocks_of(repository.read(page)):
-            if word == "sh run" and not is_missing("shell", *[tool for tool in ("openssl", "curl") if any(tool in line for _, line in block)]):
+            if word == "sh run" and not is_missing("shell", *tools_of(block)):
                 faults += shell_faults(world, page, block[0][0], block)
     return faults

@@ -9,6 +9,7 @@ import subprocess
 import sys
 import tempfile
 import time
+from concurrent.futures import ThreadPoolExecutor
 
 sys.dont_write_bytecode = True
 
@@ -49,8 +50,11 @@ def model(world, repository):
 
 
 def ctl(world, repository):
-    """tailnetctl against the program, over loopback."""
-    return command_faults([sys.executable, "-B", "-m", "unittest", "discover", "-q", "-s", "ctl/tests", "-t", "ctl"], 300)
+    """tailnetctl against the program, over loopback; the largest file of tests beside the others."""
+    line = [sys.executable, "-B", "-m", "unittest", "discover", "-q", "-s", "ctl/tests", "-t", "ctl", "-p"]
+    with ThreadPoolExecutor() as pool:
+        runs = pool.map(lambda pattern: command_faults([*line, pattern], 300), ("test_can.py", "test_[!c]*.py"))
+        return [fault for faults in runs for fault in faults]
 
 
 READING = {

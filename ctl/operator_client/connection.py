@@ -71,9 +71,11 @@ def trouble_of(fault, address):
         return Trouble(f"{address} doesn't answer within {SECONDS} seconds", advice, Status.SERVER)
     if isinstance(fault, socket.gaierror):
         return Trouble(f"no address is known for {address.host}", "Look at the name behind --server", Status.SERVER)
+    if isinstance(fault, ssl.SSLCertVerificationError):
+        advice = "Look at the name and its certificate; SSL_CERT_FILE names an authority of your own"
+        return Trouble(f"the certificate of {address} isn't trusted: {plain(fault.verify_message)}", advice, Status.SERVER)
     if isinstance(fault, ssl.SSLError):
-        why = plain(getattr(fault, "verify_message", "") or fault.reason or "TLS failed")
-        return Trouble(f"{address} isn't trusted: {why}", "Look at the name and its certificate; SSL_CERT_FILE names an authority of your own", Status.SERVER)
+        return Trouble(f"{address} doesn't speak TLS", "The server itself doesn't, a front does: leave https:// out, or name the front", Status.SERVER)
     if isinstance(fault, http.client.HTTPException):
         advice = "Another program may have taken the port: look who listens there, or name another server by --server"
         return Trouble(f"what answers at {address} isn't tailnetd: its answer is no HTTP, or breaks off", advice, Status.SERVER)

@@ -1,23 +1,28 @@
 """What the running server says when it is asked, against the model, and that asking changes nothing."""
 
+import contextlib
 import ipaddress
 import json
 import random
 import unittest
 
 from .tailnet import Server, TailnetTest, ran
-from granting import NoPolicy, ends_of, granted
+from granting import ends_of, first_failure, granted
 from policies import PolicyFault, Reader, read_policy
 from tailnet import Tailnet
 from talks import Talk
-from operator_client import hujson, untakable
+from operator_client import hujson, questions, untakable
+from operator_client.connection import Answer
+from operator_client.trouble import Trouble
 
 QUESTIONS = 500
 POLICIES = 300
+MUTATIONS = 2000
 SOURCES = ["ann@", "bob@example.org", "seed@", "eve@", "group:dev", "group:none", "tag:web", "tag:Db-1", "100.64.0.1", "100.64.0.2", "fd7a:115c:a1e0::2", "machine-5", "seed", "one", "10.10.0.1"]
 DESTS = [*SOURCES, "[fd7a:115c:a1e0::3]", "8.8.8.8"]
 PORTS = [22, 80, 85, 443, 0, 65535]
 PROTOCOLS = [None, None, "tcp", "udp", "icmp", "58", "132"]
+PIECES = [b'"', b"{", b"}", b"[", b"]", b",", b":", b"//", b"/*", b"*/", b"\n", b"\\", b"\x00", b"\xff", b'"tests":[]', b'"tests":', b'"Tests":[],', b"tests", b" "]
 # The machine that is meant by its name, and the user whose @ is left out.
 CALLED = {"machine-5": "100.64.0.5", "seed": "seed@"}
 
@@ -162,8 +167,52 @@ def model_faults(text, machines):
         return [(fault.answer["code"], fault.answer["place"])]
 
 
+class Recorder:
+    """A server that refuses each text, and keeps it."""
+
+    def __init__(self):
+        self.texts = []
+
+    def answer(self, method, path, body):
+        self.texts.append(body)
+        return Answer(422, b'{"code":"P1","place":"json"}')
+
+    def object_of(self, answer):
+        return json.loads(answer.body)
+
+
+def mutated(draw, text):
+    """A text with some pieces of it taken out, put in or doubled."""
+    for _ in range(draw.randrange(4)):
+        at, piece = draw.randrange(len(text) + 1), draw.choice(PIECES)
+        end = at + draw.randrange(3)
+        text = draw.choice([text[:at] + piece + text[at:], text[:at] + text[end:], text[:at] + text[at:end] * 2 + text[end:]])
+    return text
+
+
+def is_kept(text):
+    """Whether a server with any machines could keep a text, by the model: no test of it fails already over none."""
+    try:
+        return first_failure(read_policy(text), []) is None
+    except PolicyFault:
+        return False
+
+
 class Untakable(unittest.TestCase):
     """Texts with the impossible test behind their own."""
+
+    def test_nothing_that_is_sent_is_ever_kept(self):
+        draw, recorder, kept = random.Random(11), Recorder(), 0
+        bases = [text.encode() for text in random_policies(20)] + [b"{}", b"{ }", b'{"tests":[]}', b'{"Tests":[{"src":"ann@"},],}', b'{"tests":null}// x', b"[]", b"", b"\xef\xbb\xbf{}"]
+        for _ in range(MUTATIONS):
+            text = mutated(draw, draw.choice(bases))
+            kept += is_kept(text)
+            with contextlib.suppress(Trouble):
+                questions.first_fault(recorder, text)
+        self.assertEqual([text for text in recorder.texts if is_kept(text)], [])
+        self.assertEqual(len(recorder.texts), MUTATIONS)
+        # (many of them would have been, as they came)
+        self.assertGreater(kept, MUTATIONS // 8)
 
     def test_commas_and_comments(self):
         impossible = untakable.IMPOSSIBLE.decode()

@@ -4,7 +4,6 @@ import json
 import re
 
 from .tailnet import MACHINES, TailnetTest
-from operator_client.shown import table
 from operator_client.times import shown
 from operator_client.watching import Told
 
@@ -164,9 +163,3 @@ class Changes(TailnetTest):
         self.assertTrue(got.output.startswith("this machine is machine-3.tail.example. (100.64.0."), got.output)
         other = self.server.file("other.keys", f"mkey:{999:064x}\nnodekey:{3:064x}\n")
         self.assertEqual(self.ran("watch", other).status, 5)
-
-
-class Widths(TailnetTest):
-    def test_wide_characters(self):
-        lines = table(("A", "B"), [("日本", "x"), ("ab", "y")])
-        self.assertEqual(lines, ["A     B", "日本  x", "ab    y"])

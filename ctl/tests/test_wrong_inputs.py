@@ -45,6 +45,11 @@ class WrongWords(TailnetTest):
             "nodes", "--token-file", path,
         )
 
+    def test_tls_where_there_is_none(self):
+        got = self.ran("nodes", "--server", f"https://{self.server.address}")
+        self.assertEqual(got.status, 4)
+        self.assertTrue(got.errors.startswith(f"tailnetctl: https://{self.server.address} doesn't speak TLS. "), got.errors)
+
     def test_undefined_tag(self):
         self.refused(
             5, "tailnetctl: the policy in force defines no tag:db, tag:x. Add the tag to tagOwners: `tailnetctl policy edit`.",
