@@ -1,7 +1,8 @@
 // The gate doesn't build by this file, as it has no network: `front/build` takes the packages
 // of Debian 12, which are of these versions. They are the newest that the front is known to
 // work with. Who can fetch newer ones of x/net (from 0.23.0 on it has cures of its own for
-// rapid resets and floods of CONTINUATION) and a newer Go does better.
+// rapid resets and floods of CONTINUATION) and a newer Go does better: `go mod tidy` writes the
+// sums of what it finds.
 module tailnetd-front
 
 go 1.19
