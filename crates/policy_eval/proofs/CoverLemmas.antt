@@ -5,7 +5,7 @@ use Rattle.std.specs.List.{list_any}
 use Rattle.std.specs.Option.{option_map, option_map_or}
 use Rattle.std.proofs.Math.Bool.{or-false}
 use Rattle.std.proofs.lemmas.Bool.{cases_lt}
-use Rattle.std.proofs.lemmas.Option.{get_or_from_slice_get, slice_get-get_or, slice_get-map, slice_get_within}
+use Rattle.std.proofs.lemmas.Option.{get_or_from_slice_get, slice_get-map, slice_get_within}
 use Rattle.net_addr.specs.Bits.{Address, Block, family_size}
 use Rattle.net_rows.proofs.Members.{cut_last}
 use Rattle.range_sets.specs.Sets.{Ranges, has, some_holds}
@@ -163,10 +163,9 @@ sources_kept x y sources asked places same grown h =
     subst (λ (ss : List Selector). AreMatched (IsCoverAt y.groups y.sites y.list) ss places) same (places_kept (λ (s : Selector). s) x y asked places grown h)
 
 -- the selector's own stands where it was found
-pub found_at : (x : Covering) (items : List Cover) (place : ℕ) (cover : Cover) (selector : Selector) → IsCovering x → items ≡ x.list → place < length items → cover ≡ get_or items place cover
+pub found_at : (x : Covering) (items : List Cover) (place : ℕ) (cover : Cover) (selector : Selector) → IsCovering x → items ≡ x.list → slice_get items place ≡ Some cover
     → cover.selector ≡ selector → IsCoverAt x.groups x.sites x.list selector place
-found_at x items place cover selector sound same inside is own =
-    let there : slice_get items place ≡ Some cover = slice_get-get_or items place cover inside ∙ ap (λ (c : Cover). Some c) (sym is) in
+found_at x items place cover selector sound same there own =
     let here : slice_get x.list place ≡ Some cover = ap (λ (cs : List Cover). slice_get cs place) (sym same) ∙ there in
     (cover, here, subst (λ (s : Selector). CoverFits x.groups x.sites s cover) own (sound.covers cover (get_member x.list place cover here)))
 

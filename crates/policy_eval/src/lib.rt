@@ -8,6 +8,7 @@ mod expanded;
 mod flags;
 mod in_force;
 mod rule_sets;
+mod selector_hash;
 mod site_flags;
 
 pub use expanded::Expanded;

@@ -1,4 +1,5 @@
 pub mod Lasting
+pub mod Pairs
 pub mod Sides
 pub mod TestEnds
 pub mod Tests

@@ -1,42 +1,36 @@
-//! Whether accept entries pass.
+//! Whether accept entries pass: each rule is asked once for each end.
 ghost use Rattle.std.specs.Prelude.{◌≡◌, IfOk};
-ghost use Rattle.std.specs.List.{list_all};
-ghost use Rattle.policy_tests.specs.Trials.{accepted_by, all_pass, core_of, pair_passes};
+ghost use Rattle.policy_tests.specs.Trials.{accepted_by, all_pass, core_of};
 
 use crate::ends::core_of;
 use crate::opening::port_of;
+use crate::pairs::{own_row, reaches_all, targets_of};
 use policy_eval::Expanded;
 use policy_rows::{Dest, Test};
 use policy_sites::End;
 use std::alloc::Global;
 use tail_base::NoMemory;
 
-fn pair_passes(x: &Expanded, proto: Option<u8>, port: u16, source: &End, dest: &End) -> bool
-    ensures value { result
-        ≡ pair_passes x.now.groups x.now.rules proto port source.now dest.now }
+/// Whether each pair of the ends is granted.
+fn all_pass(
+    alloc: Global,
+    x: &Expanded,
+    proto: Option<u8>,
+    port: u16,
+    sources: &[End],
+    dests: &[End],
+) -> Result<bool, NoMemory>
+    ensures value { IfOk result (λ passes. passes
+        ≡ all_pass x.now.groups x.now.rules proto port sources.now dests.now) }
 {
-    match proto {
-        Some(proto) => x.grants(source, dest, proto, port),
-        None => x.grants(source, dest, 6, port) || x.grants(source, dest, 17, port),
+    let targets = targets_of(alloc, x, proto, port, dests)?;
+    let own = own_row(alloc, x, proto, port)?;
+    for source in sources {
+        if !reaches_all(alloc, x, own.as_slice(), source, targets.as_slice())? {
+            return Ok(false);
+        }
     }
-}
-
-fn reaches_all(x: &Expanded, proto: Option<u8>, port: u16, source: &End, dests: &[End]) -> bool
-    ensures value { result
-        ≡ list_all (pair_passes x.now.groups x.now.rules proto port source.now) dests.now }
-{
-    dests
-        .iter()
-        .all(|dest| pair_passes(x, proto, port, source, dest))
-}
-
-fn all_pass(x: &Expanded, proto: Option<u8>, port: u16, sources: &[End], dests: &[End]) -> bool
-    ensures value { result
-        ≡ all_pass x.now.groups x.now.rules proto port sources.now dests.now }
-{
-    sources
-        .iter()
-        .all(|source| reaches_all(x, proto, port, source, dests))
+    Ok(true)
 }
 
 /// Whether each pair of the subject's ends and the entry's is granted. Phantoms tell it for all machines
@@ -53,5 +47,7 @@ pub(crate) fn is_accepted(
         ≡ accepted_by x.now.groups x.now.rules x.now.sites test.now entry.now) }
 {
     let dests = core_of(alloc, x.groups(), x.sites(), &entry.to)?;
-    Ok(all_pass(x, test.proto, port_of(entry), sources, dests.as_slice()))
+    let (proto, port) = (test.proto, port_of(entry));
+    let passes = all_pass(alloc, x, proto, port, sources, dests.as_slice())?;
+    Ok(passes)
 }

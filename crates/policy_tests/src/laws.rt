@@ -1,13 +1,13 @@
 //! Laws of the definitions. None of these functions does anything: each states a law.
-ghost use Rattle.std.specs.Prelude.{◌≡◌, ℕ, List, Option, [], true};
+ghost use Rattle.std.specs.Prelude.{◌≡◌, ℕ, List, None, Option, [], true};
 ghost use Rattle.policy_rows.specs.declared.dest.Dest.{Dest};
 ghost use Rattle.policy_rows.specs.declared.policy.Policy.{Policy};
 ghost use Rattle.policy_rows.specs.declared.test.Test.{Test};
 ghost use Rattle.policy_sites.specs.Grants.{grants};
 ghost use Rattle.policy_sites.specs.declared.end.End.{End};
 ghost use Rattle.policy_sites.specs.declared.site.Site.{Site};
-ghost use Rattle.policy_tests.specs.Lasting.{StandsFor, lasts};
-ghost use Rattle.policy_tests.specs.Tests.{is_accepted};
+ghost use Rattle.policy_tests.specs.Lasting.{AcceptsLast, StandsFor, lasts};
+ghost use Rattle.policy_tests.specs.Tests.{first_failure, is_accepted};
 
 /// Whatever grants a phantom grants each machine's end that it stands for, at either side.
 pub fn phantoms_stand_for_machines()
@@ -24,4 +24,11 @@ pub fn phantoms_stand_for_machines()
 pub fn an_accept_is_by_phantoms()
     ensures same { (policy : Policy) (sites : List Site) (t : Test) (e : Dest)
         → lasts t e ≡ true → is_accepted policy sites t e ≡ is_accepted policy [] t e }
+{}
+
+/// Of a policy that passes its tests over some machines each accept entry between users, groups and tags
+/// passes whatever machines there are.
+pub fn passed_tests_last()
+    ensures last { (policy : Policy) (sites : List Site)
+        → first_failure policy sites ≡ None → AcceptsLast policy }
 {}

@@ -8,9 +8,10 @@ mod ends;
 mod failure;
 mod laws;
 mod opening;
+mod pairs;
 mod side;
 mod testing;
 
 pub use failure::TestFailure;
-pub use laws::{an_accept_is_by_phantoms, phantoms_stand_for_machines};
+pub use laws::{an_accept_is_by_phantoms, passed_tests_last, phantoms_stand_for_machines};
 pub use testing::{first_failure, tested};

@@ -7,6 +7,6 @@ pub returns : goal.returns
 returns c =
     let dests = c.as_slice.ensures.value ∙ (c.in_ok-dests.ensures.value ∙ (λ i. core_of (c.groups.ensures.value i) (c.sites.ensures.value i) c.args.entry.now.to)) in
     record {
-      value = accepted_is c.args.x.now.groups c.args.x.now.rules c.args.x.now.sites c.args.test.now c.args.entry.now c.port_of.result c.args.sources.now c.as_slice.result.now c.all_pass.result
-          c.all_pass.ensures.value c.port_of.ensures.value c.requires.sources dests;
+      value = accepted_is c.args.x.now.groups c.args.x.now.rules c.args.x.now.sites c.args.test.now c.args.entry.now c.port_of-port.result c.args.sources.now c.as_slice.result.now c.in_ok-passes.passes
+          c.in_ok-passes.ensures.value c.port_of-port.ensures.value c.requires.sources dests;
     }
