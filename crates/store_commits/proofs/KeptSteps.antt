@@ -27,7 +27,7 @@ use Rattle.store_rows.specs.Cells.{expiry_cell, truth_cell}
 use Rattle.store_rows.specs.Rows.{auth_key_cells, extra_cells, machine_cells, meta_cells, pending_cells, policy_cells, user_cells}
 use Rattle.store_sql.specs.Ran.{HasRun, IsPutBy}
 use Rattle.store_sql.specs.Schema.{schema_1, meta_table, users_table, auth_keys_table, pending_table, machines_table, extras_table, policy_table}
-use Rattle.store_sql.specs.Texts.{clear_extras_text, delete_auth_keys_text, delete_machines_text, delete_pending_text, delete_users_text, insert_auth_keys_text, insert_extras_text, insert_machines_text, insert_meta_text, insert_pending_text, insert_policy_text, insert_users_text, update_auth_keys_text, update_machines_text, update_meta_text, update_pending_text, update_policy_text, update_users_text}
+use Rattle.store_sql.specs.declared.texts.TheConstants.{CLEAR_EXTRAS, DELETE_AUTH_KEYS, DELETE_MACHINES, DELETE_PENDING, DELETE_USERS, INSERT_AUTH_KEYS, INSERT_EXTRAS, INSERT_MACHINES, INSERT_META, INSERT_PENDING, INSERT_POLICY, INSERT_USERS, UPDATE_AUTH_KEYS, UPDATE_MACHINES, UPDATE_META, UPDATE_PENDING, UPDATE_POLICY, UPDATE_USERS}
 use Rattle.store_sql.proofs.Deletes.{delete_users_means, delete_auth_keys_means, delete_pending_means, delete_machines_means}
 use Rattle.store_sql.proofs.Inserts.{insert_users_means, insert_auth_keys_means, insert_pending_means, insert_machines_means, insert_extras_means, insert_meta_means, insert_policy_means}
 use Rattle.store_sql.proofs.Updates.{update_users_means, update_auth_keys_means, update_pending_means, update_machines_means, update_meta_means, update_policy_means, clear_extras_means}
@@ -82,22 +82,22 @@ set_users old new rows xs stood was set order by = record {
 abbrev user_rest : User → Row
 user_rest r = drop 1 (tree_row (user_cells r))
 
-pub user_put : (old new : Database) (x : User) → IsPutBy update_users_text insert_users_text (map value_of (user_cells x)) old new
+pub user_put : (old new : Database) (x : User) → IsPutBy UPDATE_USERS.now INSERT_USERS.now (map value_of (user_cells x)) old new
     → Makes old new (λ rows. record rows { users = put_row (λ r. r.id) rows.users x })
 user_put old new x put rows was =
     let key = λ (r : User). r.id in
     let stood = image_of (row_of key user_rest) rows.users (old.trees 1) was.stored.users in
-    let set = puts_row 1 1 (drop 1 users_table.columns) users_place x.id (drop 1 (map value_of (user_cells x))) (refl, tt) key user_rest stood.them update_users_text insert_users_text _ _ _ old new
+    let set = puts_row 1 1 (drop 1 users_table.columns) users_place x.id (drop 1 (map value_of (user_cells x))) (refl, tt) key user_rest stood.them UPDATE_USERS.now INSERT_USERS.now _ _ _ old new
     was.schema stood.are update_users_means insert_users_means (λ row. refl) refl put in
     set_users old new rows (put_row key rows.users x) _ was set (put_in_place key user_rest x rows.users stood.them was.ordered.users stood.same)
     (record { users = IsAscending-put key rows.users x was.ordered.users; keys = was.ordered.keys; pending = was.ordered.pending; machines = was.ordered.machines })
 
-user_gone : (old new : Database) (id count : ℕ) → HasRun delete_users_text (Int (pos id) ∷ []) count old new
+user_gone : (old new : Database) (id count : ℕ) → HasRun DELETE_USERS.now (Int (pos id) ∷ []) count old new
     → Makes old new (λ rows. record rows { users = without (λ r. r.id) rows.users id })
 user_gone old new id count ran rows was =
     let key = λ (r : User). r.id in
     let stood = image_of (row_of key user_rest) rows.users (old.trees 1) was.stored.users in
-    let set = takes_out 1 1 (drop 1 users_table.columns) users_place key user_rest stood.them delete_users_text count old new was.schema stood.are id delete_users_means ran in
+    let set = takes_out 1 1 (drop 1 users_table.columns) users_place key user_rest stood.them DELETE_USERS.now count old new was.schema stood.are id delete_users_means ran in
     set_users old new rows (without key rows.users id) _ was set (IsPermutation-map (row_of key user_rest) _ _ (left_in_order key user_rest id rows.users stood.them stood.same))
     (record { users = IsAscending-without key rows.users id was.ordered.users; keys = was.ordered.keys; pending = was.ordered.pending; machines = was.ordered.machines })
 
@@ -121,22 +121,22 @@ set_keys old new rows xs stood was set order by = record {
 abbrev key_rest : AuthKey → Row
 key_rest r = drop 1 (tree_row (auth_key_cells r))
 
-pub key_put : (old new : Database) (x : AuthKey) → IsPutBy update_auth_keys_text insert_auth_keys_text (map value_of (auth_key_cells x)) old new
+pub key_put : (old new : Database) (x : AuthKey) → IsPutBy UPDATE_AUTH_KEYS.now INSERT_AUTH_KEYS.now (map value_of (auth_key_cells x)) old new
     → Makes old new (λ rows. record rows { keys = put_row (λ r. r.id) rows.keys x })
 key_put old new x put rows was =
     let key = λ (r : AuthKey). r.id in
     let stood = image_of (row_of key key_rest) rows.keys (old.trees 3) was.stored.keys in
-    let set = puts_row 2 3 (drop 1 auth_keys_table.columns) auth_keys_place x.id (drop 1 (map value_of (auth_key_cells x))) (refl, (cast_number (pos x.user), (truth_taken x.reusable, (truth_taken x.ephemeral, (truth_taken x.used, (expiry_taken x.expiry, (refl, tt))))))) key key_rest stood.them update_auth_keys_text insert_auth_keys_text _ _ _ old new
+    let set = puts_row 2 3 (drop 1 auth_keys_table.columns) auth_keys_place x.id (drop 1 (map value_of (auth_key_cells x))) (refl, (cast_number (pos x.user), (truth_taken x.reusable, (truth_taken x.ephemeral, (truth_taken x.used, (expiry_taken x.expiry, (refl, tt))))))) key key_rest stood.them UPDATE_AUTH_KEYS.now INSERT_AUTH_KEYS.now _ _ _ old new
     was.schema stood.are update_auth_keys_means insert_auth_keys_means (λ row. refl) refl put in
     set_keys old new rows (put_row key rows.keys x) _ was set (put_in_place key key_rest x rows.keys stood.them was.ordered.keys stood.same)
     (record { users = was.ordered.users; keys = IsAscending-put key rows.keys x was.ordered.keys; pending = was.ordered.pending; machines = was.ordered.machines })
 
-key_gone : (old new : Database) (id count : ℕ) → HasRun delete_auth_keys_text (Int (pos id) ∷ []) count old new
+key_gone : (old new : Database) (id count : ℕ) → HasRun DELETE_AUTH_KEYS.now (Int (pos id) ∷ []) count old new
     → Makes old new (λ rows. record rows { keys = without (λ r. r.id) rows.keys id })
 key_gone old new id count ran rows was =
     let key = λ (r : AuthKey). r.id in
     let stood = image_of (row_of key key_rest) rows.keys (old.trees 3) was.stored.keys in
-    let set = takes_out 2 3 (drop 1 auth_keys_table.columns) auth_keys_place key key_rest stood.them delete_auth_keys_text count old new was.schema stood.are id delete_auth_keys_means ran in
+    let set = takes_out 2 3 (drop 1 auth_keys_table.columns) auth_keys_place key key_rest stood.them DELETE_AUTH_KEYS.now count old new was.schema stood.are id delete_auth_keys_means ran in
     set_keys old new rows (without key rows.keys id) _ was set (IsPermutation-map (row_of key key_rest) _ _ (left_in_order key key_rest id rows.keys stood.them stood.same))
     (record { users = was.ordered.users; keys = IsAscending-without key rows.keys id was.ordered.keys; pending = was.ordered.pending; machines = was.ordered.machines })
 
@@ -160,22 +160,22 @@ set_pending old new rows xs stood was set order by = record {
 abbrev pending_rest : Pending → Row
 pending_rest r = drop 1 (tree_row (pending_cells r))
 
-pub pending_put : (old new : Database) (x : Pending) → IsPutBy update_pending_text insert_pending_text (map value_of (pending_cells x)) old new
+pub pending_put : (old new : Database) (x : Pending) → IsPutBy UPDATE_PENDING.now INSERT_PENDING.now (map value_of (pending_cells x)) old new
     → Makes old new (λ rows. record rows { pending = put_row (λ r. r.id) rows.pending x })
 pending_put old new x put rows was =
     let key = λ (r : Pending). r.id in
     let stood = image_of (row_of key pending_rest) rows.pending (old.trees 5) was.stored.pending in
-    let set = puts_row 3 5 (drop 1 pending_table.columns) pending_place x.id (drop 1 (map value_of (pending_cells x))) (refl, (refl, (refl, (refl, (refl, (refl, (truth_taken x.ephemeral, (expiry_taken x.expiry, (cast_number x.made, tt))))))))) key pending_rest stood.them update_pending_text insert_pending_text _ _ _ old new
+    let set = puts_row 3 5 (drop 1 pending_table.columns) pending_place x.id (drop 1 (map value_of (pending_cells x))) (refl, (refl, (refl, (refl, (refl, (refl, (truth_taken x.ephemeral, (expiry_taken x.expiry, (cast_number x.made, tt))))))))) key pending_rest stood.them UPDATE_PENDING.now INSERT_PENDING.now _ _ _ old new
     was.schema stood.are update_pending_means insert_pending_means (λ row. refl) refl put in
     set_pending old new rows (put_row key rows.pending x) _ was set (put_in_place key pending_rest x rows.pending stood.them was.ordered.pending stood.same)
     (record { users = was.ordered.users; keys = was.ordered.keys; pending = IsAscending-put key rows.pending x was.ordered.pending; machines = was.ordered.machines })
 
-pending_gone : (old new : Database) (id count : ℕ) → HasRun delete_pending_text (Int (pos id) ∷ []) count old new
+pending_gone : (old new : Database) (id count : ℕ) → HasRun DELETE_PENDING.now (Int (pos id) ∷ []) count old new
     → Makes old new (λ rows. record rows { pending = without (λ r. r.id) rows.pending id })
 pending_gone old new id count ran rows was =
     let key = λ (r : Pending). r.id in
     let stood = image_of (row_of key pending_rest) rows.pending (old.trees 5) was.stored.pending in
-    let set = takes_out 3 5 (drop 1 pending_table.columns) pending_place key pending_rest stood.them delete_pending_text count old new was.schema stood.are id delete_pending_means ran in
+    let set = takes_out 3 5 (drop 1 pending_table.columns) pending_place key pending_rest stood.them DELETE_PENDING.now count old new was.schema stood.are id delete_pending_means ran in
     set_pending old new rows (without key rows.pending id) _ was set (IsPermutation-map (row_of key pending_rest) _ _ (left_in_order key pending_rest id rows.pending stood.them stood.same))
     (record { users = was.ordered.users; keys = was.ordered.keys; pending = IsAscending-without key rows.pending id was.ordered.pending; machines = was.ordered.machines })
 
@@ -199,22 +199,22 @@ set_machines old new rows xs stood was set order by = record {
 abbrev machine_rest : Machine → Row
 machine_rest r = drop 1 (tree_row (machine_cells r))
 
-pub machine_put : (old new : Database) (x : Machine) → IsPutBy update_machines_text insert_machines_text (map value_of (machine_cells x)) old new
+pub machine_put : (old new : Database) (x : Machine) → IsPutBy UPDATE_MACHINES.now INSERT_MACHINES.now (map value_of (machine_cells x)) old new
     → Makes old new (λ rows. record rows { machines = put_row (λ r. r.id) rows.machines x })
 machine_put old new x put rows was =
     let key = λ (r : Machine). r.id in
     let stood = image_of (row_of key machine_rest) rows.machines (old.trees 8) was.stored.machines in
-    let set = puts_row 4 8 (drop 1 machines_table.columns) machines_place x.id (drop 1 (map value_of (machine_cells x))) (cast_number (pos x.user), (refl, (refl, (refl, (refl, (refl, (address_taken x.v4, (refl, (refl, (cast_number (pos x.derp), (refl, (refl, (refl, (truth_taken x.ephemeral, (expiry_taken x.expiry, (cast_number x.created, tt)))))))))))))))) key machine_rest stood.them update_machines_text insert_machines_text _ _ _ old new
+    let set = puts_row 4 8 (drop 1 machines_table.columns) machines_place x.id (drop 1 (map value_of (machine_cells x))) (cast_number (pos x.user), (refl, (refl, (refl, (refl, (refl, (address_taken x.v4, (refl, (refl, (cast_number (pos x.derp), (refl, (refl, (refl, (truth_taken x.ephemeral, (expiry_taken x.expiry, (cast_number x.created, tt)))))))))))))))) key machine_rest stood.them UPDATE_MACHINES.now INSERT_MACHINES.now _ _ _ old new
     was.schema stood.are update_machines_means insert_machines_means (λ row. refl) refl put in
     set_machines old new rows (put_row key rows.machines x) _ was set (put_in_place key machine_rest x rows.machines stood.them was.ordered.machines stood.same)
     (record { users = was.ordered.users; keys = was.ordered.keys; pending = was.ordered.pending; machines = IsAscending-put key rows.machines x was.ordered.machines })
 
-machine_gone : (old new : Database) (id count : ℕ) → HasRun delete_machines_text (Int (pos id) ∷ []) count old new
+machine_gone : (old new : Database) (id count : ℕ) → HasRun DELETE_MACHINES.now (Int (pos id) ∷ []) count old new
     → Makes old new (λ rows. record rows { machines = without (λ r. r.id) rows.machines id })
 machine_gone old new id count ran rows was =
     let key = λ (r : Machine). r.id in
     let stood = image_of (row_of key machine_rest) rows.machines (old.trees 8) was.stored.machines in
-    let set = takes_out 4 8 (drop 1 machines_table.columns) machines_place key machine_rest stood.them delete_machines_text count old new was.schema stood.are id delete_machines_means ran in
+    let set = takes_out 4 8 (drop 1 machines_table.columns) machines_place key machine_rest stood.them DELETE_MACHINES.now count old new was.schema stood.are id delete_machines_means ran in
     set_machines old new rows (without key rows.machines id) _ was set (IsPermutation-map (row_of key machine_rest) _ _ (left_in_order key machine_rest id rows.machines stood.them stood.same))
     (record { users = was.ordered.users; keys = was.ordered.keys; pending = was.ordered.pending; machines = IsAscending-without key rows.machines id was.ordered.machines })
 
@@ -228,10 +228,10 @@ row_gone old new (gone.Machine id) count ran = machine_gone old new id count ran
 abbrev meta_rest : Counters → Row
 meta_rest next = drop 1 (tree_row (meta_cells next))
 
-pub next_put : (old new : Database) (next : Counters) → IsPutBy update_meta_text insert_meta_text (map value_of (meta_cells next)) old new → Makes old new (λ rows. record rows { next = next })
+pub next_put : (old new : Database) (next : Counters) → IsPutBy UPDATE_META.now INSERT_META.now (map value_of (meta_cells next)) old new → Makes old new (λ rows. record rows { next = next })
 next_put old new next put rows was =
     let key : Counters → ℕ = λ n. 1 in
-    let set = puts_row 0 0 (drop 1 meta_table.columns) meta_place 1 (drop 1 (map value_of (meta_cells next))) (cast_number (pos 1), (cast_number (pos next.user), (cast_number (pos next.key), (cast_number (pos next.pending), (cast_number (pos next.machine), tt))))) key meta_rest (rows.next ∷ []) update_meta_text insert_meta_text _ _ _ old new
+    let set = puts_row 0 0 (drop 1 meta_table.columns) meta_place 1 (drop 1 (map value_of (meta_cells next))) (cast_number (pos 1), (cast_number (pos next.user), (cast_number (pos next.key), (cast_number (pos next.pending), (cast_number (pos next.machine), tt))))) key meta_rest (rows.next ∷ []) UPDATE_META.now INSERT_META.now _ _ _ old new
     was.schema was.stored.meta update_meta_means insert_meta_means (λ row. refl) refl put in
     record {
       schema = set.schema_is;
@@ -258,10 +258,10 @@ none_left : (policy : Option (List ℕ)) → left (λ (b : List ℕ). 1) policy_
 none_left None = refl
 none_left (Some body) = refl
 
-pub policy_put : (old new : Database) (body : List ℕ) → IsPutBy update_policy_text insert_policy_text (map value_of (policy_cells body)) old new → Makes old new (λ rows. record rows { policy = Some body })
+pub policy_put : (old new : Database) (body : List ℕ) → IsPutBy UPDATE_POLICY.now INSERT_POLICY.now (map value_of (policy_cells body)) old new → Makes old new (λ rows. record rows { policy = Some body })
 policy_put old new body put rows was =
     let key : List ℕ → ℕ = λ b. 1 in
-    let set = puts_row 6 15 (drop 1 policy_table.columns) policy_place 1 (Text body ∷ []) (refl, tt) key policy_rest (option_to_list rows.policy) update_policy_text insert_policy_text _ _ _ old new
+    let set = puts_row 6 15 (drop 1 policy_table.columns) policy_place 1 (Text body ∷ []) (refl, tt) key policy_rest (option_to_list rows.policy) UPDATE_POLICY.now INSERT_POLICY.now _ _ _ old new
     was.schema (was.stored.policy ∙ policy_list rows.policy) update_policy_means insert_policy_means (λ row. refl) refl put in
     let alone = ap (λ l. put_tree (tree_row (policy_cells body)) (map (row_of key policy_rest) l)) (none_left rows.policy) in
     record {
@@ -295,17 +295,17 @@ set_extras old new rows xs stood was set order = record {
 }
 
 -- all extra records go
-pub extras_gone : (old new : Database) (count : ℕ) → HasRun clear_extras_text [] count old new → Makes old new (λ rows. record rows { extras = [] })
+pub extras_gone : (old new : Database) (count : ℕ) → HasRun CLEAR_EXTRAS.now [] count old new → Makes old new (λ rows. record rows { extras = [] })
 extras_gone old new count ran rows was =
     let key : ℕ × DnsExtra → ℕ = λ p. p.0 in
     let stood = image_of (row_of key extra_rest) (with_places 1 rows.extras) (old.trees 14) (subst (λ l. IsPermutation l (old.trees 14)) (placed_are 1 rows.extras) was.stored.extras) in
     set_extras old new rows [] [] was
-    (takes_all_out 5 14 (drop 1 extras_table.columns) extras_place key extra_rest stood.them clear_extras_text count old new was.schema stood.are [] clear_extras_means ran)
+    (takes_all_out 5 14 (drop 1 extras_table.columns) extras_place key extra_rest stood.them CLEAR_EXTRAS.now count old new was.schema stood.are [] clear_extras_means ran)
     (IsPermutation-refl [])
 
 -- one more record stands behind the others
 pub extra_added : (old new : Database) (xs : List DnsExtra) (x : DnsExtra) → IsAdded (map value_of (extra_cells (1 + length xs) x)) old new
     → (rows : Rows) → Keeps old (record rows { extras = xs }) → Keeps new (record rows { extras = xs ++ x ∷ [] })
 extra_added old new xs x (count, ran) rows was =
-    let set = adds_row 5 14 (drop 1 extras_table.columns) extras_place (1 + length xs) (drop 1 (map value_of (extra_cells (1 + length xs) x))) (refl, (refl, tt)) insert_extras_text _ _ count old new was.schema insert_extras_means refl ran in
+    let set = adds_row 5 14 (drop 1 extras_table.columns) extras_place (1 + length xs) (drop 1 (map value_of (extra_cells (1 + length xs) x))) (refl, (refl, tt)) INSERT_EXTRAS.now _ _ count old new was.schema insert_extras_means refl ran in
     set_extras old new (record rows { extras = xs }) (xs ++ x ∷ []) _ was set (put_last xs x (old.trees 14) was.stored.extras)

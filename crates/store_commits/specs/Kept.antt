@@ -12,7 +12,7 @@ use Rattle.store_rows.specs.declared.cell.Cell.{Cell}
 use Rattle.store_rows.specs.declared.cell.Cell.TheVariants.{Null, Number, Text, Blob, Other}
 use Rattle.store_sql.specs.Ran.{HasRun}
 use Rattle.store_sql.specs.Schema.{schema_1}
-use Rattle.store_sql.specs.Texts.{insert_extras_text}
+use Rattle.store_sql.specs.declared.texts.TheConstants.{INSERT_EXTRAS}
 use Rattle.tailcfg.specs.declared.dns.DnsExtra.{DnsExtra}
 
 -- the value that a cell is stored as
@@ -71,7 +71,7 @@ Makes old new f = (rows : Rows) → Keeps old rows → Keeps new (f rows)
 
 -- an INSERT of an extra record ran with these values
 abbrev pub IsAdded : Row → Database → Database → Type 0
-IsAdded values old new = (count : ℕ) × HasRun insert_extras_text values count old new
+IsAdded values old new = (count : ℕ) × HasRun INSERT_EXTRAS.now values count old new
 
 -- The trees hold what is made of the rows that the database keeps, whatever they are.
 abbrev pub HoldsMade : Database → (Rows → Rows) → Trees → Type 0

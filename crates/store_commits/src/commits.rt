@@ -5,7 +5,7 @@ ghost use Rattle.std.specs.Str.{is_utf8};
 ghost use Rattle.net_rows.specs.Rows.{after, put as put_of, put_all as put_all_of, take_all_out, take_out};
 ghost use Rattle.store_rows.specs.Readable.{IsReadableChange, IsReadableExtra, IsReadableRow};
 ghost use Rattle.store_rows.specs.Rows.{IsTypedCounters, extra_cells, meta_cells, policy_cells};
-ghost use Rattle.store_sql.specs.Texts.{insert_meta_text, insert_policy_text, update_meta_text, update_policy_text};
+ghost use Rattle.store_sql.specs.declared.texts.TheConstants.{INSERT_META, INSERT_POLICY, UPDATE_META, UPDATE_POLICY};
 ghost use Rattle.sqlite.specs.State.{HasCleanDisk, Survives};
 ghost use Rattle.sqlite.specs.Held.{state};
 ghost use Rattle.store_sql.specs.Ran.{IsPutBy};
@@ -22,8 +22,8 @@ use sqlite::{Alter, Connection, Transaction};
 use std::alloc::Global;
 use store_rows::{Cell, write_extra, write_meta, write_policy_text};
 use store_sql::{
-    clear_extras, delete_auth_keys, delete_machines, delete_pending, delete_users, insert_extras,
-    insert_meta, insert_policy, update_meta, update_policy,
+    CLEAR_EXTRAS, DELETE_AUTH_KEYS, DELETE_MACHINES, DELETE_PENDING, DELETE_USERS, INSERT_EXTRAS,
+    INSERT_META, INSERT_POLICY, UPDATE_META, UPDATE_POLICY,
 };
 use tail_base::Text;
 use tailcfg::DnsExtra;
@@ -34,10 +34,10 @@ fn goes_by(gone: RowKey) -> (&'static str, u32)
     ensures id { result.1 ≡ gone_id gone }
 {
     match gone {
-        RowKey::User(id) => (delete_users(), id),
-        RowKey::Key(id) => (delete_auth_keys(), id),
-        RowKey::Pending(id) => (delete_pending(), id),
-        RowKey::Machine(id) => (delete_machines(), id),
+        RowKey::User(id) => (DELETE_USERS, id),
+        RowKey::Key(id) => (DELETE_AUTH_KEYS, id),
+        RowKey::Pending(id) => (DELETE_PENDING, id),
+        RowKey::Machine(id) => (DELETE_MACHINES, id),
     }
 }
 
@@ -129,7 +129,7 @@ fn add_extra<S: Alter>(
 {
     let cells = write_extra(alloc, place, extra)?;
     let values = values_of(alloc, cells.as_slice())?;
-    run(tx, insert_extras(), values.as_slice())?;
+    run(tx, INSERT_EXTRAS, values.as_slice())?;
     Ok(())
 }
 
@@ -147,7 +147,7 @@ fn put_extras<S: Alter>(
         (λ rows. record rows { extras = extras.now })) }
     ensures readable { OnOk result (AllByRecursion IsReadableExtra extras.now) }
 {
-    run(tx, clear_extras(), &[])?;
+    run(tx, CLEAR_EXTRAS, &[])?;
     let mut last = 0u32;
     for extra in extras {
         let place = last.checked_add(1).ok_or(Fault::Failed)?;
@@ -166,18 +166,12 @@ fn put_policy<S: Alter>(
     ensures same_reference { tx.new.conn.ghost_name ≡ tx.old.conn.ghost_name }
     ensures pending { IsPending S.Store tx.old.conn.now tx.new.conn.now (is_ok result) }
     ensures put { HasCleanDisk (state S.Store tx.new.conn.now) → OnOk result (IsPutBy
-        update_policy_text insert_policy_text (map value_of (policy_cells text.now))
+        UPDATE_POLICY.now INSERT_POLICY.now (map value_of (policy_cells text.now))
         (state S.Store tx.old.conn.now).now (state S.Store tx.new.conn.now).now) }
     ensures readable { OnOk result (is_utf8 text.now ≡ true) }
 {
     let cells = write_policy_text(alloc, text)?;
-    put_cells(
-        tx,
-        alloc,
-        update_policy(),
-        insert_policy(),
-        cells.as_slice(),
-    )
+    put_cells(tx, alloc, UPDATE_POLICY, INSERT_POLICY, cells.as_slice())
 }
 
 #[tactic(auto, using(crate::proofs::Pending::nothing, crate::proofs::Pending::then))]
@@ -224,12 +218,12 @@ pub(crate) fn put_next<S: Alter>(
     ensures same_reference { tx.new.conn.ghost_name ≡ tx.old.conn.ghost_name }
     ensures pending { IsPending S.Store tx.old.conn.now tx.new.conn.now (is_ok result) }
     ensures put { HasCleanDisk (state S.Store tx.new.conn.now) → OnOk result (IsPutBy
-        update_meta_text insert_meta_text (map value_of (meta_cells next.now))
+        UPDATE_META.now INSERT_META.now (map value_of (meta_cells next.now))
         (state S.Store tx.old.conn.now).now (state S.Store tx.new.conn.now).now) }
     ensures readable { OnOk result (IsTypedCounters next.now) }
 {
     let cells = write_meta(alloc, next)?;
-    put_cells(tx, alloc, update_meta(), insert_meta(), cells.as_slice())
+    put_cells(tx, alloc, UPDATE_META, INSERT_META, cells.as_slice())
 }
 
 /// Writes the change: gone rows go first, then the rows are put in order, and then the counters.

@@ -16,8 +16,8 @@ use net_rows::Counters;
 use sqlite::{Alter, Connection, Transaction};
 use std::alloc::Global;
 use store_sql::{
-    create_auth_keys, create_extras, create_machines, create_meta, create_pending, create_policy,
-    create_users,
+    CREATE_AUTH_KEYS, CREATE_EXTRAS, CREATE_MACHINES, CREATE_META, CREATE_PENDING, CREATE_POLICY,
+    CREATE_USERS,
 };
 
 /// The first id of each kind.
@@ -51,9 +51,9 @@ fn make_owner_tables<S: Alter>(tx: &mut Transaction<'_, S>) -> Result<(), Fault>
         → LeadsTo making_texts (state S.Store tx.old.conn.now).now
         → OnOk result (LeadsTo (drop 3 making_texts) (state S.Store tx.new.conn.now).now) }
 {
-    make_table(tx, create_meta())?;
-    make_table(tx, create_users())?;
-    make_table(tx, create_auth_keys())
+    make_table(tx, CREATE_META)?;
+    make_table(tx, CREATE_USERS)?;
+    make_table(tx, CREATE_AUTH_KEYS)
 }
 
 /// Makes the tables of the pending entries and the machines.
@@ -65,8 +65,8 @@ fn make_machine_tables<S: Alter>(tx: &mut Transaction<'_, S>) -> Result<(), Faul
         → LeadsTo (drop 3 making_texts) (state S.Store tx.old.conn.now).now
         → OnOk result (LeadsTo (drop 5 making_texts) (state S.Store tx.new.conn.now).now) }
 {
-    make_table(tx, create_pending())?;
-    make_table(tx, create_machines())
+    make_table(tx, CREATE_PENDING)?;
+    make_table(tx, CREATE_MACHINES)
 }
 
 /// Makes the tables of the extra records and the policy.
@@ -78,8 +78,8 @@ fn make_text_tables<S: Alter>(tx: &mut Transaction<'_, S>) -> Result<(), Fault>
         → LeadsTo (drop 5 making_texts) (state S.Store tx.old.conn.now).now
         → OnOk result (LeadsTo (drop 7 making_texts) (state S.Store tx.new.conn.now).now) }
 {
-    make_table(tx, create_extras())?;
-    make_table(tx, create_policy())
+    make_table(tx, CREATE_EXTRAS)?;
+    make_table(tx, CREATE_POLICY)
 }
 
 /// Makes all tables.

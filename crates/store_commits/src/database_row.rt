@@ -3,14 +3,14 @@ ghost use Rattle.std.specs.Prelude.{◌≡◌, ℕ, List, IfOk, OnOk};
 ghost use Rattle.store_rows.specs.Readable.{IsReadable, IsReadableMachine};
 ghost use Rattle.store_rows.specs.Rows.{IsTypedKey, IsTypedPending, IsTypedUser, auth_key_cells, machine_cells, pending_cells, user_cells};
 ghost use Rattle.store_rows.specs.declared.cell.Cell.{Cell};
-ghost use Rattle.store_sql.specs.Texts.{insert_auth_keys_text, insert_machines_text, insert_pending_text, insert_users_text, update_auth_keys_text, update_machines_text, update_pending_text, update_users_text};
+ghost use Rattle.store_sql.specs.declared.texts.TheConstants.{INSERT_AUTH_KEYS, INSERT_MACHINES, INSERT_PENDING, INSERT_USERS, UPDATE_AUTH_KEYS, UPDATE_MACHINES, UPDATE_PENDING, UPDATE_USERS};
 
 use net_rows::{AuthKey, Machine, Pending, User};
 use std::alloc::Global;
 use store_rows::{Cell, write_auth_key, write_machine, write_pending, write_user};
 use store_sql::{
-    insert_auth_keys, insert_machines, insert_pending, insert_users, update_auth_keys,
-    update_machines, update_pending, update_users,
+    INSERT_AUTH_KEYS, INSERT_MACHINES, INSERT_PENDING, INSERT_USERS, UPDATE_AUTH_KEYS,
+    UPDATE_MACHINES, UPDATE_PENDING, UPDATE_USERS,
 };
 use tail_base::{Items, NoMemory};
 
@@ -47,16 +47,16 @@ impl DatabaseRow for User {
 
     ghost Readable = { IsReadable user_cells IsTypedUser };
 
-    ghost update_text = { update_users_text };
+    ghost update_text = { UPDATE_USERS.now };
 
-    ghost insert_text = { insert_users_text };
+    ghost insert_text = { INSERT_USERS.now };
 
     fn update() -> &'static str {
-        update_users()
+        UPDATE_USERS
     }
 
     fn insert() -> &'static str {
-        insert_users()
+        INSERT_USERS
     }
 
     fn write(&self, alloc: Global) -> Result<Items<Cell>, NoMemory> {
@@ -69,16 +69,16 @@ impl DatabaseRow for AuthKey {
 
     ghost Readable = { IsReadable auth_key_cells IsTypedKey };
 
-    ghost update_text = { update_auth_keys_text };
+    ghost update_text = { UPDATE_AUTH_KEYS.now };
 
-    ghost insert_text = { insert_auth_keys_text };
+    ghost insert_text = { INSERT_AUTH_KEYS.now };
 
     fn update() -> &'static str {
-        update_auth_keys()
+        UPDATE_AUTH_KEYS
     }
 
     fn insert() -> &'static str {
-        insert_auth_keys()
+        INSERT_AUTH_KEYS
     }
 
     fn write(&self, alloc: Global) -> Result<Items<Cell>, NoMemory> {
@@ -91,16 +91,16 @@ impl DatabaseRow for Pending {
 
     ghost Readable = { IsReadable pending_cells IsTypedPending };
 
-    ghost update_text = { update_pending_text };
+    ghost update_text = { UPDATE_PENDING.now };
 
-    ghost insert_text = { insert_pending_text };
+    ghost insert_text = { INSERT_PENDING.now };
 
     fn update() -> &'static str {
-        update_pending()
+        UPDATE_PENDING
     }
 
     fn insert() -> &'static str {
-        insert_pending()
+        INSERT_PENDING
     }
 
     fn write(&self, alloc: Global) -> Result<Items<Cell>, NoMemory> {
@@ -113,16 +113,16 @@ impl DatabaseRow for Machine {
 
     ghost Readable = { IsReadableMachine };
 
-    ghost update_text = { update_machines_text };
+    ghost update_text = { UPDATE_MACHINES.now };
 
-    ghost insert_text = { insert_machines_text };
+    ghost insert_text = { INSERT_MACHINES.now };
 
     fn update() -> &'static str {
-        update_machines()
+        UPDATE_MACHINES
     }
 
     fn insert() -> &'static str {
-        insert_machines()
+        INSERT_MACHINES
     }
 
     fn write(&self, alloc: Global) -> Result<Items<Cell>, NoMemory> {

@@ -1,5 +1,5 @@
 -- What a load leaves told.
-use Rattle.std.proofs.Common.{◌≡◌, ◌⊎◌, ◌&&◌, ◌||◌, not, is_some, inl, inr, Bool, true, false, Option, Some, None, Ok, Err, Result, IfOk, IfErr, IsTrue, OnErr, OnOk, ℕ, refl, sym, ap, subst, ◌∙◌}
+use Rattle.std.proofs.Common.{◌≡◌, ◌⊎◌, ◌&&◌, ◌||◌, not, is_some, inl, inr, Bool, true, false, Option, Some, None, Ok, Err, Result, IfOk, IfErr, IsTrue, OnErr, OnOk, ℕ, List, [], ◌∷◌, length, refl, sym, ap, subst, ◌∙◌, arith}
 use Rattle.io_edge.specs.Edge.{StillTells, IsWhereTold}
 use Rattle.net_rows.specs.Damage.{damage}
 use Rattle.net_rows.specs.Rows.{empty_rows}
@@ -10,14 +10,19 @@ use Rattle.net_rows.proofs.Empty.{damage-empty}
 use Rattle.row_keeper.specs.declared.keeper.LoadFault.{LoadFault}
 use Rattle.row_keeper.specs.declared.keeper.LoadFault.TheVariants.{Damaged}
 use Rattle.sqlite.specs.Effect.{Database}
-use Rattle.sqlite.specs.State.{HasCleanDisk, IsLive, State}
+use Rattle.sqlite.specs.Given.{IsPlain}
+use Rattle.sqlite.specs.Listing.{understood}
+use Rattle.sqlite.specs.State.{HasCleanDisk, IsLive, Shown, State}
 use Rattle.store_commits.specs.Kept.{AreStored, Keeps}
 use Rattle.store_commits.specs.Pending.{IsSettled, Leaves}
 use Rattle.store_reads.specs.Back.{IsOurs}
 use Rattle.store_reads.specs.Readable.{AreReadable, IsOutside}
 use Rattle.store_reads.specs.Seen.{IsSeen}
+use Rattle.sqlite_value.specs.Order.{Row}
 use Rattle.store_sql.specs.Schema.{no_schema, schema_1}
-use Rattle.store_loads.specs.Tells.{Holds, IsAtRest, IsFirst, IsKnown}
+use Rattle.store_sql.specs.declared.texts.TheConstants.{SELECT_SCHEMA}
+use Rattle.store_sql.proofs.Selects.{select_schema_plain}
+use Rattle.store_loads.specs.Tells.{Holds, IsAtRest, IsFirst, IsKnown, IsSpared, ListsNothing}
 use Rattle.store_loads.specs.Told.{is_known, is_schema, rows_of, store_tells}
 use Rattle.store_loads.proofs.Firsts.{empty_readable}
 use Rattle.store_loads.proofs.TellTrees.{is_itself, schema_is, some_is}
@@ -105,17 +110,33 @@ pub first_seen : (old new : State) (done : Bool) → IsSeen no_schema old new do
 first_seen old new done seen rest none clean opened =
     let stays = seen.stays clean none opened in
     let same : new.now ≡ old.now = elim stays.shows [ inl now ↦ now | inr back ↦ back ∙ sym (rest stays.was_open) ] in
-    record { was_open = stays.was_open; shows = inl (ap (λ (d : Database). d.schema) same ∙ none) }
+    let still_none = ap (λ (d : Database). d.schema) same ∙ none in
+    record { was_open = stays.was_open; shows = inl still_none; spared = inl still_none }
 
 -- what the making of tables behind it leaves
 pub first_made : {X E : Type 0} (old mid new : State) (r : Result X E) → IsSeen no_schema old mid true → old.now.schema ≡ no_schema → HasCleanDisk mid → IsTrue mid.is_open → IsTrue new.is_open
-    → (mid.now.schema ≡ no_schema → OnOk r (Keeps new.now empty_rows)) → OnErr r (Leaves mid new) → IsFirst old new
-first_made old mid new (Ok x) seen none clean opened open_now made err =
+    → (mid.now.schema ≡ no_schema → OnOk r (Keeps new.now empty_rows)) → OnErr r (Leaves mid new) → ListsNothing old.now → IsFirst old new
+first_made old mid new (Ok x) seen none clean opened open_now made err nothing =
     let same = seen.same clean none refl in
-    record { was_open = (seen.stays clean none opened).was_open; shows = inr (made (ap (λ (d : Database). d.schema) same ∙ none)) }
-first_made old mid new (Err e) seen none clean opened open_now made err =
+    record { was_open = (seen.stays clean none opened).was_open; shows = inr (made (ap (λ (d : Database). d.schema) same ∙ none)); spared = inr nothing }
+first_made old mid new (Err e) seen none clean opened open_now made err nothing =
     let same = err open_now ∙ seen.same clean none refl in
-    record { was_open = (seen.stays clean none opened).was_open; shows = inl (ap (λ (d : Database). d.schema) same ∙ none) }
+    record { was_open = (seen.stays clean none opened).was_open; shows = inl (ap (λ (d : Database). d.schema) same ∙ none); spared = inr nothing }
+
+-- a list of no names shows that there is nothing
+pub lists_nothing : (old mid : State) (names : List Row) → old.now.schema ≡ no_schema → length names ≡ 0 → Shown SELECT_SCHEMA.now [] old mid names → ListsNothing old.now
+unfolding Shown
+lists_nothing old mid [] none empty shown =
+    let bare = subst IsPlain shown.1.is (subst (λ s. IsPlain (understood s SELECT_SCHEMA.now)) (sym none) select_schema_plain) in
+    let it = rw bare.0 at shown.2 in
+    record { query = shown.0; is = shown.1.is; listing = it.0; source = it.1; params = _; shows = it.2 }
+lists_nothing old mid (n ∷ ns) none empty shown = absurd (omega (arith, empty))
+
+-- a reading behind it takes no table away, and makes none
+pub spared_seen : (old mid new : State) (done : Bool) → IsSeen schema_1 mid new done → mid.now.schema ≡ schema_1 → IsTrue new.is_open → HasCleanDisk new → (HasCleanDisk mid → IsTrue mid.is_open → IsFirst old mid) → IsSpared old new
+spared_seen old mid new done seen has opened clean first =
+    let was = (seen.stays clean has opened).was_open in
+    elim (first (seen.clean clean) was).spared [ inl none ↦ absurd (none_is_not_ours mid.now.schema has none) | inr nothing ↦ inr nothing ]
 
 pub on_ok : {X E : Type 0} (r : Result X E) (P : Type 0) → P → OnOk r P
 on_ok (Ok x) P h = h

@@ -1,19 +1,20 @@
 //! The tables that a database keeps.
-ghost use Rattle.std.specs.Prelude.{◌≡◌, ℕ, false, None, Ok, Err, IfOk, IfErr, IsTrue, OnOk, is_ok};
+ghost use Rattle.std.specs.Prelude.{◌≡◌, [], ℕ, false, None, Ok, Err, IfOk, IfErr, IsTrue, OnOk, is_ok};
 ghost use Rattle.io_edge.specs.Edge.{IsWhereTold, StillTells};
 ghost use Rattle.net_rows.specs.declared.change.Kind.{Kind as RowKind};
 ghost use Rattle.net_rows.specs.Damage.{damage};
 ghost use Rattle.net_rows.specs.Rows.{empty_rows};
 ghost use Rattle.net_rows.specs.declared.rows.Rows.{Rows};
 ghost use Rattle.sqlite.specs.Held.{state};
-ghost use Rattle.sqlite.specs.State.{HasCleanDisk, IsLive, Survives};
+ghost use Rattle.sqlite.specs.State.{HasCleanDisk, IsLive, Shown, Survives};
 ghost use Rattle.store_commits.specs.Kept.{AreStored, Keeps};
-ghost use Rattle.store_loads.specs.Tells.{Holds, IsAtRest, IsFirst, IsKnown};
+ghost use Rattle.store_loads.specs.Tells.{Holds, IsAtRest, IsFirst, IsKnown, IsSpared};
 ghost use Rattle.store_loads.specs.Told.{store_tells};
 ghost use Rattle.store_reads.specs.Causes.{FailsOnlyFor, IsCaused};
 ghost use Rattle.store_reads.specs.Readable.{AreReadable, Fills, IsOutside};
 ghost use Rattle.store_reads.specs.Seen.{IsSeen};
 ghost use Rattle.store_sql.specs.Schema.{no_schema, schema_1};
+ghost use Rattle.store_sql.specs.declared.texts.TheConstants.{SELECT_SCHEMA};
 
 use crate::schema::{is_empty, is_schema_1};
 use net_rows::{Damage, Kind, Rows, Tables};
@@ -22,14 +23,17 @@ use sqlite::{Alter, Connection, Row};
 use std::alloc::Global;
 use store_commits::{Fault, create};
 use store_reads::{load_fault, read_rows, rows_of};
-use store_sql::select_schema;
+use store_sql::SELECT_SCHEMA;
 
 /// What a database lists, whatever it is.
 fn listed<S: Alter>(conn: &mut Connection<S>) -> Result<Vec<Row>, Fault>
     ensures seen { IsSeen no_schema (state S.Store conn.old) (state S.Store conn.new)
         (is_ok result) }
+    ensures shown { HasCleanDisk (state S.Store conn.new) → IfOk result (λ rows.
+        Shown SELECT_SCHEMA.now [] (state S.Store conn.old) (state S.Store conn.new)
+        rows.items) }
 {
-    rows_of(conn, select_schema())
+    rows_of(conn, SELECT_SCHEMA)
 }
 
 /// Makes the tables in a database that has nothing. One that has what the store doesn't read is left
@@ -196,6 +200,10 @@ fn load_tables<S: Alter>(conn: &mut Connection<S>, alloc: Global) -> Result<Tabl
     ensures foreign { ((state S.Store conn.old).now.schema ≡ schema_1 → ⊥)
         → ((state S.Store conn.old).now.schema ≡ no_schema → ⊥)
         → (result ≡ Err (LoadFault.Damaged RowKind.Meta 0)) × (conn.new ≡ conn.old) }
+    ensures spared { IsAtRest (state S.Store conn.old)
+        → (state S.Store conn.old).now.schema ≡ no_schema
+        → HasCleanDisk (state S.Store conn.new) → IsTrue (state S.Store conn.new).is_open
+        → IsSpared (state S.Store conn.old) (state S.Store conn.new) }
 {
     match prepare(conn, alloc) {
         Ok(()) => read_tables(conn, alloc),
@@ -248,6 +256,9 @@ pub fn load<S: Alter>(conn: &mut Connection<S>, alloc: Global) -> Result<Tables,
         → ((state S.Store conn.old).now.schema ≡ schema_1 → ⊥)
         → ((state S.Store conn.old).now.schema ≡ no_schema → ⊥)
         → (result ≡ Err (LoadFault.Damaged RowKind.Meta 0)) × (conn.new ≡ conn.old) }
+    ensures spared { (state S.Store conn.old).now.schema ≡ no_schema
+        → HasCleanDisk (state S.Store conn.new) → IsTrue (state S.Store conn.new).is_open
+        → IsSpared (state S.Store conn.old) (state S.Store conn.new) }
 {
     if !conn.is_autocommit() {
         return Err(LoadFault::Failed);

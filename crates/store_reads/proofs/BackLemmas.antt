@@ -32,12 +32,11 @@ use Rattle.net_rows.specs.declared.change.Counters.{Counters}
 use Rattle.net_rows.specs.declared.key.AuthKey.{AuthKey}
 use Rattle.net_rows.specs.declared.machine.Machine.{Machine}
 use Rattle.net_rows.specs.declared.pending.Pending.{Pending}
-use Rattle.net_rows.specs.declared.rows.Rows.{Rows}
 use Rattle.net_rows.specs.declared.user.User.{User}
 use Rattle.store_rows.specs.declared.cell.Cell.{Cell}
 use Rattle.store_rows.specs.declared.cell.Cell.TheVariants as cell
 use Rattle.store_sql.specs.Schema.{auth_keys_table, column_of, extras_table, machines_table, meta_table, pending_table, policy_table, schema_1, users_table}
-use Rattle.store_sql.specs.Texts.{select_auth_keys_text, select_extras_text, select_machines_text, select_meta_text, select_pending_text, select_policy_text, select_users_text}
+use Rattle.store_sql.specs.declared.texts.TheConstants.{SELECT_AUTH_KEYS, SELECT_EXTRAS, SELECT_MACHINES, SELECT_META, SELECT_PENDING, SELECT_POLICY, SELECT_USERS}
 use Rattle.store_sql.proofs.Selects.{select_auth_keys_means, select_extras_means, select_machines_means, select_meta_means, select_pending_means, select_policy_means, select_users_means}
 use Rattle.store_sql.proofs.Shows.{shows_each}
 use Rattle.store_reads.specs.Back.{IsOfOurs, IsOurs, IsRowTaken, IsTakenExtra}
@@ -194,54 +193,54 @@ rules db ours rule = subst (λ s. Keeps rule s db.trees) ours.schema (ours.obeys
 
 -- ---- tables
 
-pub next_stands : (old new : State) (next : Counters) → IsOurs old.now → Shown select_meta_text [] old new (shown_row (meta_cells next) ∷ []) → old.now.trees 0 ≡ tree_row (meta_cells next) ∷ []
+pub next_stands : (old new : State) (next : Counters) → IsOurs old.now → Shown SELECT_META.now [] old new (shown_row (meta_cells next) ∷ []) → old.now.trees 0 ≡ tree_row (meta_cells next) ∷ []
 next_stands old new next ours shown =
     let typed = only_typed schema_1 old.now.trees meta_table (old.now.trees 0) (rules old.now ours Datatype).0 in
     let whole = whole_rows (column_of (codes "k") Integer false) (drop 1 meta_table.columns) (old.now.trees 0) typed (rules old.now ours NotNull).0 refl in
-    one_permutation _ _ (stand_as_shown meta_cells 5 (old.now.trees 0) (next ∷ []) whole (λ x. refl) (shows_each 0 _ select_meta_text _ old new _ select_meta_means ours.schema shown))
+    one_permutation _ _ (stand_as_shown meta_cells 5 (old.now.trees 0) (next ∷ []) whole (λ x. refl) (shows_each 0 _ SELECT_META.now _ old new _ select_meta_means ours.schema shown))
 
-pub users_stand : (old new : State) (xs : List User) → IsOurs old.now → Shown select_users_text [] old new (map (λ x. shown_row (user_cells x)) xs) → HoldsInTree (old.now.trees 1) (map (λ x. tree_row (user_cells x)) xs)
+pub users_stand : (old new : State) (xs : List User) → IsOurs old.now → Shown SELECT_USERS.now [] old new (map (λ x. shown_row (user_cells x)) xs) → HoldsInTree (old.now.trees 1) (map (λ x. tree_row (user_cells x)) xs)
 users_stand old new xs ours shown =
     let typed = only_typed schema_1 old.now.trees users_table (old.now.trees 1) (rules old.now ours Datatype).1.0 in
     let whole = whole_rows (column_of (codes "id") Integer false) (drop 1 users_table.columns) (old.now.trees 1) typed (rules old.now ours NotNull).1.0 refl in
-    stand_as_shown user_cells 1 (old.now.trees 1) xs whole (λ x. refl) (shows_each 1 _ select_users_text _ old new _ select_users_means ours.schema shown)
+    stand_as_shown user_cells 1 (old.now.trees 1) xs whole (λ x. refl) (shows_each 1 _ SELECT_USERS.now _ old new _ select_users_means ours.schema shown)
 
-pub keys_stand : (old new : State) (xs : List AuthKey) → IsOurs old.now → Shown select_auth_keys_text [] old new (map (λ x. shown_row (auth_key_cells x)) xs) → HoldsInTree (old.now.trees 3) (map (λ x. tree_row (auth_key_cells x)) xs)
+pub keys_stand : (old new : State) (xs : List AuthKey) → IsOurs old.now → Shown SELECT_AUTH_KEYS.now [] old new (map (λ x. shown_row (auth_key_cells x)) xs) → HoldsInTree (old.now.trees 3) (map (λ x. tree_row (auth_key_cells x)) xs)
 keys_stand old new xs ours shown =
     let typed = only_typed schema_1 old.now.trees auth_keys_table (old.now.trees 3) (rules old.now ours Datatype).1.1.0 in
     let whole = whole_rows (column_of (codes "id") Integer false) (drop 1 auth_keys_table.columns) (old.now.trees 3) typed (rules old.now ours NotNull).1.1.0 refl in
-    stand_as_shown auth_key_cells 7 (old.now.trees 3) xs whole (λ x. refl) (shows_each 3 _ select_auth_keys_text _ old new _ select_auth_keys_means ours.schema shown)
+    stand_as_shown auth_key_cells 7 (old.now.trees 3) xs whole (λ x. refl) (shows_each 3 _ SELECT_AUTH_KEYS.now _ old new _ select_auth_keys_means ours.schema shown)
 
-pub pending_stand : (old new : State) (xs : List Pending) → IsOurs old.now → Shown select_pending_text [] old new (map (λ x. shown_row (pending_cells x)) xs) → HoldsInTree (old.now.trees 5) (map (λ x. tree_row (pending_cells x)) xs)
+pub pending_stand : (old new : State) (xs : List Pending) → IsOurs old.now → Shown SELECT_PENDING.now [] old new (map (λ x. shown_row (pending_cells x)) xs) → HoldsInTree (old.now.trees 5) (map (λ x. tree_row (pending_cells x)) xs)
 pending_stand old new xs ours shown =
     let typed = only_typed schema_1 old.now.trees pending_table (old.now.trees 5) (rules old.now ours Datatype).1.1.1.0 in
     let whole = whole_rows (column_of (codes "id") Integer false) (drop 1 pending_table.columns) (old.now.trees 5) typed (rules old.now ours NotNull).1.1.1.0 refl in
-    stand_as_shown pending_cells 9 (old.now.trees 5) xs whole (λ x. refl) (shows_each 5 _ select_pending_text _ old new _ select_pending_means ours.schema shown)
+    stand_as_shown pending_cells 9 (old.now.trees 5) xs whole (λ x. refl) (shows_each 5 _ SELECT_PENDING.now _ old new _ select_pending_means ours.schema shown)
 
-pub machines_stand : (old new : State) (xs : List Machine) → IsOurs old.now → Shown select_machines_text [] old new (map (λ x. shown_row (machine_cells x)) xs) → HoldsInTree (old.now.trees 8) (map (λ x. tree_row (machine_cells x)) xs)
+pub machines_stand : (old new : State) (xs : List Machine) → IsOurs old.now → Shown SELECT_MACHINES.now [] old new (map (λ x. shown_row (machine_cells x)) xs) → HoldsInTree (old.now.trees 8) (map (λ x. tree_row (machine_cells x)) xs)
 machines_stand old new xs ours shown =
     let typed = only_typed schema_1 old.now.trees machines_table (old.now.trees 8) (rules old.now ours Datatype).1.1.1.1.0 in
     let whole = whole_rows (column_of (codes "id") Integer false) (drop 1 machines_table.columns) (old.now.trees 8) typed (rules old.now ours NotNull).1.1.1.1.0 refl in
-    stand_as_shown machine_cells 16 (old.now.trees 8) xs whole (λ x. refl) (shows_each 8 _ select_machines_text _ old new _ select_machines_means ours.schema shown)
+    stand_as_shown machine_cells 16 (old.now.trees 8) xs whole (λ x. refl) (shows_each 8 _ SELECT_MACHINES.now _ old new _ select_machines_means ours.schema shown)
 
-pub extras_stand : (old new : State) (xs : List DnsExtra) → IsOurs old.now → Shown select_extras_text [] old new (shown_extras 1 xs) → HoldsInTree (old.now.trees 14) (placed_rows 1 xs)
+pub extras_stand : (old new : State) (xs : List DnsExtra) → IsOurs old.now → Shown SELECT_EXTRAS.now [] old new (shown_extras 1 xs) → HoldsInTree (old.now.trees 14) (placed_rows 1 xs)
 extras_stand old new xs ours shown =
     let typed = only_typed schema_1 old.now.trees extras_table (old.now.trees 14) (rules old.now ours Datatype).1.1.1.1.1.0 in
     let whole = whole_rows (column_of (codes "place") Integer false) (drop 1 extras_table.columns) (old.now.trees 14) typed (rules old.now ours NotNull).1.1.1.1.1.0 refl in
-    let placed = subst (λ rows. Shown select_extras_text [] old new rows) (sym (shown_places 1 xs)) shown in
+    let placed = subst (λ rows. Shown SELECT_EXTRAS.now [] old new rows) (sym (shown_places 1 xs)) shown in
     subst (λ rows. IsPermutation rows (old.now.trees 14)) (sym (placed_are 1 xs))
-    (stand_as_shown (λ (p : ℕ × DnsExtra). extra_cells p.0 p.1) 2 (old.now.trees 14) (with_places 1 xs) whole (λ x. refl) (shows_each 14 _ select_extras_text _ old new _ select_extras_means ours.schema placed))
+    (stand_as_shown (λ (p : ℕ × DnsExtra). extra_cells p.0 p.1) 2 (old.now.trees 14) (with_places 1 xs) whole (λ x. refl) (shows_each 14 _ SELECT_EXTRAS.now _ old new _ select_extras_means ours.schema placed))
 
 policy_alone : (policy : Option (List ℕ)) (tree : List Row) → IsPermutation (map (λ body. tree_row (policy_cells body)) (option_to_list policy)) tree → tree ≡ policy_row policy
 policy_alone None [] same = refl
 policy_alone None (r ∷ rs) same = absurd (omega (arith, length_permutation _ _ same))
 policy_alone (Some body) tree same = one_permutation _ _ same
 
-pub policy_stands : (old new : State) (policy : Option (List ℕ)) → IsOurs old.now → Shown select_policy_text [] old new (map (λ body. shown_row (policy_cells body)) (option_to_list policy)) → old.now.trees 15 ≡ policy_row policy
+pub policy_stands : (old new : State) (policy : Option (List ℕ)) → IsOurs old.now → Shown SELECT_POLICY.now [] old new (map (λ body. shown_row (policy_cells body)) (option_to_list policy)) → old.now.trees 15 ≡ policy_row policy
 policy_stands old new policy ours shown =
     let typed = only_typed schema_1 old.now.trees policy_table (old.now.trees 15) (rules old.now ours Datatype).1.1.1.1.1.1.0 in
     let whole = whole_rows (column_of (codes "k") Integer false) (drop 1 policy_table.columns) (old.now.trees 15) typed (rules old.now ours NotNull).1.1.1.1.1.1.0 refl in
-    policy_alone policy (old.now.trees 15) (stand_as_shown policy_cells 1 (old.now.trees 15) (option_to_list policy) whole (λ x. refl) (shows_each 15 _ select_policy_text _ old new _ select_policy_means ours.schema shown))
+    policy_alone policy (old.now.trees 15) (stand_as_shown policy_cells 1 (old.now.trees 15) (option_to_list policy) whole (λ x. refl) (shows_each 15 _ SELECT_POLICY.now _ old new _ select_policy_means ours.schema shown))
 
 -- ---- readings
 
@@ -296,12 +295,6 @@ extra_read_on rows i place row all new less is at so taken =
       shows = one_more rows i row less is ∙ ap₂ (λ l r. l ++ r ∷ []) so.shows (taken.shows ∙ ap (λ n. shown_row (extra_cells n taken.it)) here) ∙ sym (shown_last 1 all taken.it) ∙ ap (shown_extras 1) (sym taken.added);
       readable = subst (AllByRecursion IsReadableExtra) (sym taken.added) (all_with_last _ all taken.it so.readable taken.readable);
     }
-
--- ---- stages
-
--- what was read stands, and so does what was read behind it
-pub stands_then : {F : Type 0} (P : F → Type 0) (Q : Trees → Rows → Type 0) (field : Rows → F) (new base : Rows) (old mid : Database) → mid ≡ old → new ≡ base → P (field base) → Q mid.trees new → P (field new) × Q old.trees new
-stands_then P Q field new base old mid same is one two = (subst P (ap field (sym is)) one, subst (λ (d : Database). Q d.trees new) same two)
 
 pub if_some : {T : Type 0} (o : Option T) (P Q : T → Type 0) → ((x : T) → P x → Q x) → IfSome o P → IfSome o Q
 if_some None P Q f h = tt

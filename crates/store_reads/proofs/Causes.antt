@@ -1,5 +1,5 @@
 -- Why a query of our tables fails: nothing in the tables can refuse it.
-use Rattle.std.proofs.Common.{◌≡◌, ◌≢◌, ℕ, Any, Bool, true, false, List, [], Ok, Err, Result, IfErr, IsSome, append-nil, inl, inr, length, refl, sym, ap, subst, subst₂, ◌∙◌, arith}
+use Rattle.std.proofs.Common.{◌≡◌, ℕ, Any, Bool, true, List, [], Ok, Err, Result, IfErr, IsSome, append-nil, inl, inr, length, refl, sym, ap, subst, subst₂, ◌∙◌, arith}
 use Rattle.std.proofs.lemmas.Bool.{cases_Bool, true≢false}
 use Rattle.std.proofs.lemmas.Bool.Decides.{nat_tests}
 use Rattle.row_keeper.specs.declared.keeper.LoadFault.{LoadFault}
@@ -22,38 +22,38 @@ use Rattle.store_commits.specs.declared.fault.Fault.TheVariants as fault
 use Rattle.store_sql.specs.Commands.{all_by_id}
 use Rattle.store_sql.specs.Means.{is_whole}
 use Rattle.store_sql.specs.Schema.{schema_1}
-use Rattle.store_sql.specs.Texts.{select_auth_keys_text, select_extras_text, select_machines_text, select_meta_text, select_pending_text, select_policy_text, select_users_text}
+use Rattle.store_sql.specs.declared.texts.TheConstants.{SELECT_AUTH_KEYS, SELECT_EXTRAS, SELECT_MACHINES, SELECT_META, SELECT_PENDING, SELECT_POLICY, SELECT_USERS}
 use Rattle.store_sql.proofs.Selects.{select_auth_keys_means, select_extras_means, select_machines_means, select_meta_means, select_pending_means, select_policy_means, select_users_means}
 use Rattle.store_reads.specs.Causes.{FailsOnlyFor, HasCause, IsCaused, ListsOurs, TakesNone, load_fault_of}
 use Rattle.store_reads.specs.Seen.{IsSeen}
 
 -- ---- the texts
 
-pub meta_listed : ListsOurs select_meta_text
+pub meta_listed : ListsOurs SELECT_META.now
 unfolding understood everything
 meta_listed = record { tree = _; columns = _; names = _; means = select_meta_means; bare = refl; typed = refl }
 
-pub users_listed : ListsOurs select_users_text
+pub users_listed : ListsOurs SELECT_USERS.now
 unfolding understood everything
 users_listed = record { tree = _; columns = _; names = _; means = select_users_means; bare = refl; typed = refl }
 
-pub auth_keys_listed : ListsOurs select_auth_keys_text
+pub auth_keys_listed : ListsOurs SELECT_AUTH_KEYS.now
 unfolding understood everything
 auth_keys_listed = record { tree = _; columns = _; names = _; means = select_auth_keys_means; bare = refl; typed = refl }
 
-pub pending_listed : ListsOurs select_pending_text
+pub pending_listed : ListsOurs SELECT_PENDING.now
 unfolding understood everything
 pending_listed = record { tree = _; columns = _; names = _; means = select_pending_means; bare = refl; typed = refl }
 
-pub machines_listed : ListsOurs select_machines_text
+pub machines_listed : ListsOurs SELECT_MACHINES.now
 unfolding understood everything
 machines_listed = record { tree = _; columns = _; names = _; means = select_machines_means; bare = refl; typed = refl }
 
-pub extras_listed : ListsOurs select_extras_text
+pub extras_listed : ListsOurs SELECT_EXTRAS.now
 unfolding understood everything
 extras_listed = record { tree = _; columns = _; names = _; means = select_extras_means; bare = refl; typed = refl }
 
-pub policy_listed : ListsOurs select_policy_text
+pub policy_listed : ListsOurs SELECT_POLICY.now
 unfolding understood everything
 policy_listed = record { tree = _; columns = _; names = _; means = select_policy_means; bare = refl; typed = refl }
 

@@ -3,13 +3,11 @@ use Rattle.std.specs.Prelude.{◌≡◌, ℕ, true, List, [], ◌∷◌, ◌++�
 use Rattle.std.specs.List.{AllByRecursion}
 use Rattle.std.specs.Str.{is_utf8}
 use Rattle.net_rows.specs.declared.change.Counters.{Counters}
-use Rattle.net_rows.specs.declared.rows.Rows.{Rows}
 use Rattle.sqlite.specs.Effect.{Database, IsDatabase}
-use Rattle.sqlite_trees.specs.Tree.{Trees}
 use Rattle.sqlite_value.specs.Order.{Row}
 use Rattle.store_commits.specs.Kept.{HoldsInTree, placed_rows, policy_row, tree_row}
 use Rattle.store_rows.specs.Readable.{IsReadable, IsReadableExtra}
-use Rattle.store_rows.specs.Rows.{IsTypedCounters, IsTypedKey, IsTypedMachine, IsTypedPending, IsTypedUser, auth_key_cells, extra_cells, machine_cells, meta_cells, pending_cells, user_cells}
+use Rattle.store_rows.specs.Rows.{IsTypedCounters, extra_cells, meta_cells}
 use Rattle.store_rows.specs.declared.cell.Cell.{Cell}
 use Rattle.store_rows.specs.declared.cell.Cell.TheVariants.{Null, Number, Text, Blob, Other}
 use Rattle.store_sql.specs.Schema.{schema_1}
@@ -58,27 +56,3 @@ HoldsPolicy tree policy = (tree ≡ policy_row policy) × IfSome policy (λ body
 -- .. and of the counters.
 abbrev pub HoldsNext : List Row → Counters → Type 0
 HoldsNext tree next = (tree ≡ tree_row (meta_cells next) ∷ []) × IsTypedCounters next
-
--- The policy stands there, ..
-abbrev pub PolicyStands : Trees → Rows → Type 0
-PolicyStands trees rows = HoldsPolicy (trees 15) rows.policy
-
--- .. and the extra records do, ..
-abbrev pub ExtrasStand : Trees → Rows → Type 0
-ExtrasStand trees rows = HoldsExtras (trees 14) rows.extras × PolicyStands trees rows
-
--- .. and so on, up to the counters.
-abbrev pub MachinesStand : Trees → Rows → Type 0
-MachinesStand trees rows = HoldsReadable machine_cells IsTypedMachine (trees 8) rows.machines × ExtrasStand trees rows
-
-abbrev pub PendingStands : Trees → Rows → Type 0
-PendingStands trees rows = HoldsReadable pending_cells IsTypedPending (trees 5) rows.pending × MachinesStand trees rows
-
-abbrev pub KeysStand : Trees → Rows → Type 0
-KeysStand trees rows = HoldsReadable auth_key_cells IsTypedKey (trees 3) rows.keys × PendingStands trees rows
-
-abbrev pub UsersStand : Trees → Rows → Type 0
-UsersStand trees rows = HoldsReadable user_cells IsTypedUser (trees 1) rows.users × KeysStand trees rows
-
-abbrev pub NextStands : Trees → Rows → Type 0
-NextStands trees rows = HoldsNext (trees 0) rows.next × UsersStand trees rows

@@ -5,12 +5,12 @@ ghost use Rattle.store_reads.specs.Back.{IsOfOurs};
 ghost use Rattle.store_rows.specs.Reads.{IsReadBack};
 ghost use Rattle.store_rows.specs.Rows.{IsTypedKey, IsTypedMachine, IsTypedPending, IsTypedUser, auth_key_cells, machine_cells, pending_cells, user_cells};
 ghost use Rattle.store_rows.specs.declared.cell.Cell.{Cell};
-ghost use Rattle.store_sql.specs.Texts.{select_auth_keys_text, select_machines_text, select_pending_text, select_users_text};
+ghost use Rattle.store_sql.specs.declared.texts.TheConstants.{SELECT_AUTH_KEYS, SELECT_MACHINES, SELECT_PENDING, SELECT_USERS};
 
 use net_rows::{AuthKey, Kind, Machine, Pending, User};
 use std::alloc::Global;
 use store_rows::{Cell, read_auth_key, read_machine, read_pending, read_user};
-use store_sql::{select_auth_keys, select_machines, select_pending, select_users};
+use store_sql::{SELECT_AUTH_KEYS, SELECT_MACHINES, SELECT_PENDING, SELECT_USERS};
 use tail_base::NoMemory;
 
 /// Rows that are read from a table of their own.
@@ -45,14 +45,14 @@ impl Loaded for User {
 
     ghost Typed = { IsTypedUser };
 
-    ghost select_text = { select_users_text };
+    ghost select_text = { SELECT_USERS.now };
 
     fn kind() -> Kind {
         Kind::User
     }
 
     fn select() -> &'static str {
-        select_users()
+        SELECT_USERS
     }
 
     fn read(alloc: Global, cells: &[Cell]) -> Result<Option<Self>, NoMemory> {
@@ -67,14 +67,14 @@ impl Loaded for AuthKey {
 
     ghost Typed = { IsTypedKey };
 
-    ghost select_text = { select_auth_keys_text };
+    ghost select_text = { SELECT_AUTH_KEYS.now };
 
     fn kind() -> Kind {
         Kind::Key
     }
 
     fn select() -> &'static str {
-        select_auth_keys()
+        SELECT_AUTH_KEYS
     }
 
     fn read(alloc: Global, cells: &[Cell]) -> Result<Option<Self>, NoMemory> {
@@ -89,14 +89,14 @@ impl Loaded for Pending {
 
     ghost Typed = { IsTypedPending };
 
-    ghost select_text = { select_pending_text };
+    ghost select_text = { SELECT_PENDING.now };
 
     fn kind() -> Kind {
         Kind::Pending
     }
 
     fn select() -> &'static str {
-        select_pending()
+        SELECT_PENDING
     }
 
     fn read(alloc: Global, cells: &[Cell]) -> Result<Option<Self>, NoMemory> {
@@ -111,14 +111,14 @@ impl Loaded for Machine {
 
     ghost Typed = { IsTypedMachine };
 
-    ghost select_text = { select_machines_text };
+    ghost select_text = { SELECT_MACHINES.now };
 
     fn kind() -> Kind {
         Kind::Machine
     }
 
     fn select() -> &'static str {
-        select_machines()
+        SELECT_MACHINES
     }
 
     fn read(alloc: Global, cells: &[Cell]) -> Result<Option<Self>, NoMemory> {

@@ -27,7 +27,7 @@ use sqlite::{Alter, Connection, Row};
 use std::alloc::Global;
 use store_commits::Fault;
 use store_rows::{read_extra, read_meta, read_policy_text};
-use store_sql::{select_extras, select_meta, select_policy};
+use store_sql::{SELECT_EXTRAS, SELECT_META, SELECT_POLICY};
 use tail_base::{Items, Text};
 use tailcfg::DnsExtra;
 
@@ -82,7 +82,7 @@ pub(crate) fn read_next<S: Alter>(
     ensures back { HasCleanDisk (state S.Store conn.new) → IsOurs (state S.Store conn.old).now
         → IfOk result (HoldsNext ((state S.Store conn.old).now.trees 0)) }
 {
-    match rows_of(conn, select_meta()) {
+    match rows_of(conn, SELECT_META) {
         Ok(rows) => next_of(alloc, rows.as_slice()),
         Err(fault) => Err(load_fault(fault)),
     }
@@ -160,7 +160,7 @@ pub(crate) fn read_extras<S: Alter>(
     ensures back { HasCleanDisk (state S.Store conn.new) → IsOurs (state S.Store conn.old).now
         → IfOk result (HoldsExtras ((state S.Store conn.old).now.trees 14)) }
 {
-    match rows_of(conn, select_extras()) {
+    match rows_of(conn, SELECT_EXTRAS) {
         Ok(rows) => extras_in(alloc, rows.as_slice()),
         Err(fault) => Err(load_fault(fault)),
     }
@@ -213,7 +213,7 @@ pub(crate) fn read_policy<S: Alter>(
     ensures back { HasCleanDisk (state S.Store conn.new) → IsOurs (state S.Store conn.old).now
         → IfOk result (HoldsPolicy ((state S.Store conn.old).now.trees 15)) }
 {
-    match rows_of(conn, select_policy()) {
+    match rows_of(conn, SELECT_POLICY) {
         Ok(rows) => policy_of(alloc, rows.as_slice()),
         Err(fault) => Err(load_fault(fault)),
     }

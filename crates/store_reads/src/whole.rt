@@ -8,7 +8,7 @@ ghost use Rattle.store_commits.specs.Kept.{AreStored, Keeps};
 ghost use Rattle.store_sql.specs.Schema.{schema_1};
 ghost use Rattle.store_reads.specs.Readable.{AreReadable, Fills, Yields};
 ghost use Rattle.store_reads.specs.Causes.{IsCaused};
-ghost use Rattle.store_reads.specs.Back.{ExtrasStand, HoldsReadable, IsOurs, KeysStand, MachinesStand, NextStands, PendingStands, PolicyStands, UsersStand};
+ghost use Rattle.store_reads.specs.Back.{HoldsReadable, IsOurs};
 ghost use Rattle.store_reads.specs.Seen.{IsSeen};
 
 use crate::listed::read_all;
@@ -82,207 +82,27 @@ fn read_machines<S: Alter>(
     read_all(conn, alloc)
 }
 
-/// Reads the policy.
-fn fill_policy<S: Alter>(
-    conn: &mut Connection<S>,
-    alloc: Global,
-    rows: &mut Rows,
-) -> Result<(), LoadFault>
+/// Reads each list and the counters, one behind the other. It fills what its caller holds, since rows
+/// that stand here would be taken apart at each `?`.
+fn fill<S: Alter>(conn: &mut Connection<S>, alloc: Global, rows: &mut Rows) -> Result<(), LoadFault>
     ensures seen { IsSeen schema_1 (state S.Store conn.old) (state S.Store conn.new)
         (is_ok result) }
     ensures cause { IsCaused (state S.Store conn.old) (state S.Store conn.new) result }
     ensures read { HasCleanDisk (state S.Store conn.new) → (all : Rows)
         → Keeps (state S.Store conn.old).now all → AreReadable all
-        → Fills result (rows.new ≡ record rows.old {
-          policy = all.policy;
-        }) }
+        → Fills result (rows.new ≡ all) }
     ensures back { HasCleanDisk (state S.Store conn.new) → IsOurs (state S.Store conn.old).now
-        → OnOk result ((rows.new ≡ record rows.old {
-          policy = rows.new.policy;
-        }) × PolicyStands (state S.Store conn.old).now.trees rows.new) }
-{
-    rows.policy = read_policy(conn, alloc)?;
-    Ok(())
-}
-
-/// Reads the extra records, and the policy behind them.
-fn fill_extras<S: Alter>(
-    conn: &mut Connection<S>,
-    alloc: Global,
-    rows: &mut Rows,
-) -> Result<(), LoadFault>
-    ensures seen { IsSeen schema_1 (state S.Store conn.old) (state S.Store conn.new)
-        (is_ok result) }
-    ensures cause { IsCaused (state S.Store conn.old) (state S.Store conn.new) result }
-    ensures read { HasCleanDisk (state S.Store conn.new) → (all : Rows)
-        → Keeps (state S.Store conn.old).now all → AreReadable all
-        → Fills result (rows.new ≡ record rows.old {
-          extras = all.extras;
-          policy = all.policy;
-        }) }
-    ensures back { HasCleanDisk (state S.Store conn.new) → IsOurs (state S.Store conn.old).now
-        → OnOk result ((rows.new ≡ record rows.old {
-          extras = rows.new.extras;
-          policy = rows.new.policy;
-        }) × ExtrasStand (state S.Store conn.old).now.trees rows.new) }
-{
-    rows.extras = read_extras(conn, alloc)?;
-    fill_policy(conn, alloc, rows)
-}
-
-/// Reads the machines, and what comes behind them.
-fn fill_machines<S: Alter>(
-    conn: &mut Connection<S>,
-    alloc: Global,
-    rows: &mut Rows,
-) -> Result<(), LoadFault>
-    ensures seen { IsSeen schema_1 (state S.Store conn.old) (state S.Store conn.new)
-        (is_ok result) }
-    ensures cause { IsCaused (state S.Store conn.old) (state S.Store conn.new) result }
-    ensures read { HasCleanDisk (state S.Store conn.new) → (all : Rows)
-        → Keeps (state S.Store conn.old).now all → AreReadable all
-        → Fills result (rows.new ≡ record rows.old {
-          machines = all.machines;
-          extras = all.extras;
-          policy = all.policy;
-        }) }
-    ensures back { HasCleanDisk (state S.Store conn.new) → IsOurs (state S.Store conn.old).now
-        → OnOk result ((rows.new ≡ record rows.old {
-          machines = rows.new.machines;
-          extras = rows.new.extras;
-          policy = rows.new.policy;
-        }) × MachinesStand (state S.Store conn.old).now.trees rows.new) }
-{
-    rows.machines = read_machines(conn, alloc)?;
-    fill_extras(conn, alloc, rows)
-}
-
-/// Reads the pending entries, and what comes behind them.
-fn fill_pending<S: Alter>(
-    conn: &mut Connection<S>,
-    alloc: Global,
-    rows: &mut Rows,
-) -> Result<(), LoadFault>
-    ensures seen { IsSeen schema_1 (state S.Store conn.old) (state S.Store conn.new)
-        (is_ok result) }
-    ensures cause { IsCaused (state S.Store conn.old) (state S.Store conn.new) result }
-    ensures read { HasCleanDisk (state S.Store conn.new) → (all : Rows)
-        → Keeps (state S.Store conn.old).now all → AreReadable all
-        → Fills result (rows.new ≡ record rows.old {
-          pending = all.pending;
-          machines = all.machines;
-          extras = all.extras;
-          policy = all.policy;
-        }) }
-    ensures back { HasCleanDisk (state S.Store conn.new) → IsOurs (state S.Store conn.old).now
-        → OnOk result ((rows.new ≡ record rows.old {
-          pending = rows.new.pending;
-          machines = rows.new.machines;
-          extras = rows.new.extras;
-          policy = rows.new.policy;
-        }) × PendingStands (state S.Store conn.old).now.trees rows.new) }
-{
-    rows.pending = read_pending_entries(conn, alloc)?;
-    fill_machines(conn, alloc, rows)
-}
-
-/// Reads the keys, and what comes behind them.
-fn fill_keys<S: Alter>(
-    conn: &mut Connection<S>,
-    alloc: Global,
-    rows: &mut Rows,
-) -> Result<(), LoadFault>
-    ensures seen { IsSeen schema_1 (state S.Store conn.old) (state S.Store conn.new)
-        (is_ok result) }
-    ensures cause { IsCaused (state S.Store conn.old) (state S.Store conn.new) result }
-    ensures read { HasCleanDisk (state S.Store conn.new) → (all : Rows)
-        → Keeps (state S.Store conn.old).now all → AreReadable all
-        → Fills result (rows.new ≡ record rows.old {
-          keys = all.keys;
-          pending = all.pending;
-          machines = all.machines;
-          extras = all.extras;
-          policy = all.policy;
-        }) }
-    ensures back { HasCleanDisk (state S.Store conn.new) → IsOurs (state S.Store conn.old).now
-        → OnOk result ((rows.new ≡ record rows.old {
-          keys = rows.new.keys;
-          pending = rows.new.pending;
-          machines = rows.new.machines;
-          extras = rows.new.extras;
-          policy = rows.new.policy;
-        }) × KeysStand (state S.Store conn.old).now.trees rows.new) }
-{
-    rows.keys = read_keys(conn, alloc)?;
-    fill_pending(conn, alloc, rows)
-}
-
-/// Reads the users, and what comes behind them.
-fn fill_users<S: Alter>(
-    conn: &mut Connection<S>,
-    alloc: Global,
-    rows: &mut Rows,
-) -> Result<(), LoadFault>
-    ensures seen { IsSeen schema_1 (state S.Store conn.old) (state S.Store conn.new)
-        (is_ok result) }
-    ensures cause { IsCaused (state S.Store conn.old) (state S.Store conn.new) result }
-    ensures read { HasCleanDisk (state S.Store conn.new) → (all : Rows)
-        → Keeps (state S.Store conn.old).now all → AreReadable all
-        → Fills result (rows.new ≡ record rows.old {
-          users = all.users;
-          keys = all.keys;
-          pending = all.pending;
-          machines = all.machines;
-          extras = all.extras;
-          policy = all.policy;
-        }) }
-    ensures back { HasCleanDisk (state S.Store conn.new) → IsOurs (state S.Store conn.old).now
-        → OnOk result ((rows.new ≡ record rows.old {
-          users = rows.new.users;
-          keys = rows.new.keys;
-          pending = rows.new.pending;
-          machines = rows.new.machines;
-          extras = rows.new.extras;
-          policy = rows.new.policy;
-        }) × UsersStand (state S.Store conn.old).now.trees rows.new) }
-{
-    rows.users = read_users(conn, alloc)?;
-    fill_keys(conn, alloc, rows)
-}
-
-/// Reads the counters, and all rows behind them.
-fn fill_next<S: Alter>(
-    conn: &mut Connection<S>,
-    alloc: Global,
-    rows: &mut Rows,
-) -> Result<(), LoadFault>
-    ensures seen { IsSeen schema_1 (state S.Store conn.old) (state S.Store conn.new)
-        (is_ok result) }
-    ensures cause { IsCaused (state S.Store conn.old) (state S.Store conn.new) result }
-    ensures read { HasCleanDisk (state S.Store conn.new) → (all : Rows)
-        → Keeps (state S.Store conn.old).now all → AreReadable all
-        → Fills result (rows.new ≡ record rows.old {
-          next = all.next;
-          users = all.users;
-          keys = all.keys;
-          pending = all.pending;
-          machines = all.machines;
-          extras = all.extras;
-          policy = all.policy;
-        }) }
-    ensures back { HasCleanDisk (state S.Store conn.new) → IsOurs (state S.Store conn.old).now
-        → OnOk result ((rows.new ≡ record rows.old {
-          next = rows.new.next;
-          users = rows.new.users;
-          keys = rows.new.keys;
-          pending = rows.new.pending;
-          machines = rows.new.machines;
-          extras = rows.new.extras;
-          policy = rows.new.policy;
-        }) × NextStands (state S.Store conn.old).now.trees rows.new) }
+        → OnOk result (AreStored (state S.Store conn.old).now.trees rows.new
+        × AreReadable rows.new) }
 {
     rows.next = read_next(conn, alloc)?;
-    fill_users(conn, alloc, rows)
+    rows.users = read_users(conn, alloc)?;
+    rows.keys = read_keys(conn, alloc)?;
+    rows.pending = read_pending_entries(conn, alloc)?;
+    rows.machines = read_machines(conn, alloc)?;
+    rows.extras = read_extras(conn, alloc)?;
+    rows.policy = read_policy(conn, alloc)?;
+    Ok(())
 }
 
 /// No rows, and counters at 1.
@@ -311,7 +131,7 @@ pub fn read_rows<S: Alter>(conn: &mut Connection<S>, alloc: Global) -> Result<Ro
         AreStored (state S.Store conn.old).now.trees all × AreReadable all) }
 {
     let mut rows = no_rows(alloc);
-    match fill_next(conn, alloc, &mut rows) {
+    match fill(conn, alloc, &mut rows) {
         Ok(()) => Ok(rows),
         Err(fault) => Err(fault),
     }

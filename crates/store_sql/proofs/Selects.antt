@@ -6,37 +6,37 @@ use Rattle.sqlite.specs.Listing.{listing_schema, understood}
 use Rattle.store_sql.specs.Commands.{select_meta, select_users, select_auth_keys, select_pending, select_machines, select_extras, select_policy}
 use Rattle.store_sql.specs.Means.{Means}
 use Rattle.store_sql.specs.Schema.{no_schema}
-use Rattle.store_sql.specs.Texts.{select_schema_text, select_meta_text, select_users_text, select_auth_keys_text, select_pending_text, select_machines_text, select_extras_text, select_policy_text}
+use Rattle.store_sql.specs.declared.texts.TheConstants.{SELECT_AUTH_KEYS, SELECT_EXTRAS, SELECT_MACHINES, SELECT_META, SELECT_PENDING, SELECT_POLICY, SELECT_SCHEMA, SELECT_USERS}
 
-pub select_meta_means : Means select_meta_text select_meta
+pub select_meta_means : Means SELECT_META.now select_meta
 unfolding understood everything
 select_meta_means = record { command_is = refl; whole = refl; plain = (refl, refl); no_listing = refl }
 
-pub select_users_means : Means select_users_text select_users
+pub select_users_means : Means SELECT_USERS.now select_users
 unfolding understood everything
 select_users_means = record { command_is = refl; whole = refl; plain = (refl, refl); no_listing = refl }
 
-pub select_auth_keys_means : Means select_auth_keys_text select_auth_keys
+pub select_auth_keys_means : Means SELECT_AUTH_KEYS.now select_auth_keys
 unfolding understood everything
 select_auth_keys_means = record { command_is = refl; whole = refl; plain = (refl, refl); no_listing = refl }
 
-pub select_pending_means : Means select_pending_text select_pending
+pub select_pending_means : Means SELECT_PENDING.now select_pending
 unfolding understood everything
 select_pending_means = record { command_is = refl; whole = refl; plain = (refl, refl); no_listing = refl }
 
-pub select_machines_means : Means select_machines_text select_machines
+pub select_machines_means : Means SELECT_MACHINES.now select_machines
 unfolding understood everything
 select_machines_means = record { command_is = refl; whole = refl; plain = (refl, refl); no_listing = refl }
 
-pub select_extras_means : Means select_extras_text select_extras
+pub select_extras_means : Means SELECT_EXTRAS.now select_extras
 unfolding understood everything
 select_extras_means = record { command_is = refl; whole = refl; plain = (refl, refl); no_listing = refl }
 
-pub select_policy_means : Means select_policy_text select_policy
+pub select_policy_means : Means SELECT_POLICY.now select_policy
 unfolding understood everything
 select_policy_means = record { command_is = refl; whole = refl; plain = (refl, refl); no_listing = refl }
 
 -- a database without tables is asked for their names, and for nothing else
-pub select_schema_plain : IsPlain (understood no_schema select_schema_text)
+pub select_schema_plain : IsPlain (understood no_schema SELECT_SCHEMA.now)
 unfolding understood listing_schema everything
 select_schema_plain = (refl, refl)

@@ -13,7 +13,7 @@ use Rattle.sqlite_schema.specs.declared.schema.Schema.{Schema}
 use Rattle.sqlite_schema.specs.declared.schema.Table.{Table}
 use Rattle.sqlite_trees.specs.Tree.{Trees}
 use Rattle.store_sql.specs.Schema.{meta_table, users_table, auth_keys_table, pending_table, machines_table, extras_table, policy_table, schema_1}
-use Rattle.store_sql.specs.Texts.{create_meta_text, create_users_text, create_auth_keys_text, create_pending_text, create_machines_text, create_extras_text, create_policy_text}
+use Rattle.store_sql.specs.declared.texts.TheConstants.{CREATE_AUTH_KEYS, CREATE_EXTRAS, CREATE_MACHINES, CREATE_META, CREATE_PENDING, CREATE_POLICY, CREATE_USERS}
 
 -- Under this schema the text makes this table and nothing else.
 pub record IsMaking (schema : Schema) (text : List ℕ) (table : Table) : Type 0 where
@@ -41,10 +41,10 @@ AreEmpty tables trees = AllByRecursion (λ t. trees t.tree ≡ []) tables
 -- the texts of schema 1 in their order
 abbrev pub making_texts : List (List ℕ × Table)
 making_texts =
-    (create_meta_text, record meta_table { tree = 0 }) ∷ (create_users_text, record users_table { tree = 0 })
-    ∷ (create_auth_keys_text, record auth_keys_table { tree = 0 }) ∷ (create_pending_text, record pending_table { tree = 0 })
-    ∷ (create_machines_text, record machines_table { tree = 0 }) ∷ (create_extras_text, record extras_table { tree = 0 })
-    ∷ (create_policy_text, record policy_table { tree = 0 }) ∷ []
+    (CREATE_META.now, record meta_table { tree = 0 }) ∷ (CREATE_USERS.now, record users_table { tree = 0 })
+    ∷ (CREATE_AUTH_KEYS.now, record auth_keys_table { tree = 0 }) ∷ (CREATE_PENDING.now, record pending_table { tree = 0 })
+    ∷ (CREATE_MACHINES.now, record machines_table { tree = 0 }) ∷ (CREATE_EXTRAS.now, record extras_table { tree = 0 })
+    ∷ (CREATE_POLICY.now, record policy_table { tree = 0 }) ∷ []
 
 -- The tables that stand are empty, and with those of the remaining texts they are schema 1.
 pub record LeadsTo (rest : List (List ℕ × Table)) (db : Database) : Type 0 where

@@ -12,11 +12,25 @@ use Rattle.sqlite_schema.specs.declared.schema.Kind.TheVariants.{Integer, Text, 
 
 -- a column of a table that isn't strict, with no default
 abbrev pub column_of : List ℕ → Kind → Bool → Column
-column_of name kind not_null = record { name = name; kind = kind; is_strict = false; not_null = not_null; default = Null; collation = Binary }
+column_of name kind not_null = record {
+  name = name;
+  kind = kind;
+  is_strict = false;
+  not_null = not_null;
+  default = Null;
+  collation = Binary;
+}
 
 -- an automatic index on one column of a table
 abbrev pub automatic_of : List ℕ → ℕ → ℕ → ℕ → Index
-automatic_of name tree table place = record { name = name; tree = tree; table = table; columns = place ∷ []; order = plain; is_unique = true }
+automatic_of name tree table place = record {
+  name = name;
+  tree = tree;
+  table = table;
+  columns = place ∷ [];
+  order = plain;
+  is_unique = true;
+}
 
 -- the table `meta`
 abbrev pub meta_table : Table

@@ -1,30 +1,18 @@
 //! The statements by which tables are kept in a database, and what each means.
 #![tactic(auto)]
 
-mod create;
-mod delete;
-mod insert;
 mod laws;
-mod select;
-mod update;
+mod texts;
 
-pub use create::{
-    create_auth_keys, create_extras, create_machines, create_meta, create_pending, create_policy,
-    create_users,
-};
-pub use delete::{clear_extras, delete_auth_keys, delete_machines, delete_pending, delete_users};
-pub use insert::{
-    insert_auth_keys, insert_extras, insert_machines, insert_meta, insert_pending, insert_policy,
-    insert_users,
-};
 pub use laws::{
     deletes_leave_the_others, deletes_take_out_a_row, inserts_add_their_parameters,
     puts_replace_or_add, selects_show_all_rows, the_texts_make_the_schema, updates_replace_a_row,
 };
-pub use select::{
-    select_auth_keys, select_extras, select_machines, select_meta, select_pending, select_policy,
-    select_schema, select_users,
-};
-pub use update::{
-    update_auth_keys, update_machines, update_meta, update_pending, update_policy, update_users,
+pub use texts::{
+    CLEAR_EXTRAS, CREATE_AUTH_KEYS, CREATE_EXTRAS, CREATE_MACHINES, CREATE_META, CREATE_PENDING,
+    CREATE_POLICY, CREATE_USERS, DELETE_AUTH_KEYS, DELETE_MACHINES, DELETE_PENDING, DELETE_USERS,
+    INSERT_AUTH_KEYS, INSERT_EXTRAS, INSERT_MACHINES, INSERT_META, INSERT_PENDING, INSERT_POLICY,
+    INSERT_USERS, SELECT_AUTH_KEYS, SELECT_EXTRAS, SELECT_MACHINES, SELECT_META, SELECT_PENDING,
+    SELECT_POLICY, SELECT_SCHEMA, SELECT_USERS, UPDATE_AUTH_KEYS, UPDATE_MACHINES, UPDATE_META,
+    UPDATE_PENDING, UPDATE_POLICY, UPDATE_USERS,
 };

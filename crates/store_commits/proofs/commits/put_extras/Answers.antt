@@ -1,7 +1,6 @@
-use Rattle.std.proofs.Common.{◌≡◌, ◌+◌, [], refl, true, subst, rules, arith}
+use Rattle.std.proofs.Common.{◌≡◌, ◌+◌, refl, true, rules, arith}
 use Rattle.sqlite.specs.Held.{state}
 use Rattle.sqlite.specs.State.{HasCleanDisk}
-use Rattle.store_sql.specs.Ran.{HasRun}
 use Rattle.store_rows.specs.Readable.{IsReadableExtra}
 use Rattle.store_commits.proofs.KeptChange.{one_more_extra, one_more_readable}
 use Rattle.store_commits.proofs.KeptSteps.{extras_gone}
@@ -16,7 +15,7 @@ loop-extra-init g c =
       last = refl;
       same = search rules;
       pending = c.in_ok-run.ensures.pending;
-      made = λ clean. extras_gone old new c.in_ok-run.field-0 (subst (λ text. HasRun text [] c.in_ok-run.field-0 old new) c.clear_extras.ensures.value (c.in_ok-run.ensures.ran clean));
+      made = λ clean. extras_gone old new c.in_ok-run.field-0 (c.in_ok-run.ensures.ran clean);
       readable = tt;
     }
 

@@ -1,13 +1,12 @@
 use Rattle.std.proofs.Common.{arith}
 use Rattle.sqlite.specs.Held.{state}
 use Rattle.sqlite.specs.State.{HasCleanDisk}
-use Rattle.store_commits.proofs.KeptFirst.{leads_named}
 use Rattle.store_commits.proofs.creation.make_owner_tables.Goals as goal
 
 pub returns-clause-leads : goal.returns-clause-leads
 returns-clause-leads g c clean was =
     let clean_2 : HasCleanDisk (state g.S.Store c.make_table-2.new.tx.conn.now) = omega (arith, c.make_table-3.ensures.pending.survives.clean, clean) in
     let clean_1 : HasCleanDisk (state g.S.Store c.make_table.new.tx.conn.now) = omega (arith, c.in_ok-make_table-2.ensures.pending.survives.clean, clean_2) in
-    let after_1 = c.in_ok-make_table.ensures.leads clean_1 _ _ (leads_named _ _ _ _ _ c.create_meta.ensures.value was) in
-    let after_2 = c.in_ok-make_table-2.ensures.leads clean_2 _ _ (leads_named _ _ _ _ _ c.create_users.ensures.value after_1) in
-    c.make_table-3.ensures.leads clean _ _ (leads_named _ _ _ _ _ c.create_auth_keys.ensures.value after_2)
+    let after_1 = c.in_ok-make_table.ensures.leads clean_1 _ _ was in
+    let after_2 = c.in_ok-make_table-2.ensures.leads clean_2 _ _ after_1 in
+    c.make_table-3.ensures.leads clean _ _ after_2

@@ -4,7 +4,7 @@ use Rattle.sqlite.specs.Held.{state}
 use Rattle.sqlite.specs.State.{HasCleanDisk}
 use Rattle.store_rows.specs.Rows.{meta_cells}
 use Rattle.store_sql.specs.Ran.{IsPutBy}
-use Rattle.store_sql.specs.Texts.{insert_meta_text, update_meta_text}
+use Rattle.store_sql.specs.declared.texts.TheConstants.{INSERT_META, UPDATE_META}
 use Rattle.store_sql.proofs.Creates.{leads_first}
 use Rattle.store_commits.specs.Kept.{Keeps, value_of}
 use Rattle.store_commits.proofs.KeptChange.{where_ok}
@@ -18,5 +18,5 @@ returns-clause-made g c clean none =
     let new = (state g.S.Store c.put_next.new.tx.conn.now).now in
     let early : HasCleanDisk (state g.S.Store mid) = omega (arith, c.put_next.ensures.pending.survives.clean, clean) in
     let made = c.in_ok-make_tables.ensures.leads early (leads_first old none) in
-    where_ok c.put_next.result (IsPutBy update_meta_text insert_meta_text (map value_of (meta_cells empty_rows.next)) (state g.S.Store mid).now new) (Keeps new empty_rows)
+    where_ok c.put_next.result (IsPutBy UPDATE_META.now INSERT_META.now (map value_of (meta_cells empty_rows.next)) (state g.S.Store mid).now new) (Keeps new empty_rows)
     (λ put. keeps_first (state g.S.Store mid).now new made put) (c.put_next.ensures.put clean)

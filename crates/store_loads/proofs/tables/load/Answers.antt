@@ -16,3 +16,6 @@ returns-clause-damaged g c =
 
 pub returns-clause-keeps : goal.returns-clause-keeps
 returns-clause-keeps g c known = c.load_tables.ensures.keeps (c.is_autocommit.ensures.settled (search rules)) known
+
+pub returns-clause-spared : goal.returns-clause-spared
+returns-clause-spared g c = c.load_tables.ensures.spared (c.is_autocommit.ensures.settled (search rules))

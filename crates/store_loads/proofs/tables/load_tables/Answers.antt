@@ -5,7 +5,7 @@ use Rattle.sqlite.specs.Held.{state}
 use Rattle.store_loads.specs.Tells.{IsKnown}
 use Rattle.store_loads.specs.Told.{store_tells}
 use Rattle.store_loads.proofs.Firsts.{empty_readable}
-use Rattle.store_loads.proofs.Loading.{known_first, known_seen, still_first, still_seen, still_then}
+use Rattle.store_loads.proofs.Loading.{known_first, known_seen, spared_seen, still_first, still_seen, still_then}
 use Rattle.store_loads.proofs.tables.load_tables.Goals as goal
 
 pub returns-in-Ok-clause-first_whole : goal.returns-in-Ok-clause-first_whole
@@ -44,3 +44,8 @@ returns-in-Err-clause-keeps g c rest known =
     let mid = state g.S.Store c.prepare.new.conn in
     known_first old mid (λ clean none. omega (arith, (c.prepare.ensures.crash clean none).clean, clean)) (λ none clean opened. c.prepare.ensures.left rest none clean opened)
     (λ other. subst (λ h. IsKnown (state g.S.Store h)) (sym (c.prepare.ensures.other other)) known) known
+
+pub returns-in-Ok-clause-spared : goal.returns-in-Ok-clause-spared
+returns-in-Ok-clause-spared g c rest none clean opened =
+    spared_seen (state g.S.Store c.args.conn.now) (state g.S.Store c.prepare.new.conn) (state g.S.Store c.read_tables.new.conn) (is_ok c.read_tables.result) c.read_tables.ensures.seen c.in-Ok.ensures.ours opened clean
+    (λ early was. c.prepare.ensures.left rest none early was)

@@ -1,15 +1,13 @@
 use Rattle.std.proofs.Common.{List, [], sym, subst, is_ok, ◌∙◌}
 use Rattle.sqlite_value.specs.Order.{Row}
-use Rattle.sqlite.specs.Given.{IsPlain}
 use Rattle.sqlite.specs.Held.{state}
-use Rattle.sqlite.specs.Listing.{understood}
 use Rattle.sqlite.specs.State.{Shown}
 use Rattle.store_sql.specs.Schema.{schema_1}
 use Rattle.store_sql.proofs.Selects.{select_extras_means}
 use Rattle.std.proofs.lemmas.Result.{IfOk-weaker}
-use Rattle.store_sql.specs.Texts.{select_extras_text}
+use Rattle.store_sql.specs.declared.texts.TheConstants.{SELECT_EXTRAS}
 use Rattle.store_reads.proofs.BackLemmas.{extras_stand}
-use Rattle.store_reads.specs.Causes.{FailsOnlyFor, HasCause, ListsOurs}
+use Rattle.store_reads.specs.Causes.{FailsOnlyFor, HasCause}
 use Rattle.store_reads.proofs.Causes.{caused_less, extras_listed}
 use Rattle.store_reads.proofs.Seen.{seen_less}
 use Rattle.store_reads.proofs.ShownRows.{shown_records}
@@ -18,18 +16,18 @@ use Rattle.store_reads.proofs.single.read_extras.Goals as goal
 pub returns-in-Ok-clause-seen : goal.returns-in-Ok-clause-seen
 returns-in-Ok-clause-seen g c =
     seen_less schema_1 (state g.S.Store c.args.conn.now) (state g.S.Store c.rows_of.new.conn) (is_ok c.extras_in.result)
-    (c.in-Ok.ensures.seen schema_1 (subst (λ text. IsPlain (understood schema_1 text)) (sym c.select_extras.ensures.value) select_extras_means.plain))
+    (c.in-Ok.ensures.seen schema_1 select_extras_means.plain)
 
 pub returns-in-Err-clause-seen : goal.returns-in-Err-clause-seen
 returns-in-Err-clause-seen g c =
-    c.in-Err.ensures.seen schema_1 (subst (λ text. IsPlain (understood schema_1 text)) (sym c.select_extras.ensures.value) select_extras_means.plain)
+    c.in-Err.ensures.seen schema_1 select_extras_means.plain
 
 pub returns-in-Ok-clause-read : goal.returns-in-Ok-clause-read
 returns-in-Ok-clause-read g c clean all keeps good =
     let old = state g.S.Store c.args.conn.now in
     let new = state g.S.Store c.rows_of.new.conn in
     let rows : List Row = c.in-Ok.rows.items in
-    let shown = subst (λ text. Shown text [] old new rows) c.select_extras.ensures.value (c.in-Ok.ensures.shown clean) in
+    let shown = c.in-Ok.ensures.shown clean in
     c.extras_in.ensures.read all.extras (c.as_slice.ensures.value ∙ shown_records old new all rows keeps shown) good.extras
 
 pub returns-in-Ok-clause-back : goal.returns-in-Ok-clause-back
@@ -37,8 +35,8 @@ returns-in-Ok-clause-back g c clean ours =
     let old = state g.S.Store c.args.conn.now in
     let new = state g.S.Store c.rows_of.new.conn in
     let rows : List Row = c.in-Ok.rows.items in
-    let shown = subst (λ text. Shown text [] old new rows) c.select_extras.ensures.value (c.in-Ok.ensures.shown clean) in
-    IfOk-weaker c.extras_in.result _ _ (λ x h. (extras_stand old new x ours (subst (λ (rs : List Row). Shown select_extras_text [] old new rs) (sym c.as_slice.ensures.value ∙ h.0) shown), h.1)) c.extras_in.ensures.back
+    let shown = c.in-Ok.ensures.shown clean in
+    IfOk-weaker c.extras_in.result _ _ (λ x h. (extras_stand old new x ours (subst (λ (rs : List Row). Shown SELECT_EXTRAS.now [] old new rs) (sym c.as_slice.ensures.value ∙ h.0) shown), h.1)) c.extras_in.ensures.back
 
 pub returns-in-Ok-clause-cause : goal.returns-in-Ok-clause-cause
 returns-in-Ok-clause-cause g c =
@@ -47,4 +45,4 @@ returns-in-Ok-clause-cause g c =
 pub returns-in-Err-clause-cause : goal.returns-in-Err-clause-cause
 returns-in-Err-clause-cause g c clean has =
     subst (FailsOnlyFor (HasCause (state g.S.Store c.args.conn.now) (state g.S.Store c.rows_of.new.conn))) (sym c.load_fault.ensures.value)
-    (c.in-Err.ensures.cause (subst ListsOurs (sym c.select_extras.ensures.value) extras_listed) clean has)
+    (c.in-Err.ensures.cause extras_listed clean has)

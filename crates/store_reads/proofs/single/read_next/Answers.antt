@@ -1,15 +1,13 @@
 use Rattle.std.proofs.Common.{List, [], sym, subst, is_ok, ◌∙◌}
 use Rattle.sqlite_value.specs.Order.{Row}
-use Rattle.sqlite.specs.Given.{IsPlain}
 use Rattle.sqlite.specs.Held.{state}
-use Rattle.sqlite.specs.Listing.{understood}
 use Rattle.sqlite.specs.State.{Shown}
 use Rattle.store_sql.specs.Schema.{schema_1}
 use Rattle.store_sql.proofs.Selects.{select_meta_means}
 use Rattle.std.proofs.lemmas.Result.{IfOk-weaker}
-use Rattle.store_sql.specs.Texts.{select_meta_text}
+use Rattle.store_sql.specs.declared.texts.TheConstants.{SELECT_META}
 use Rattle.store_reads.proofs.BackLemmas.{next_stands}
-use Rattle.store_reads.specs.Causes.{FailsOnlyFor, HasCause, ListsOurs}
+use Rattle.store_reads.specs.Causes.{FailsOnlyFor, HasCause}
 use Rattle.store_reads.proofs.Causes.{caused_less, meta_listed}
 use Rattle.store_reads.proofs.Seen.{seen_less}
 use Rattle.store_reads.proofs.ShownRows.{shown_next}
@@ -18,18 +16,18 @@ use Rattle.store_reads.proofs.single.read_next.Goals as goal
 pub returns-in-Ok-clause-seen : goal.returns-in-Ok-clause-seen
 returns-in-Ok-clause-seen g c =
     seen_less schema_1 (state g.S.Store c.args.conn.now) (state g.S.Store c.rows_of.new.conn) (is_ok c.next_of.result)
-    (c.in-Ok.ensures.seen schema_1 (subst (λ text. IsPlain (understood schema_1 text)) (sym c.select_meta.ensures.value) select_meta_means.plain))
+    (c.in-Ok.ensures.seen schema_1 select_meta_means.plain)
 
 pub returns-in-Err-clause-seen : goal.returns-in-Err-clause-seen
 returns-in-Err-clause-seen g c =
-    c.in-Err.ensures.seen schema_1 (subst (λ text. IsPlain (understood schema_1 text)) (sym c.select_meta.ensures.value) select_meta_means.plain)
+    c.in-Err.ensures.seen schema_1 select_meta_means.plain
 
 pub returns-in-Ok-clause-read : goal.returns-in-Ok-clause-read
 returns-in-Ok-clause-read g c clean all keeps good =
     let old = state g.S.Store c.args.conn.now in
     let new = state g.S.Store c.rows_of.new.conn in
     let rows : List Row = c.in-Ok.rows.items in
-    let shown = subst (λ text. Shown text [] old new rows) c.select_meta.ensures.value (c.in-Ok.ensures.shown clean) in
+    let shown = c.in-Ok.ensures.shown clean in
     c.next_of.ensures.read all.next (c.as_slice.ensures.value ∙ shown_next old new all rows keeps shown) good.next
 
 pub returns-in-Ok-clause-back : goal.returns-in-Ok-clause-back
@@ -37,8 +35,8 @@ returns-in-Ok-clause-back g c clean ours =
     let old = state g.S.Store c.args.conn.now in
     let new = state g.S.Store c.rows_of.new.conn in
     let rows : List Row = c.in-Ok.rows.items in
-    let shown = subst (λ text. Shown text [] old new rows) c.select_meta.ensures.value (c.in-Ok.ensures.shown clean) in
-    IfOk-weaker c.next_of.result _ _ (λ x h. (next_stands old new x ours (subst (λ (rs : List Row). Shown select_meta_text [] old new rs) (sym c.as_slice.ensures.value ∙ h.0) shown), h.1)) c.next_of.ensures.back
+    let shown = c.in-Ok.ensures.shown clean in
+    IfOk-weaker c.next_of.result _ _ (λ x h. (next_stands old new x ours (subst (λ (rs : List Row). Shown SELECT_META.now [] old new rs) (sym c.as_slice.ensures.value ∙ h.0) shown), h.1)) c.next_of.ensures.back
 
 pub returns-in-Ok-clause-cause : goal.returns-in-Ok-clause-cause
 returns-in-Ok-clause-cause g c =
@@ -47,4 +45,4 @@ returns-in-Ok-clause-cause g c =
 pub returns-in-Err-clause-cause : goal.returns-in-Err-clause-cause
 returns-in-Err-clause-cause g c clean has =
     subst (FailsOnlyFor (HasCause (state g.S.Store c.args.conn.now) (state g.S.Store c.rows_of.new.conn))) (sym c.load_fault.ensures.value)
-    (c.in-Err.ensures.cause (subst ListsOurs (sym c.select_meta.ensures.value) meta_listed) clean has)
+    (c.in-Err.ensures.cause meta_listed clean has)
