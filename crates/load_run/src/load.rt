@@ -170,8 +170,10 @@ fn prepare(alloc: Global) -> Result<(Front, Settings), NoMemory>
     ensures front { IfOk result (λ made. made.0 ≡ load_front) }
     ensures settings { IfOk result (λ made. made.1 ≡ given.load_settings) }
 {
-    let front = Front::new(alloc, &load_server(alloc)?)?;
-    Ok((front, load_settings(alloc)?))
+    let server = load_server(alloc)?;
+    let front = Front::new(alloc, &server)?;
+    let settings = load_settings(alloc)?;
+    Ok((front, settings))
 }
 
 /// Seeds a load and runs it, and gives its six lines.

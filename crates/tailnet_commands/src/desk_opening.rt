@@ -40,6 +40,8 @@ pub fn open_desk<P: Opener, C: Clock>(
 {
     let moment = Moment::clamp(clock.seconds());
     let FileSettings { tailnet, server } = settings;
+    // What the tailnet is keeps its rules.
+    let _kept = tailnet.fields();
     let fields = server.fields();
     let keeper = match opener.open(alloc, fields.database.as_str()) {
         Ok(keeper) => keeper,

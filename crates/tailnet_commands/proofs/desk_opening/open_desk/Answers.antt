@@ -18,7 +18,7 @@ returns-in-Ok-open g c =
     let opened = c.in-Ok-open.ensures in
     record {
       opened = record {
-        rules = c.fields-fields.ensures.rules;
+        rules = c.fields-kept.ensures.rules;
         moment = c.clamp-moment.result;
         moment_told = subst (λ (z : ℤ). IsWhereTold z (option_map clamped (g.C.Clock.answer c.args.clock.now 0))) (sym at) (clamped_told _ _ c.seconds.ensures.took.first);
         rest = c.seconds.ensures.took.rest;
