@@ -1,4 +1,4 @@
-use Rattle.std.proofs.Common.{◌≡◌, ◌<◌, ◌≤◌, ◌+◌, arith, false, true, length, rules, sym, ◌∙◌}
+use Rattle.std.proofs.Common.{◌≡◌, ◌<◌, arith, false, length, rules, sym, ◌∙◌}
 use Rattle.policy_tests.proofs.PairLemmas.{meets_end, meets_here, meets_more}
 use Rattle.policy_tests.proofs.pairs.flags_meet.Goals as goal
 
