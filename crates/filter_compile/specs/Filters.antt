@@ -2,7 +2,7 @@
 use Rattle.std.specs.Prelude.{◌&&◌, Bool, false, List, [], ◌++◌, Option, flat_map, if◌then◌else◌}
 use Rattle.std.specs.List.{list_any}
 use Rattle.std.specs.Option.{option_map_or}
-use Rattle.net_addr.specs.Bits.{Address}
+use Rattle.net_addr.specs.Bits.{Address, Block}
 use Rattle.port_sets.specs.Protocols.{members}
 use Rattle.range_sets.specs.Canonical.{canonical}
 use Rattle.policy_rows.specs.declared.dest.Dest.{Dest}
@@ -19,7 +19,7 @@ use Rattle.policy_eval.specs.Expansion.{entry_covers, source_covers}
 use Rattle.policy_sites.specs.Grants.{groups_of, rules_of}
 use Rattle.policy_sites.specs.Sites.{serves, site_has}
 use Rattle.policy_sites.specs.declared.site.Site.{Site}
-use Rattle.filter_compile.specs.Parts.{dest_ranges, is_all, rule_or_none}
+use Rattle.filter_compile.specs.Parts.{dest_ranges, is_all, rule_or_none, with_ports}
 
 -- a rule's sources: `*`, if it is one of them, and else the addresses that they cover
 abbrev pub sources_of : List Group → List Site → Rule → Sources
@@ -45,6 +45,10 @@ is_of_own sites m addr = option_map_or (λ holder. is_own holder (holder_of m)) 
 -- the sources of a rule for the machine as `autogroup:self`: of the addresses that they cover those of its own
 abbrev pub own_source_covers : List Group → List Site → Site → Rule → Address → Bool
 own_source_covers groups sites m r addr = source_covers groups sites r addr && is_of_own sites m addr
+
+-- the prefixes with the ports of a destination that is `autogroup:self`
+abbrev pub own_ranges : List Block → Dest → List DestRange
+own_ranges prefixes entry = if is_own_devices entry.to then flat_map (with_ports entry.ports) prefixes else []
 
 -- what the machine serves of its own addresses, with the ports of a destination that is `autogroup:self`
 abbrev pub own_dests : Site → Dest → List DestRange

@@ -1,20 +1,22 @@
 //! Packet filters.
 ghost use Rattle.std.specs.Prelude.{◌≡◌, ◌<◌, ◌++◌, Contains, IfOk, OnOk, length, slice_index_or};
 ghost use Rattle.policy_rows.specs.declared.rule.Rule.{Rule};
-ghost use Rattle.policy_sites.specs.Sites.{AreDistinct};
-ghost use Rattle.policy_sites.specs.declared.site.Site.{Site};
+ghost use Rattle.net_addr.specs.Bits.{Address};
 ghost use Rattle.range_sets.specs.Canonical.{canonical};
+ghost use Rattle.range_sets.specs.Sets.{has};
 ghost use Rattle.filter_compile.specs.Admits.{AdmitsGranted};
-ghost use Rattle.filter_compile.specs.Filters.{own_rule, own_source_covers, plain_rule, rule_filter, rules_filter, sources_of};
+ghost use Rattle.filter_compile.specs.Held.{HoldingsFit};
+ghost use Rattle.filter_compile.specs.Filters.{is_of_own, own_rule, own_source_covers, plain_rule, rule_filter, rules_filter, sources_of};
 
 use crate::dest_ranges::shared_prefixes;
 use crate::dests::{own_dests, plain_dests};
-use crate::own::own_set;
+use crate::holdings::{Holdings, holdings_of};
 use crate::rule_parts::{add_rule, sources_covering};
 use net_addr::Prefix;
 use policy_eval::Expanded;
 use policy_rows::Rule;
 use policy_sites::{Site, has_own_devices};
+use range_sets::RangeSet;
 use std::alloc::Global;
 use tail_base::{Items, NoMemory};
 use tailcfg::{FilterRule, Sources};
@@ -36,42 +38,29 @@ fn sources_of(
     Ok(sources)
 }
 
-/// Those of its sources that are the machine's own.
+/// Those of its sources that are the machine's own, whose addresses are given.
 fn own_sources(
     alloc: Global,
     expanded: &Expanded,
     at: usize,
     rule: &Rule,
     machine: &Site,
+    own: &RangeSet,
 ) -> Result<Items<Prefix>, NoMemory>
     requires inside { at < length expanded.now.rules }
     requires same { (d : Rule) → slice_index_or expanded.now.rules at d ≡ rule.now }
+    requires own { (addr : Address)
+        → has own.now addr ≡ is_of_own expanded.now.sites machine.now addr }
     ensures value { IfOk result (λ prefixes. prefixes ≡ canonical
         (own_source_covers expanded.now.groups expanded.now.sites machine.now rule.now)) }
 {
     let covered = expanded.source_set(at);
-    let own = own_set(alloc, expanded.sites(), machine)?;
-    let prefixes = shared_prefixes(alloc, covered, &own)?;
+    let prefixes = shared_prefixes(alloc, covered, own)?;
     Ok(prefixes)
 }
 
-/// Where the machine stands among the sites.
-fn place_of(sites: &[Site], machine: &Site) -> usize
-    requires distinct { AreDistinct sites.now }
-    requires among { Contains sites.now machine.now }
-    ensures inside { result < length sites.now }
-    ensures there { (s : Site) → slice_index_or sites.now result s ≡ machine.now }
-{
-    for (place, site) in sites.iter().enumerate() {
-        if site.v4 == machine.v4 {
-            return place;
-        }
-    }
-    unreachable!()
-}
-
 /// Adds the filter rule of the rule, without its destinations `autogroup:self`. It looks at those by
-/// which the machine, which stands at that place among the sites, takes.
+/// which the machine takes.
 #[tactic(auto, using(crate::proofs::KeptLemmas::kept_steps))]
 fn add_plain_rule(
     alloc: Global,
@@ -79,22 +68,21 @@ fn add_plain_rule(
     expanded: &Expanded,
     at: usize,
     rule: &Rule,
-    place: usize,
     machine: &Site,
+    holdings: &Holdings,
 ) -> Result<(), NoMemory>
     requires inside { at < length expanded.now.rules }
     requires same { (d : Rule) → slice_index_or expanded.now.rules at d ≡ rule.now }
-    requires place_inside { place < length expanded.now.sites }
-    requires there { (s : Site) → slice_index_or expanded.now.sites place s ≡ machine.now }
+    requires fit { HoldingsFit expanded.now.sites machine.now holdings.now }
     ensures ok { OnOk result (out.new ≡ out.old
         ++ plain_rule expanded.now.groups expanded.now.sites machine.now rule.now) }
 {
     // For what it promises, that an address has at most one site, and none where it is a route's.
     let _sites = expanded.sites();
-    if !expanded.takes(at, place) {
+    if !expanded.takes(at, holdings.place) {
         return Ok(());
     }
-    let dests = plain_dests(alloc, expanded, at, rule, machine)?;
+    let dests = plain_dests(alloc, expanded, at, rule, machine, &holdings.served)?;
     if dests.is_empty() {
         return Ok(());
     }
@@ -111,20 +99,22 @@ fn add_own_rule(
     at: usize,
     rule: &Rule,
     machine: &Site,
+    holdings: &Holdings,
 ) -> Result<(), NoMemory>
     requires inside { at < length expanded.now.rules }
     requires same { (d : Rule) → slice_index_or expanded.now.rules at d ≡ rule.now }
+    requires fit { HoldingsFit expanded.now.sites machine.now holdings.now }
     ensures ok { OnOk result (out.new ≡ out.old
         ++ own_rule expanded.now.groups expanded.now.sites machine.now rule.now) }
 {
     if !has_own_devices(rule) {
         return Ok(());
     }
-    let dests = own_dests(alloc, rule, machine)?;
+    let dests = own_dests(alloc, rule, holdings.addresses.as_slice())?;
     if dests.is_empty() {
         return Ok(());
     }
-    let prefixes = own_sources(alloc, expanded, at, rule, machine)?;
+    let prefixes = own_sources(alloc, expanded, at, rule, machine, &holdings.own)?;
     add_rule(alloc, out, &rule.protos, Sources::Only(prefixes), dests)
 }
 
@@ -135,18 +125,17 @@ fn add_rules(
     expanded: &Expanded,
     at: usize,
     rule: &Rule,
-    place: usize,
     machine: &Site,
+    holdings: &Holdings,
 ) -> Result<(), NoMemory>
     requires inside { at < length expanded.now.rules }
     requires same { (d : Rule) → slice_index_or expanded.now.rules at d ≡ rule.now }
-    requires place_inside { place < length expanded.now.sites }
-    requires there { (s : Site) → slice_index_or expanded.now.sites place s ≡ machine.now }
+    requires fit { HoldingsFit expanded.now.sites machine.now holdings.now }
     ensures ok { OnOk result (out.new ≡ out.old
         ++ rule_filter expanded.now.groups expanded.now.sites machine.now rule.now) }
 {
-    add_plain_rule(alloc, out, expanded, at, rule, place, machine)?;
-    add_own_rule(alloc, out, expanded, at, rule, machine)
+    add_plain_rule(alloc, out, expanded, at, rule, machine, holdings)?;
+    add_own_rule(alloc, out, expanded, at, rule, machine, holdings)
 }
 
 /// The packet filter of a machine: what the rules let through to that which it serves. The machine is
@@ -162,10 +151,10 @@ pub fn filter_for(
     ensures exact { IfOk result (AdmitsGranted expanded.now machine.now) }
 {
     let rules = expanded.rules();
-    let place = place_of(expanded.sites(), machine);
+    let holdings = holdings_of(alloc, expanded.sites(), machine)?;
     let mut out = Items::new(alloc);
     for (at, rule) in rules.iter().enumerate() {
-        add_rules(alloc, &mut out, expanded, at, rule, place, machine)?;
+        add_rules(alloc, &mut out, expanded, at, rule, machine, &holdings)?;
     }
     Ok(out)
 }

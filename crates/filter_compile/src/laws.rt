@@ -12,6 +12,7 @@ ghost use Rattle.policy_sites.specs.Ends.{end_at};
 ghost use Rattle.policy_sites.specs.Grants.{grants, groups_of, rules_of, some_rule_grants};
 ghost use Rattle.policy_sites.specs.Reach.{AreSoundRules};
 ghost use Rattle.policy_sites.specs.Sites.{AreServedApart, AreDistinct, serves, sites_of};
+ghost use Rattle.policy_sites.specs.declared.end.End.{End};
 ghost use Rattle.policy_sites.specs.declared.site.Site.{Site};
 ghost use Rattle.filter_compile.specs.Admits.{admits};
 ghost use Rattle.filter_compile.specs.Filters.{filter_of, rules_filter};
@@ -62,4 +63,13 @@ pub fn who_does_not_reach_a_machine_adds_nothing()
         → AreDistinct sites → AreServedApart sites → Contains sites m
         → filter_of policy sites m
         ≡ filter_of policy (filter (is_near (groups_of policy) (rules_of policy) m) sites) m }
+{}
+
+/// Under a policy that has rules, but none of them, no flow is granted, and the filter of each machine is
+/// empty.
+pub fn closed_policies_close()
+    ensures grants { (policy : Policy) → policy.rules ≡ Some []
+        → (s d : End) (proto port : ℕ) → grants (Some policy) s d proto port ≡ false }
+    ensures filters { (policy : Policy) → policy.rules ≡ Some []
+        → (sites : List Site) (m : Site) → filter_of (Some policy) sites m ≡ [] }
 {}

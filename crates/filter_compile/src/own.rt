@@ -43,14 +43,18 @@ pub(crate) fn served_set(alloc: Global, machine: &Site) -> Result<RangeSet, NoMe
     served_with(alloc, machine.v4, machine.v6, approved, machine.exit)
 }
 
-/// The canonical prefixes of what a machine serves of its own addresses.
-pub(crate) fn own_prefixes(alloc: Global, machine: &Site) -> Result<Items<Prefix>, NoMemory>
+/// The canonical prefixes of what a machine serves, which is given, of its own addresses.
+pub(crate) fn own_prefixes(
+    alloc: Global,
+    machine: &Site,
+    served: &RangeSet,
+) -> Result<Items<Prefix>, NoMemory>
+    requires served { (addr : Address) → has served.now addr ≡ serves machine.now addr }
     ensures value { IfOk result (λ prefixes. prefixes
         ≡ canonical (λ addr. site_has addr machine.now && serves machine.now addr)) }
 {
     let own = address_set(alloc, machine)?;
-    let served = served_set(alloc, machine)?;
-    let prefixes = shared_prefixes(alloc, &own, &served)?;
+    let prefixes = shared_prefixes(alloc, &own, served)?;
     Ok(prefixes)
 }
 

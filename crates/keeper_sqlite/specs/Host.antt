@@ -1,5 +1,5 @@
 -- What is counted of the host's keeper.
-use Rattle.std.specs.Prelude.{ℕ, Option}
+use Rattle.std.specs.Prelude.{ℕ, Bool, true, false, Option}
 use Rattle.net_rows.specs.declared.rows.Rows.{Rows}
 use Rattle.sqlite.specs.Files.{file_state}
 use Rattle.sqlite.specs.Held.{state}
@@ -17,6 +17,11 @@ faults_of (File k) = k.faults
 abbrev pub calls_of : HostKeeper → ℕ
 calls_of (Memory k) = k.calls
 calls_of (File k) = k.calls
+
+-- whether its database is in memory, where it is lost with the keeper
+abbrev pub is_in_memory : HostKeeper → Bool
+is_in_memory (Memory k) = true
+is_in_memory (File k) = false
 
 -- what it tells
 abbrev pub told_of : HostKeeper → Option Rows

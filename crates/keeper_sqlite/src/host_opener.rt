@@ -1,6 +1,6 @@
 //! The opener of the shipped program.
-ghost use Rattle.std.specs.Prelude.{◌≡◌, ◌≢◌, None, Err, IfOk};
-ghost use Rattle.keeper_sqlite.specs.Host.{calls_of, faults_of};
+ghost use Rattle.std.specs.Prelude.{◌≡◌, ◌≢◌, false, true, None, Err, IfOk, codes};
+ghost use Rattle.keeper_sqlite.specs.Host.{calls_of, faults_of, is_in_memory};
 
 use crate::host_keeper::HostKeeper;
 use crate::keeper::SqliteKeeper;
@@ -37,6 +37,7 @@ fn in_memory(alloc: Global) -> Result<HostKeeper, EdgeFault>
     ensures never { result ≢ Err EdgeFault.Failed }
     ensures faults { IfOk result (λ keeper. faults_of keeper ≡ 0) }
     ensures calls { IfOk result (λ keeper. calls_of keeper ≡ 0) }
+    ensures memory { IfOk result (λ keeper. is_in_memory keeper ≡ true) }
 {
     match Connection::open_in_memory(alloc) {
         Ok(conn) => Ok(HostKeeper::Memory(SqliteKeeper::adopt(conn))),
@@ -71,6 +72,7 @@ fn fault_of(error: Error) -> EdgeFault {
 fn in_file(rt: &HostRuntime, name: &str) -> Result<HostKeeper, EdgeFault>
     ensures faults { IfOk result (λ keeper. faults_of keeper ≡ 0) }
     ensures calls { IfOk result (λ keeper. calls_of keeper ≡ 0) }
+    ensures file { IfOk result (λ keeper. is_in_memory keeper ≡ false) }
 {
     match make_file(rt, name) {
         Ok(()) => {}
@@ -96,6 +98,8 @@ fn in_file(rt: &HostRuntime, name: &str) -> Result<HostKeeper, EdgeFault>
 fn open_named(rt: &HostRuntime, alloc: Global, name: &str) -> Result<HostKeeper, EdgeFault>
     ensures faults { IfOk result (λ keeper. faults_of keeper ≡ 0) }
     ensures calls { IfOk result (λ keeper. calls_of keeper ≡ 0) }
+    ensures memory { IfOk result (λ keeper. is_in_memory keeper ≡ true
+        → name.now ≡ codes ":memory:") }
 {
     if name == ":memory:" {
         in_memory(alloc)

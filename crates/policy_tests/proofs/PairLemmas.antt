@@ -1,5 +1,5 @@
 -- A pair passes exactly where some rule has both ends, by rows of flags.
-use Rattle.std.proofs.Common.{◌≡◌, ◌&&◌, ◌||◌, ◌<◌, ◌≤◌, ◌+◌, ℕ, zero, suc, Bool, true, false, List, [], ◌∷◌, length, drop, drop-cons, add-one, get_or, arith, refl, sym, ap, ◌∙◌}
+use Rattle.std.proofs.Common.{◌≡◌, ◌&&◌, ◌||◌, ◌<◌, ◌+◌, ℕ, Bool, true, false, List, [], ◌∷◌, length, drop, drop-cons, add-one, get_or, arith, refl, sym, ap, ◌∙◌}
 use Rattle.std.specs.Prelude.{Option, map}
 use Rattle.std.specs.List.{list_all, list_any}
 use Rattle.std.proofs.Math.Bool.{or-false}
@@ -14,7 +14,7 @@ use Rattle.policy_sites.specs.Covers.{covers, dest_covers, is_own_devices, joins
 use Rattle.policy_sites.specs.Grants.{some_source}
 use Rattle.policy_sites.specs.declared.end.End.{End}
 use Rattle.policy_eval.specs.Expansion.{Expansion}
-use Rattle.policy_tests.specs.Pairs.{dest_row, meet_in_rule, opens_own, opens_to, own_devices_row, reaches_all, source_row, wanted_target}
+use Rattle.policy_tests.specs.Pairs.{dest_row, flags_meet, opens_own, opens_to, self_row, reaches_all, source_row, dest_target}
 use Rattle.policy_tests.specs.Trials.{all_pass, is_open, pair_passes}
 use Rattle.policy_tests.specs.declared.pairs.Target.{Target}
 use Rattle.policy_tests.proofs.DenyLemmas.{any_same, lets_some, passes_by_rules}
@@ -23,40 +23,40 @@ use Rattle.policy_tests.proofs.LoopLemmas.{cut_here}
 -- ---- rows
 
 -- rows of one list meet where one of its elements passes both tests
-meets_any : {A : Type 0} (f g : A → Bool) (xs : List A) → meet_in_rule (map f xs) (map g xs) ≡ list_any (λ x. f x && g x) xs
+meets_any : {A : Type 0} (f g : A → Bool) (xs : List A) → flags_meet (map f xs) (map g xs) ≡ list_any (λ x. f x && g x) xs
 meets_any f g [] = refl
 meets_any f g (x ∷ xs) = ap (λ b. (f x && g x) || b) (meets_any f g xs)
 
-meets_none : (flags : List Bool) → meet_in_rule flags [] ≡ false
+meets_none : (flags : List Bool) → flags_meet flags [] ≡ false
 meets_none [] = refl
 meets_none (a ∷ flags) = refl
 
 -- behind the end of the second row none meet
-pub meets_end : (a b : List Bool) (at : ℕ) → at ≡ length b → meet_in_rule (drop at a) (drop at b) ≡ false
+pub meets_end : (a b : List Bool) (at : ℕ) → at ≡ length b → flags_meet (drop at a) (drop at b) ≡ false
 meets_end a b at end =
     let none : drop at b ≡ [] = drop_all at b (omega arith) in
-    ap (λ (bs : List Bool). meet_in_rule (drop at a) bs) none ∙ meets_none (drop at a)
+    ap (λ (bs : List Bool). flags_meet (drop at a) bs) none ∙ meets_none (drop at a)
 
 cut_flag : (xs : List Bool) (i : ℕ) (d : Bool) → i < length xs → drop i xs ≡ get_or xs i d ∷ drop (i + 1) xs
 cut_flag xs i d lt = rw (add-one, drop-cons xs i d) refl
 
 -- one place more, where not both are set
 pub meets_more : (a b : List Bool) (at : ℕ) (d e both all : Bool) → at < length a → at < length b → both ≡ (get_or a at d && get_or b at e) → both ≡ false
-    → meet_in_rule (drop at a) (drop at b) ≡ all → meet_in_rule (drop (at + 1) a) (drop (at + 1) b) ≡ all
+    → flags_meet (drop at a) (drop at b) ≡ all → flags_meet (drop (at + 1) a) (drop (at + 1) b) ≡ all
 meets_more a b at d e both all in_a in_b is fails told =
-    let cut : meet_in_rule (drop at a) (drop at b) ≡ ((get_or a at d && get_or b at e) || meet_in_rule (drop (at + 1) a) (drop (at + 1) b)) =
-    λ i. meet_in_rule (cut_flag a at d in_a i) (cut_flag b at e in_b i) in
+    let cut : flags_meet (drop at a) (drop at b) ≡ ((get_or a at d && get_or b at e) || flags_meet (drop (at + 1) a) (drop (at + 1) b)) =
+    λ i. flags_meet (cut_flag a at d in_a i) (cut_flag b at e in_b i) in
     let none : (get_or a at d && get_or b at e) ≡ false = sym is ∙ fails in
-    sym (cut ∙ ap (λ c. c || meet_in_rule (drop (at + 1) a) (drop (at + 1) b)) none) ∙ told
+    sym (cut ∙ ap (λ c. c || flags_meet (drop (at + 1) a) (drop (at + 1) b)) none) ∙ told
 
 -- one place where both are
 pub meets_here : (a b : List Bool) (at : ℕ) (d e both all : Bool) → at < length a → at < length b → both ≡ (get_or a at d && get_or b at e) → both ≡ true
-    → meet_in_rule (drop at a) (drop at b) ≡ all → true ≡ all
+    → flags_meet (drop at a) (drop at b) ≡ all → true ≡ all
 meets_here a b at d e both all in_a in_b is holds told =
-    let cut : meet_in_rule (drop at a) (drop at b) ≡ ((get_or a at d && get_or b at e) || meet_in_rule (drop (at + 1) a) (drop (at + 1) b)) =
-    λ i. meet_in_rule (cut_flag a at d in_a i) (cut_flag b at e in_b i) in
+    let cut : flags_meet (drop at a) (drop at b) ≡ ((get_or a at d && get_or b at e) || flags_meet (drop (at + 1) a) (drop (at + 1) b)) =
+    λ i. flags_meet (cut_flag a at d in_a i) (cut_flag b at e in_b i) in
     let some : (get_or a at d && get_or b at e) ≡ true = sym is ∙ holds in
-    sym (cut ∙ ap (λ c. c || meet_in_rule (drop (at + 1) a) (drop (at + 1) b)) some) ∙ told
+    sym (cut ∙ ap (λ c. c || flags_meet (drop (at + 1) a) (drop (at + 1) b)) some) ∙ told
 
 -- ---- one destination, one rule
 
@@ -132,7 +132,7 @@ pair_one groups rules proto port s d =
     ∙ (or-false (pair_passes groups rules proto port s d || false) ∙ or-false (pair_passes groups rules proto port s d)))
 
 pair_by_rows : (x : Expansion) (proto : Option ℕ) (port : ℕ) (s d : End)
-    → (meet_in_rule (source_row x s) (dest_row x proto port d) || (meet_in_rule (source_row x s) (own_devices_row x proto port) && joins_own s d)) ≡ pair_passes x.groups x.rules proto port s d
+    → (flags_meet (source_row x s) (dest_row x proto port d) || (flags_meet (source_row x s) (self_row x proto port) && joins_own s d)) ≡ pair_passes x.groups x.rules proto port s d
 pair_by_rows x proto port s d =
     let f : Rule → Bool = λ r. some_source x.groups r s in
     let g : Rule → Bool = opens_to x.groups proto port d in
@@ -147,14 +147,14 @@ all_same f g [] h = refl
 all_same f g (x ∷ xs) h = λ i. h x i && all_same f g xs h i
 
 -- one source and all destinations
-pub reached : (x : Expansion) (proto : Option ℕ) (port : ℕ) (s : End) (ds : List End) → reaches_all x (own_devices_row x proto port) (map (wanted_target x proto port) ds) s ≡ list_all (pair_passes x.groups x.rules proto port s) ds
+pub reached : (x : Expansion) (proto : Option ℕ) (port : ℕ) (s : End) (ds : List End) → reaches_all x (self_row x proto port) (map (dest_target x proto port) ds) s ≡ list_all (pair_passes x.groups x.rules proto port s) ds
 reached x proto port s ds =
-    list_all-map (λ (t : Target). meet_in_rule (source_row x s) t.row || (meet_in_rule (source_row x s) (own_devices_row x proto port) && joins_own s t.end)) (wanted_target x proto port) ds
-    ∙ all_same (λ d. meet_in_rule (source_row x s) (dest_row x proto port d) || (meet_in_rule (source_row x s) (own_devices_row x proto port) && joins_own s d)) (pair_passes x.groups x.rules proto port s) ds (pair_by_rows x proto port s)
+    list_all-map (λ (t : Target). flags_meet (source_row x s) t.row || (flags_meet (source_row x s) (self_row x proto port) && joins_own s t.end)) (dest_target x proto port) ds
+    ∙ all_same (λ d. flags_meet (source_row x s) (dest_row x proto port d) || (flags_meet (source_row x s) (self_row x proto port) && joins_own s d)) (pair_passes x.groups x.rules proto port s) ds (pair_by_rows x proto port s)
 
 -- whether one source more is let through to all, by what the code has at hand
 abbrev Reached : Expansion → Option ℕ → ℕ → List End → List Bool → List Target → Type 0
-Reached x proto port ds own targets = (own ≡ own_devices_row x proto port) × (targets ≡ map (wanted_target x proto port) ds)
+Reached x proto port ds own targets = (own ≡ self_row x proto port) × (targets ≡ map (dest_target x proto port) ds)
 
 reached_is : (x : Expansion) (proto : Option ℕ) (port : ℕ) (s : End) (ds : List End) (own : List Bool) (targets : List Target) (all : Bool) → all ≡ reaches_all x own targets s
     → Reached x proto port ds own targets → all ≡ list_all (pair_passes x.groups x.rules proto port s) ds

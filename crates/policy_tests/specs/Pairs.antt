@@ -27,20 +27,20 @@ abbrev pub dest_row : Expansion → Option ℕ → ℕ → End → List Bool
 dest_row x proto port d = map (opens_to x.groups proto port d) x.rules
 
 -- of each rule whether `autogroup:self` is an open destination
-abbrev pub own_devices_row : Expansion → Option ℕ → ℕ → List Bool
-own_devices_row x proto port = map (opens_own proto port) x.rules
+abbrev pub self_row : Expansion → Option ℕ → ℕ → List Bool
+self_row x proto port = map (opens_own proto port) x.rules
 
 -- at some place both are set
-abbrev pub meet_in_rule : List Bool → List Bool → Bool
-meet_in_rule [] bs = false
-meet_in_rule (a ∷ flags) [] = false
-meet_in_rule (a ∷ flags) (b ∷ bs) = (a && b) || meet_in_rule flags bs
+abbrev pub flags_meet : List Bool → List Bool → Bool
+flags_meet [] bs = false
+flags_meet (a ∷ flags) [] = false
+flags_meet (a ∷ flags) (b ∷ bs) = (a && b) || flags_meet flags bs
 
 -- an end with its row
-abbrev pub wanted_target : Expansion → Option ℕ → ℕ → End → Target
-wanted_target x proto port d = record { end = d; row = dest_row x proto port d }
+abbrev pub dest_target : Expansion → Option ℕ → ℕ → End → Target
+dest_target x proto port d = record { end = d; row = dest_row x proto port d }
 
 -- some rule lets the source through to each of the targets; where `autogroup:self` is an open destination is given
 abbrev pub reaches_all : Expansion → List Bool → List Target → End → Bool
 reaches_all x own targets s =
-    list_all (λ t. meet_in_rule (source_row x s) t.row || (meet_in_rule (source_row x s) own && joins_own s t.end)) targets
+    list_all (λ t. flags_meet (source_row x s) t.row || (flags_meet (source_row x s) own && joins_own s t.end)) targets

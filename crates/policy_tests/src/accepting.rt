@@ -4,7 +4,7 @@ ghost use Rattle.policy_tests.specs.Trials.{accepted_by, all_pass, core_of};
 
 use crate::ends::core_of;
 use crate::opening::port_of;
-use crate::pairs::{own_devices_row, reaches_all, targets_of};
+use crate::pairs::{reaches_all, self_row, targets_of};
 use policy_eval::Expanded;
 use policy_rows::{Dest, Test};
 use policy_sites::End;
@@ -24,7 +24,7 @@ fn all_pass(
         ≡ all_pass x.now.groups x.now.rules proto port sources.now dests.now) }
 {
     let targets = targets_of(alloc, x, proto, port, dests)?;
-    let own = own_devices_row(alloc, x, proto, port)?;
+    let own = self_row(alloc, x, proto, port)?;
     for source in sources {
         if !reaches_all(alloc, x, own.as_slice(), source, targets.as_slice())? {
             return Ok(false);

@@ -2,7 +2,7 @@
 ghost use Rattle.std.specs.Prelude.{◌≡◌, ◌<◌, ◌&&◌, ◌||◌, Bool, IfOk, length, map, slice_index_or};
 ghost use Rattle.std.specs.List.{list_all};
 ghost use Rattle.policy_sites.specs.Covers.{joins_own};
-ghost use Rattle.policy_tests.specs.Pairs.{dest_row, meet_in_rule, opens_own, opens_to, own_devices_row, reaches_all, source_row, wanted_target};
+ghost use Rattle.policy_tests.specs.Pairs.{dest_row, flags_meet, opens_own, opens_to, self_row, reaches_all, source_row, dest_target};
 
 use crate::opening::is_open;
 use policy_eval::Expanded;
@@ -91,13 +91,13 @@ fn dest_row(
 }
 
 /// Of each rule whether `autogroup:self` is an open destination.
-pub(crate) fn own_devices_row(
+pub(crate) fn self_row(
     alloc: Global,
     x: &Expanded,
     proto: Option<u8>,
     port: u16,
 ) -> Result<Items<bool>, NoMemory>
-    ensures value { IfOk result (λ row. row ≡ own_devices_row x.now proto port) }
+    ensures value { IfOk result (λ row. row ≡ self_row x.now proto port) }
 {
     let mut row = Items::new(alloc);
     for rule in x.rules() {
@@ -106,14 +106,14 @@ pub(crate) fn own_devices_row(
     Ok(row)
 }
 
-fn wanted_target(
+fn dest_target(
     alloc: Global,
     x: &Expanded,
     proto: Option<u8>,
     port: u16,
     end: &End,
 ) -> Result<Target, NoMemory>
-    ensures value { IfOk result (λ target. target ≡ wanted_target x.now proto port end.now) }
+    ensures value { IfOk result (λ target. target ≡ dest_target x.now proto port end.now) }
 {
     let row = dest_row(alloc, x, proto, port, end)?;
     let end = copy_of_end(alloc, end)?;
@@ -128,11 +128,11 @@ pub(crate) fn targets_of(
     port: u16,
     ends: &[End],
 ) -> Result<Items<Target>, NoMemory>
-    ensures value { IfOk result (λ targets. targets ≡ map (wanted_target x.now proto port) ends.now) }
+    ensures value { IfOk result (λ targets. targets ≡ map (dest_target x.now proto port) ends.now) }
 {
     let mut targets = Items::new(alloc);
     for end in ends {
-        targets.push(wanted_target(alloc, x, proto, port, end)?)?;
+        targets.push(dest_target(alloc, x, proto, port, end)?)?;
     }
     Ok(targets)
 }
@@ -145,8 +145,8 @@ fn both_set(flag: bool, flags: &[bool], at: usize) -> bool
 }
 
 /// Whether at some place both are set.
-fn meet_in_rule(a: &[bool], b: &[bool]) -> bool
-    ensures value { result ≡ meet_in_rule a.now b.now }
+fn flags_meet(a: &[bool], b: &[bool]) -> bool
+    ensures value { result ≡ flags_meet a.now b.now }
 {
     for (at, flag) in a.iter().enumerate() {
         if at == b.len() {
@@ -160,14 +160,14 @@ fn meet_in_rule(a: &[bool], b: &[bool]) -> bool
 }
 
 fn reaches(row: &[bool], owns: bool, source: &End, target: &Target) -> bool
-    ensures value { result ≡ (meet_in_rule row.now target.now.row
+    ensures value { result ≡ (flags_meet row.now target.now.row
         || (owns && joins_own source.now target.now.end)) }
 {
-    meet_in_rule(row, target.row.as_slice()) || (owns && joins_own(source, &target.end))
+    flags_meet(row, target.row.as_slice()) || (owns && joins_own(source, &target.end))
 }
 
 fn reaches_each(row: &[bool], owns: bool, source: &End, targets: &[Target]) -> bool
-    ensures value { result ≡ list_all (λ t. meet_in_rule row.now t.row
+    ensures value { result ≡ list_all (λ t. flags_meet row.now t.row
         || (owns && joins_own source.now t.end)) targets.now }
 {
     targets
@@ -187,6 +187,6 @@ pub(crate) fn reaches_all(
     ensures value { IfOk result (λ all. all ≡ reaches_all x.now own.now targets.now source.now) }
 {
     let row = source_row(alloc, x, source)?;
-    let owns = meet_in_rule(row.as_slice(), own);
+    let owns = flags_meet(row.as_slice(), own);
     Ok(reaches_each(row.as_slice(), owns, source, targets))
 }

@@ -26,6 +26,8 @@ const KEYS: &str = r#"{"acls":[],"ACLs":[]} => P3 acls
 {"tests":[{"src":"a@","allow":[]}]} => P3 tests[0].allow
 {"tests":[{"users":["a@"]}]} => P3 tests[0].users
 {"groups":[],"zz":0} => P3 zz
+{"x\nok":1} => P3 x\nok
+{"\u001b[2J\"\\é":1} => P3 \u001b[2J\"\\é
 {"grants":[]} => P4 grants
 {"ipsets":[]} => P4 ipsets
 {"postures":[]} => P4 postures

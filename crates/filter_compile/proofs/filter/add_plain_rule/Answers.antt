@@ -15,8 +15,8 @@ returns-then-not-takes c =
     let r = c.args.rule.now in
     let m = c.args.machine.now in
     let fails : c.takes.result ≡ false = search rules in
-    let inside : Contains x.sites m = subst (λ (s : Site). Contains x.sites s) (c.requires.there m) (get_member x.sites c.args.place (slice_index_or x.sites c.args.place m) (slice_get-get_or x.sites c.args.place m c.requires.place_inside)) in
-    let none : takes x.groups r m ≡ false = (λ i. takes x.groups (sym (c.requires.same r) i) (sym (c.requires.there m) i)) ∙ (sym (c.takes.ensures.value r m) ∙ fails) in
+    let inside : Contains x.sites m = subst (λ (s : Site). Contains x.sites s) (c.requires.fit.there m) (get_member x.sites c.args.holdings.now.place (slice_index_or x.sites c.args.holdings.now.place m) (slice_get-get_or x.sites c.args.holdings.now.place m c.requires.fit.inside)) in
+    let none : takes x.groups r m ≡ false = (λ i. takes x.groups (sym (c.requires.same r) i) (sym (c.requires.fit.there m) i)) ∙ (sym (c.takes.ensures.value r m) ∙ fails) in
     record {
       ok = sym (append-nil c.args.out.now) ∙ ap (λ (more : List FilterRule). c.args.out.now ++ more) (plain_none x.groups x.sites m r c.sites-sites.ensures.distinct c.sites-sites.ensures.apart inside none);
     }

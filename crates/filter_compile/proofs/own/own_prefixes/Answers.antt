@@ -9,6 +9,6 @@ returns c =
     let m = c.args.machine.now in
     record {
       value = c.in_ok-prefixes.ensures.value
-          ∙ canonical_same (λ addr. has c.in_ok-own.own addr && has c.in_ok-served.served addr) (λ addr. site_has addr m && serves m addr)
-          (λ addr _. ap (λ b. b && has c.in_ok-served.served addr) (c.in_ok-own.ensures.held addr) ∙ ap (λ b. site_has addr m && b) (c.in_ok-served.ensures.held addr));
+          ∙ canonical_same (λ addr. has c.in_ok-own.own addr && has c.args.served.now addr) (λ addr. site_has addr m && serves m addr)
+          (λ addr _. ap (λ b. b && has c.args.served.now addr) (c.in_ok-own.ensures.held addr) ∙ ap (λ b. site_has addr m && b) (c.requires.served addr));
     }

@@ -1,6 +1,5 @@
 use Rattle.std.proofs.Common.{◌≡◌, drop}
-use Rattle.std.specs.List.{list_all}
-use Rattle.policy_tests.specs.Trials.{all_pass, pair_passes}
+use Rattle.policy_tests.specs.Trials.{all_pass}
 use Rattle.policy_tests.proofs.accepting.all_pass.Given as goal
 
 -- the sources to come pass where all do

@@ -1,6 +1,6 @@
-use Rattle.std.proofs.Common.{◌≡◌, ◌<◌, ◌≤◌, ◌+◌, arith, false, true, length, rules, sym, ◌∙◌}
+use Rattle.std.proofs.Common.{◌≡◌, ◌<◌, arith, false, length, rules, sym, ◌∙◌}
 use Rattle.policy_tests.proofs.PairLemmas.{meets_end, meets_here, meets_more}
-use Rattle.policy_tests.proofs.pairs.meet_in_rule.Goals as goal
+use Rattle.policy_tests.proofs.pairs.flags_meet.Goals as goal
 
 pub returns-then-at-b : goal.returns-then-at-b
 returns-then-at-b c =

@@ -3,7 +3,7 @@ use Rattle.net_rows.specs.Damage.{address_eq}
 use Rattle.policy_sites.specs.declared.site.Site.{Site}
 use Rattle.policy_sites.proofs.ListLemmas.{told_more}
 use Rattle.filter_compile.proofs.TakeLemmas.{place_is, stands_somewhere}
-use Rattle.filter_compile.proofs.filter.place_of.Goals as goal
+use Rattle.filter_compile.proofs.holdings.place_of.Goals as goal
 
 pub returns-then-eq-clause-there : goal.returns-then-eq-clause-there
 returns-then-eq-clause-there c =
