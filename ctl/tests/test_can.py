@@ -78,7 +78,7 @@ class Can(TailnetTest):
             tests = [',"tests":[],}', ',"Tests":[{"src":"ann@"},],}', ',"\\u0074ests":[/*none*/]}', "}"][at % 4]
             text = tests.join(text.rsplit("}", 1))
             self.server.save(text)
-            for line in (["can", "ann", "machine-1:22"], ["policy", "check", self.server.file("p.hujson", text)]):
+            for line in (["can", "ann@", "100.64.0.1:22"], ["policy", "check", self.server.file("p.hujson", text)]):
                 got = self.ran(*line)
                 self.assertIn(got.status, (0, 1), got.errors)
                 self.assertEqual(self.server.policy(), text.encode())
