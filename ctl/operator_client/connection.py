@@ -62,12 +62,13 @@ def in_time(work):
     return result
 
 
-def trouble_of(fault, address):
-    """Why no answer came, in words."""
+def trouble_of(fault, address, changes=False):
+    """Why no answer came, in words. What was asked for may change something, and may be done although nothing came."""
     if isinstance(fault, ConnectionRefusedError):
         return Trouble(f"nobody listens at {address}", "Start the server there, or name another one by --server", Status.SERVER)
     if isinstance(fault, TimeoutError):
         advice = "It may be stopped, or all its workers may be taken: see workers in its settings"
+        advice += ". It may do what was asked all the same: look before you ask again" if changes else ""
         return Trouble(f"{address} doesn't answer within {SECONDS} seconds", advice, Status.SERVER)
     if isinstance(fault, socket.gaierror):
         return Trouble(f"no address is known for {address.host}", "Look at the name behind --server", Status.SERVER)
@@ -111,7 +112,7 @@ class Client:
         try:
             return in_time(lambda: self.exchange(method, path, body))
         except (OSError, http.client.HTTPException) as fault:
-            raise trouble_of(fault, self.address) from None
+            raise trouble_of(fault, self.address, changes=method != "GET") from None
 
     def text(self, path):
         """The body of a GET, byte for byte."""

@@ -19,4 +19,4 @@ def bytes_of(path):
 
 def name_of(path):
     """What a file is called in a message."""
-    return "<stdin>" if path == "-" else path
+    return "stdin" if path == "-" else path

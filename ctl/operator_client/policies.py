@@ -36,42 +36,42 @@ def fault_of_save(client, text):
 def save(client, words):
     text = bytes_of(words.file)
     fault = fault_of_save(client, text)
-    if fault:
-        print_fault(words, fault)
-        return Status.NO
-    print_json({}) if words.json else print(f"saved, and in force on {client.address}")
-    return Status.DONE
-
-
-def print_fault(words, fault):
-    """Prints a fault as it was asked for."""
-    file = name_of(words.file)
     if words.json:
-        print_json({"faults": [fault.record(file)]})
+        print_json({"faults": [fault.record(name_of(words.file))] if fault else []})
     else:
-        print(fault.annotation(file) if getattr(words, "format", "") == "github" else fault.shown(file))
+        print(fault.shown(name_of(words.file)) if fault else f"saved, and in force on {client.address}")
+    return Status.NO if fault else Status.DONE
+
+
+def verdict_of(client, words, text):
+    """What a running server says of a text over its live machines; without one, the program over none."""
+    if client is None:
+        return questions.Verdict(offline.first_fault(words, os.environ, text))
+    return questions.first_fault(client, text)
+
+
+def print_verdict(client, words, file, fault):
+    """Prints what was found in one file, as editors, workflows or people read it."""
+    if fault:
+        print(fault.annotation(file) if words.format == "github" else fault.shown(file))
+    elif words.format == "text":
+        over = "no machines" if client is None else f"the live machines of {client.address}"
+        print(f"{plain(file)}: ok, over {over}")
 
 
 def check(client, words):
-    """Checks files, by a running server over its live machines, or without one over none."""
-    status = Status.DONE
-    for words.file in words.files:
-        text = bytes_of(words.file)
-        if client is None:
-            verdict = questions.Verdict(offline.first_fault(words, os.environ, text))
-        else:
-            verdict = questions.first_fault(client, text)
+    """Checks files, and saves nothing."""
+    records = []
+    for path in words.files:
+        file, verdict = name_of(path), verdict_of(client, words, bytes_of(path))
         if verdict.leaves_last_test:
-            say(f"tailnetctl: {plain(name_of(words.file))} has {questions.MOST_TESTS} tests; the last one made room for the question, and wasn't tried.")
-        if verdict.fault:
-            print_fault(words, verdict.fault)
-            status = Status.NO
-        elif words.json:
-            print_json({"faults": []})
-        elif words.format == "text":
-            over = "no machines" if client is None else f"the live machines of {client.address}"
-            print(f"{plain(name_of(words.file))}: ok, over {over}")
-    return status
+            say(f"tailnetctl: {plain(file)} has {questions.MOST_TESTS} tests; the last one made room for the question, and wasn't tried.")
+        records += [verdict.fault.record(file)] if verdict.fault else []
+        if not words.json:
+            print_verdict(client, words, file, verdict.fault)
+    if words.json:
+        print_json({"faults": records})
+    return Status.NO if records else Status.DONE
 
 
 def meant(client, text, hosts):

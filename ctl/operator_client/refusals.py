@@ -12,7 +12,7 @@ SENTENCES = {
     "UnknownMachine": ("there is no such machine any more", "See `tailnetctl nodes`"),
     "KeyUnknown": ("there is no such key", "See `tailnetctl keys`"),
     "PendingUnknown": ("no machine waits so any more: its time has passed, or it was admitted", "See `tailnetctl pending`, and let the machine register again"),
-    "TagUndefined": ("the policy in force defines no {tags}", "Add the tag to tagOwners: `tailnetctl policy edit`"),
+    "TagUndefined": ("the policy in force doesn't define {tags}", "Add the tag to tagOwners: `tailnetctl policy edit`"),
     "TagNotOwned": ("the user doesn't own a tag that the machine requests", "Name the user in tagOwners, or admit it for an owner of the tag"),
     "NameTaken": ("that name is taken", "See `tailnetctl nodes` or `tailnetctl users`, and choose another"),
     "BadName": ("that name isn't allowed", "{name_rule}"),
@@ -38,14 +38,14 @@ WHATS = {"User": "user", "Key": "pre-auth key", "Pending": "waiting machine", "M
 
 
 def undefined_tags(client, tags):
-    """Those of the tags that the policy in force doesn't define; `tag of them` where that can't be said."""
+    """Those of the tags that the policy in force doesn't define. Where none was named here the machine requests one."""
     try:
         top = hujson.read(client.text("/api/v1/policy"))
         defined = set(hujson.plain_value(top.member("tagOwners")) if top.member("tagOwners") else {})
     except Exception:  # what was refused is told all the same
         defined = set()
     missing = [plain(tag) for tag in tags if tag not in defined]
-    return ", ".join(missing) or "tag of them"
+    return ", ".join(missing) or "a tag that the machine requests"
 
 
 def trouble_of(refusal, client, tags=(), kind="node"):

@@ -28,10 +28,13 @@ CALLED = {"machine-5": "100.64.0.5", "seed": "seed@"}
 
 
 def random_policies(count):
-    """Texts of random policies, as the model's conversations have them."""
-    draw = random.Random(59)
+    """Texts of random policies, as the model's conversations have them; each third lets more through."""
+    draw = random.Random(4)
     talk = Talk(draw, Tailnet({}, 0), {})
-    return [talk.rules() for _ in range(count)]
+    policies = [json.loads(talk.rules()) for _ in range(count)]
+    for policy in policies[::3]:
+        policy["acls"].append({"action": "accept", "src": ["ann@", "group:dev", "tag:web"], "dst": ["*:22,443"]})
+    return [json.dumps(policy) for policy in policies]
 
 
 def machines_of(nodes):
@@ -78,7 +81,7 @@ class Can(TailnetTest):
             tests = [',"tests":[],}', ',"Tests":[{"src":"ann@"},],}', ',"\\u0074ests":[/*none*/]}', "}"][at % 4]
             text = tests.join(text.rsplit("}", 1))
             self.server.save(text)
-            for line in (["can", "ann", "machine-1:22"], ["policy", "check", self.server.file("p.hujson", text)]):
+            for line in (["can", "ann@", "100.64.0.1:22"], ["policy", "check", self.server.file("p.hujson", text)]):
                 got = self.ran(*line)
                 self.assertIn(got.status, (0, 1), got.errors)
                 self.assertEqual(self.server.policy(), text.encode())

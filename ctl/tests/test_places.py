@@ -108,6 +108,14 @@ class Places(unittest.TestCase):
         self.assertEqual(got.output, f"::error file={path},line=2,col=19,title=P7::{wanted}\n")
         self.assertEqual(ran("policy", "check", path).output, f"{path}:2:19: P7 {wanted}\n")
 
+    def test_several_files(self):
+        texts = ["{}", '{"acl": []}', "[]"]
+        paths = [self.server.file(f"{at}.hujson", text) for at, text in enumerate(texts)]
+        got = ran("policy", "check", "--offline", "--json", *paths)
+        self.assertEqual((got.status, [(each["file"], each["code"]) for each in got.json["faults"]]), (1, [(paths[1], "P3"), (paths[2], "P2")]))
+        lines = ran("policy", "check", "--offline", *paths).lines
+        self.assertEqual([line.rsplit("/", 1)[1].split(" ")[0] for line in lines], ["0.hujson:", "1.hujson:1:2:", "2.hujson:1:1:"])
+
     def test_keys_that_could_deceive(self):
         text = json.dumps({"a\n::error x\u202e\x1b": 1})
         path = self.server.file("policy.hujson", text)

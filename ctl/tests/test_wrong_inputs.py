@@ -52,13 +52,23 @@ class WrongWords(TailnetTest):
 
     def test_undefined_tag(self):
         self.refused(
-            5, "tailnetctl: the policy in force defines no tag:db, tag:x. Add the tag to tagOwners: `tailnetctl policy edit`.",
+            5, "tailnetctl: the policy in force doesn't define tag:db, tag:x. Add the tag to tagOwners: `tailnetctl policy edit`.",
             "node", "tags", "machine-1", "web,db,x",
         )
         self.refused(
-            5, "tailnetctl: the policy in force defines no tag:db. Add the tag to tagOwners: `tailnetctl policy edit`.",
+            5, "tailnetctl: the policy in force doesn't define tag:db. Add the tag to tagOwners: `tailnetctl policy edit`.",
             "key", "make", "ann", "--tags", "tag:db",
         )
+
+    def test_tags_that_a_machine_requests(self):
+        self.server.register(700, host="tagged", RequestTags=["tag:other"])
+        self.refused(
+            5, "tailnetctl: the policy in force doesn't define a tag that the machine requests. Add the tag to tagOwners: `tailnetctl policy edit`.",
+            "admit", "tagged", "ann",
+        )
+        self.server.register(701, host="owned", RequestTags=["tag:Db-1"])
+        got = self.ran("admit", "owned", "ann")
+        self.assertIn("the user doesn't own a tag that the machine requests. ", got.errors)
 
     def test_names_that_nobody_has(self):
         self.refused(5, "tailnetctl: there is no machine 'x\\u001b'. See `tailnetctl nodes`.", "node", "expire", "x\x1b")
@@ -242,19 +252,22 @@ class Strangers(unittest.TestCase):
 
     def test_silent_and_slow(self):
         drip = b"HTTP/1.1 200 OK\r\nX-Long: " + b"x" * 500
-        strangers, begun = (Stranger(None), Stranger(drip, pause=0.1)), time.monotonic()
-        runs = [
-            subprocess.Popen([f"{CTL}/tailnetctl", "users"], stderr=subprocess.PIPE, text=True, env=os.environ | self.environment(stranger))
-            for stranger in strangers
+        causes = "It may be stopped, or all its workers may be taken: see workers in its settings"
+        asked = [
+            (Stranger(None), ["users"], causes),
+            (Stranger(drip, pause=0.1), ["users"], causes),
+            (Stranger(None), ["user", "add", "ann"], f"{causes}. It may do what was asked all the same: look before you ask again"),
         ]
-        for stranger, one in zip(strangers, runs):
+        begun = time.monotonic()
+        runs = [
+            subprocess.Popen([f"{CTL}/tailnetctl", *line], stderr=subprocess.PIPE, text=True, env=os.environ | self.environment(stranger))
+            for stranger, line, _ in asked
+        ]
+        for (stranger, _, advice), one in zip(asked, runs):
             _, errors = one.communicate(timeout=20)
             self.assertLess(time.monotonic() - begun, 10)
             self.assertEqual(one.returncode, 4)
-            self.assertEqual(
-                errors,
-                f"tailnetctl: {stranger.address} doesn't answer within 8 seconds. It may be stopped, or all its workers may be taken: see workers in its settings.\n",
-            )
+            self.assertEqual(errors, f"tailnetctl: {stranger.address} doesn't answer within 8 seconds. {advice}.\n")
 
     def test_a_server_that_keeps_what_cannot_pass(self):
         got = self.asked(Stranger(whole(200, b"{}")), "policy", "check", "/dev/null")
