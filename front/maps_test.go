@@ -70,9 +70,10 @@ func TestAnswerThatDoesNotEnd(t *testing.T) {
 	if got := post(t, h, "/machine/register", `{}`); got.StatusCode != 504 {
 		t.Error(got.Status)
 	}
+	start := time.Now()
 	one := post(t, h, "/machine/map", `{}`)
-	if got, err := io.ReadAll(one.Body); string(got) != string(frameOf(`{"Seq":1}`)) || err == nil {
-		t.Errorf("%q, %v", got, err)
+	if got, err := io.ReadAll(one.Body); string(got) != string(frameOf(`{"Seq":1}`)) || err == nil || time.Since(start) > 5*time.Second {
+		t.Errorf("%q, %v after %v", got, err, time.Since(start))
 	}
 	poll := post(t, h, "/machine/map", `{"Stream":true}`)
 	next(t, poll.Body, false)
