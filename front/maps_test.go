@@ -2,6 +2,7 @@ package main
 
 import (
 	"context"
+	"io"
 	"net"
 	"net/http"
 	"testing"
@@ -53,6 +54,32 @@ func TestEndsUpstream(t *testing.T) {
 			t.Errorf("%s: the poll goes on at tailnetd", name)
 		}
 		soon(t, "no poll", func() bool { return r.polls.in.Load() == 0 })
+	}
+}
+
+// A short answer whose body doesn't end is given up, too: before its status is handed on
+// where it is read whole, else by a reset.
+func TestAnswerThatDoesNotEnd(t *testing.T) {
+	r := newRig(t, http.HandlerFunc(func(w http.ResponseWriter, r *http.Request) {
+		io.Copy(io.Discard, r.Body)
+		w.Write(frameOf(`{"Seq":1}`))
+		w.(http.Flusher).Flush()
+		<-r.Context().Done()
+	}), func(l *limits) { l.ask = 100 * time.Millisecond })
+	h := r.http(t, fill(1))
+	if got := post(t, h, "/machine/register", `{}`); got.StatusCode != 504 {
+		t.Error(got.Status)
+	}
+	start := time.Now()
+	one := post(t, h, "/machine/map", `{}`)
+	if got, err := io.ReadAll(one.Body); string(got) != string(frameOf(`{"Seq":1}`)) || err == nil || time.Since(start) > 5*time.Second {
+		t.Errorf("%q, %v after %v", got, err, time.Since(start))
+	}
+	poll := post(t, h, "/machine/map", `{"Stream":true}`)
+	next(t, poll.Body, false)
+	time.Sleep(300 * time.Millisecond)
+	if got := r.polls.in.Load(); got != 1 {
+		t.Error("a poll ended with the time of short answers")
 	}
 }
 

@@ -55,8 +55,8 @@ def front(_repository):
     go = [BUILD, "run"]
     unformatted = subprocess.run([*go, "gofmt", "-l", f"{TOP}/front"], stdin=subprocess.DEVNULL, capture_output=True, text=True, timeout=60, check=False).stdout.split()
     faults = [f"{os.path.relpath(path, TOP)}: isn't as gofmt writes it" for path in unformatted if "/out/" not in path]
-    # (the race detector needs a C compiler)
-    race = ["-race"] if shutil.which("gcc") or shutil.which("cc") else []
+    # (the race detector needs a C compiler, and Go looks for gcc)
+    race = ["-race"] if shutil.which("gcc") else []
     return faults + run([*go, "go", "vet", *OWN], 120) + run([*go, "go", "test", "-timeout", "200s", *race, *OWN], 300)
 
 

@@ -16,18 +16,16 @@ import (
 	"tailnetd-front/internal/tailclient"
 )
 
-// A Machine is a client of the front, which follows its poll and comes back when that
-// or its connection ends.
+// A Machine is a client of the front, which follows its poll, folds its frames, and
+// comes back when the poll or the connection ends.
 type Machine struct {
 	Key, Node tailclient.Key
 	Compress  bool
-	Took      func(frame []byte) // is told of each frame, if it is there
 	Dialer    tailclient.Dialer
 
 	mu      sync.Mutex
 	conn    *tailclient.Conn
 	http    *http2.ClientConn
-	poll    io.Closer
 	view    tailclient.View
 	polls   int
 	refused string // what a poll was answered in place of frames, at last
@@ -107,11 +105,10 @@ func (m *Machine) Cut() {
 func (m *Machine) Follow(ctx context.Context) {
 	defer m.Cut()
 	for ctx.Err() == nil && !m.isRefused() {
-		if m.followOnce(ctx) != nil || ctx.Err() == nil {
-			select {
-			case <-ctx.Done():
-			case <-time.After(50 * time.Millisecond):
-			}
+		m.followOnce(ctx) // it says why it ended, and whatever that was, the machine comes back
+		select {
+		case <-ctx.Done():
+		case <-time.After(50 * time.Millisecond):
 		}
 	}
 }
@@ -149,7 +146,6 @@ func (m *Machine) followOnce(ctx context.Context) error {
 	}
 	m.mu.Lock()
 	m.polls++
-	m.poll = a.Body
 	m.mu.Unlock()
 	return ReadFrames(a.Body, m.Compress, m.take)
 }
@@ -160,9 +156,6 @@ func (m *Machine) take(frame []byte) error {
 	if err := m.view.Fold(frame); err != nil {
 		m.fault = fmt.Errorf("%w in %.300s", err, frame)
 		return m.fault
-	}
-	if m.Took != nil {
-		m.Took(frame)
 	}
 	return nil
 }
