@@ -93,6 +93,29 @@ const DISCO_PATCH: &str = r#"> seed k1
 < {"PeersChangedPatch":[{"DiscoKey":"discokey:%d","NodeID":2}],"Seq":2}
 "#;
 
+/// A peer goes offline and comes back: it is patched.
+const PEER_PRESENCE: &str = r#"> seed k1
+< done
+> register mkey:%1 nodekey:%a
+< done
+> register mkey:%2 nodekey:%b
+< done
+> attach mkey:%1 nodekey:%a - 0
+< s1-0000000000000001 begins behind 0, may wait
+> attach mkey:%2 nodekey:%b - 0
+< s2-0000000000000001 begins behind 0, may wait
+> drain mkey:%1 s1-0000000000000001
+< {"DNSConfig":{"Domains":["tail.example"],"ExtraRecords":[],"Proxied":true,"Resolvers":[],"Routes":{}},"Domain":"tail.example","MapSessionHandle":"s1-0000000000000001","Node":{"Addresses":["100.64.0.1/32","fd7a:115c:a1e0::1/128"],"AllowedIPs":["100.64.0.1/32","fd7a:115c:a1e0::1/128"],"Created":"2001-09-09T01:46:40Z","DiscoKey":"discokey:%0","Endpoints":[],"HomeDERP":0,"Hostinfo":{"Hostname":""},"ID":1,"Key":"nodekey:%a","KeyExpiry":"0001-01-01T00:00:00Z","Machine":"mkey:%1","MachineAuthorized":true,"Name":"node.tail.example.","Online":true,"StableID":"n1","Tags":[],"User":1},"PacketFilter":[{"DstPorts":[{"IP":"100.64.0.1","Ports":{"First":0,"Last":65535}},{"IP":"fd7a:115c:a1e0::1","Ports":{"First":0,"Last":65535}}],"IPProto":[1,6,17,58],"SrcIPs":["*"]}],"Peers":[{"Addresses":["100.64.0.2/32","fd7a:115c:a1e0::2/128"],"AllowedIPs":["100.64.0.2/32","fd7a:115c:a1e0::2/128"],"Created":"2001-09-09T01:46:40Z","DiscoKey":"discokey:%0","Endpoints":[],"HomeDERP":0,"Hostinfo":{"Hostname":""},"ID":2,"Key":"nodekey:%b","KeyExpiry":"0001-01-01T00:00:00Z","Machine":"mkey:%2","MachineAuthorized":true,"Name":"node-1.tail.example.","Online":true,"StableID":"n2","Tags":[],"User":1}],"Seq":1,"UserProfiles":[{"DisplayName":"seed","ID":1,"LoginName":"seed@"}]}
+> detach mkey:%2 s2-0000000000000001
+< detached
+> drain mkey:%1 s1-0000000000000001
+< {"PeersChangedPatch":[{"NodeID":2,"Online":false}],"Seq":2}
+> attach mkey:%2 nodekey:%b - 0
+< s3-0000000000000001 begins behind 0, may wait
+> drain mkey:%1 s1-0000000000000001
+< {"PeersChangedPatch":[{"NodeID":2,"Online":true}],"Seq":3}
+"#;
+
 /// A handle that no session has.
 const UNKNOWN_HANDLE: &str = r#"> seed k1
 < done
@@ -153,6 +176,7 @@ fn polls_on_a_desk(rt: HostRuntime) -> Result<(), Fail> {
         ("router-offline, unaffected-viewer", ROUTER_OFFLINE),
         ("expiry-seen", EXPIRY_SEEN),
         ("disco-patch", DISCO_PATCH),
+        ("peer-presence", PEER_PRESENCE),
         ("unknown-handle", UNKNOWN_HANDLE),
         ("second-poll", SECOND_POLL),
         ("one-worker", ONE_WORKER),
