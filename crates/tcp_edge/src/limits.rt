@@ -1,4 +1,5 @@
 //! How long a connection may hold a worker for nothing.
+use std::io::{Error, ErrorKind};
 
 /// The limits of connections, in milliseconds and bytes.
 #[derive(Clone, Copy, Debug, PartialEq, Eq, Drop)]
@@ -29,3 +30,11 @@ pub const TCP_LIMITS: TcpLimits = TcpLimits {
     retry: 100,
     tries: 600,
 };
+
+/// How often a call that a signal broke off is begun again.
+pub(crate) const INTERRUPTIONS: u32 = 1_000;
+
+/// Whether a signal broke the call off.
+pub(crate) fn is_interrupted(error: &Error) -> bool {
+    error.kind() == ErrorKind::Interrupted
+}

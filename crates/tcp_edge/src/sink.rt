@@ -2,7 +2,7 @@
 ghost use Rattle.std.specs.Prelude.{◌≡◌, ◌≤◌, ◌<◌, None, length, IfOk};
 ghost use Rattle.io_edge.specs.Edge.{nothing_besides};
 
-use crate::limits::TcpLimits;
+use crate::limits::{INTERRUPTIONS, TcpLimits, is_interrupted};
 use crate::patience::millis_since;
 use io_edge::{Failed, Sink};
 use std::alloc::Global;
@@ -25,6 +25,20 @@ pub struct TcpSink<R> {
     start: Instant,
     written: Arc<AtomicU64, Global>,
     failed: u64,
+}
+
+/// A write that is begun again where a signal broke it off before its first byte.
+fn write_once(stream: &mut TcpStream, piece: &[u8]) -> io::Result<usize>
+    ensures bound { IfOk result (λ n. n ≤ length piece.now) }
+{
+    for _ in 0..INTERRUPTIONS {
+        match stream.write(piece) {
+            Ok(n) => return Ok(n),
+            Err(error) if is_interrupted(&error) => {}
+            Err(error) => return Err(error),
+        }
+    }
+    Err(io::Error::from(io::ErrorKind::Interrupted))
 }
 
 impl<R: Clock> TcpSink<R> {
@@ -57,7 +71,7 @@ impl<R: Clock> TcpSink<R> {
         let piece = &from[..from.len().min(PIECE)];
         let wait = Duration::from_millis(self.limits.write);
         self.stream.set_write_timeout(Some(wait))?;
-        let taken = self.stream.write(piece)?;
+        let taken = write_once(&mut self.stream, piece)?;
         if taken < piece.len() {
             return Err(io::Error::from(io::ErrorKind::TimedOut));
         }

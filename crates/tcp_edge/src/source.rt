@@ -2,6 +2,7 @@
 ghost use Rattle.std.specs.Prelude.{◌≡◌, ◌≤◌, None, length, IfOk};
 ghost use Rattle.io_edge.specs.Edge.{nothing_besides};
 
+use crate::limits::{INTERRUPTIONS, is_interrupted};
 use crate::patience::Patience;
 use io_edge::{Failed, Source};
 use std::io;
@@ -43,8 +44,8 @@ impl<R: Clock> TcpSource<R> {
     }
 }
 
-/// A read that waits no longer than it may.
-fn read_in_time<R: Clock>(
+/// One try to read, for what is left of the time.
+fn read_once<R: Clock>(
     stream: &mut TcpStream,
     patience: &mut Patience<R>,
     into: &mut [u8],
@@ -53,11 +54,31 @@ fn read_in_time<R: Clock>(
 {
     let wait = patience.left()?;
     stream.set_read_timeout(Some(wait))?;
-    let n = stream.read(into)?;
-    if n > 0 {
-        patience.note_bytes()?;
+    stream.read(into)
+}
+
+/// A read that waits no longer than it may. One that a signal broke off, as a process that is stopped
+/// and continued has it, is begun again.
+fn read_in_time<R: Clock>(
+    stream: &mut TcpStream,
+    patience: &mut Patience<R>,
+    into: &mut [u8],
+) -> io::Result<usize>
+    ensures bound { IfOk result (λ n. n ≤ length into.old) }
+{
+    for _ in 0..INTERRUPTIONS {
+        match read_once(stream, patience, into) {
+            Ok(n) => {
+                if n > 0 {
+                    patience.note_bytes()?;
+                }
+                return Ok(n);
+            }
+            Err(error) if is_interrupted(&error) => {}
+            Err(error) => return Err(error),
+        }
     }
-    Ok(n)
+    Err(io::Error::from(io::ErrorKind::Interrupted))
 }
 
 /// Reads until the end, or then, or the most bytes.
