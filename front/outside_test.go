@@ -144,7 +144,7 @@ func TestHeadLimit(t *testing.T) {
 
 // Each row sends a beginning and nothing more: the front has to end it.
 func TestSlowBeginnings(t *testing.T) {
-	r := newRig(t, never(t), func(l *limits) { l.handshake = 200 * time.Millisecond })
+	r := newRig(t, never(t), func(l *limits) { l.handshake = 600 * time.Millisecond })
 	i := tailclient.NewInitiator(113, fill(1), fill(2), *r.dialer.Server)
 	upgrade := "POST /ts2021 HTTP/1.1\r\nHost: x\r\nUpgrade: tailscale-control-protocol\r\nConnection: upgrade\r\nX-Tailscale-Handshake: " +
 		base64.StdEncoding.EncodeToString(i.Message()) + "\r\n\r\n"
@@ -156,7 +156,7 @@ func TestSlowBeginnings(t *testing.T) {
 	} {
 		start := time.Now()
 		r.raw(t, begin)
-		if took := time.Since(start); took > 3*time.Second || took < 150*time.Millisecond {
+		if took := time.Since(start); took > 3*time.Second || took < 500*time.Millisecond {
 			t.Errorf("%s: ended after %v", name, took)
 		}
 	}

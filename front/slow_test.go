@@ -24,7 +24,7 @@ func TestSlowStream(t *testing.T) {
 	poll := post(t, h, "/machine/map", `{"Stream":true}`)
 	select {
 	case <-stub:
-	case <-time.After(3 * time.Second):
+	case <-time.After(15 * time.Second):
 		t.Fatal("it is waited for")
 	}
 	if _, err := io.Copy(io.Discard, poll.Body); err == nil {
@@ -101,7 +101,7 @@ func TestSlowConnection(t *testing.T) {
 	f.WriteData(1, true, []byte(`{"Stream":true}`))
 	select {
 	case <-stub:
-	case <-time.After(5 * time.Second):
+	case <-time.After(15 * time.Second):
 		t.Fatal("it is waited for")
 	}
 	soon(t, "no connection", func() bool { return r.conns.taken() == 0 })
