@@ -11,7 +11,7 @@ import (
 	"tailnetd-front/internal/tailclient"
 )
 
-// Workers is the setting of the servers here, the most that there are; so many polls
+// Workers is the setting of the servers here, few enough for any limit of descriptors; so many polls
 // go with it.
 const (
 	Workers = 64
