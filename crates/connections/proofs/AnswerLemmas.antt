@@ -12,6 +12,7 @@ use Rattle.tailnet_desk.specs.declared.ask.Ask.{Ask}
 use Rattle.tailnet_desk.specs.declared.entry.Event.{Event}
 use Rattle.tailnet_desk.specs.declared.entry.Event.TheVariants as event
 use Rattle.tailnet_desk.specs.declared.reply.Reply.{Reply}
+use Rattle.tailnet_desk.specs.declared.reply.Reply.TheVariants.{Attached, Detached, Done, Ended, Frames, Lost, Refused}
 use Rattle.desk_front.specs.Replies.{reply_bytes}
 use Rattle.desk_front.specs.Wanted.{wanted_of}
 use Rattle.desk_front.specs.declared.want.Wanted.TheVariants as wants
@@ -20,9 +21,9 @@ use Rattle.desk_front.specs.declared.poll.Poll.{Poll}
 use Rattle.connections.specs.Tellings.{Giving, TurnsTook, Drew}
 use Rattle.connections.specs.Asked.{IsAskAnswered, Follows}
 use Rattle.connections.specs.Polled.{IsPollAnswered}
-use Rattle.connections.specs.Polls.{IsPoll}
+use Rattle.connections.specs.Polls.{IsPoll, heard_behind, heard_of}
 use Rattle.connections.specs.Exchanges.{Answered, IsExchange, IsOutcome, breaks, ended_by}
-use Rattle.exit_status.specs.Pieces.{Sent, IsSent}
+use Rattle.exit_status.specs.Pieces.{IsPrefix, Sent, IsSent}
 use Rattle.exit_status.specs.declared.closed.Closed.{Closed}
 use Rattle.exit_status.specs.declared.closed.Closed.TheVariants.{End, Early, ReadFault, WriteFault, NoMemory}
 
@@ -144,10 +145,24 @@ answered_fixed turn given more sent outcome request last bytes ended old new s i
   took = took_none old new a w f;
   written = wrote.written;
   front = wrote.front;
+  heard = (wrote.written, refl);
   to_sink = wrote.to_sink;
   later = wrote.later;
   outcome_is = follows.is wrote.written bytes old.write_faults new.write_faults wrote.is;
 }
+
+-- one turn alone drains nothing again
+pub heard_alone : (reply : Reply) (written : List ℕ) → IsPrefix (heard_behind reply []) written
+heard_alone (Done answer) written = (written, refl)
+heard_alone (Attached handle seq resumed may_wait) written = (written, refl)
+heard_alone (Frames responses) written = (written, refl)
+heard_alone Ended written = (written, refl)
+heard_alone Detached written = (written, refl)
+heard_alone (Refused refusal) written = (written, refl)
+heard_alone (Lost loss) written = (written, refl)
+
+heard_once : (t : Turned) (written : List ℕ) → IsPrefix (heard_of (t ∷ [])) written
+heard_once t written = heard_alone t.reply written
 
 -- an exchange of one turn
 pub answered_ask : {T S : Type 0} (turn : S → Event → Reply → S → Type 0) (given : FrontSettings) (more : ℕ) (sent outcome : Result T Closed) (request : Request) (last : Bool) (ask : Ask) (old new : Giving) (s t : S)
@@ -163,6 +178,7 @@ answered_ask turn given more sent outcome request last ask old new s t wants_it 
       took = asked.took;
       written = asked.sent.written;
       front = asked.sent.front;
+      heard = heard_once asked.turned asked.sent.written;
       to_sink = asked.sent.to_sink;
       later = asked.sent.later;
       outcome_is = follows.is asked.sent.written _ old.write_faults new.write_faults asked.sent.is;
@@ -182,6 +198,7 @@ answered_poll turn given more sent outcome request last p old new s t wants_it p
       took = polled.took;
       written = polled.sent.written;
       front = polled.sent.front;
+      heard = polled.heard;
       to_sink = polled.sent.to_sink;
       later = polled.sent.later;
       outcome_is = follows.is polled.sent.written polled.bytes old.write_faults new.write_faults polled.sent.is;

@@ -1,8 +1,9 @@
 -- What is heard of a connection that broke off.
-use Rattle.std.proofs.Common.{◌≡◌, ℕ, Option, None, Some, List, [], ◌∷◌, ◌++◌, inl, inr, refl, sym, ap, ◌∙◌, append_assoc}
+use Rattle.std.proofs.Common.{◌≡◌, ℕ, true, false, Option, None, Some, List, [], ◌∷◌, ◌++◌, inl, inr, refl, sym, ap, ◌∙◌, append_assoc}
 use Rattle.connections.specs.Exchanges.{Exchange, AreUnbroken, answers_of}
 use Rattle.exit_status.specs.Pieces.{IsPrefix}
 use Rattle.connections.specs.Connection.{IsBrokenOff, IsExtra}
+use Rattle.connections.specs.Polls.{heard_of}
 use Rattle.exit_status.specs.declared.closed.Closed.{Closed}
 
 not_none : (xs : List Exchange) (y : Exchange) (ys : List Exchange) → (xs ++ y ∷ ys) ≡ [] → ⊥
@@ -43,3 +44,8 @@ nothing_heard xs y ys extra h = let p = heard xs y ys extra [] h in nothing_of (
 pub ended_quiet : (c : Closed) (rest extra : List ℕ) → IsExtra (Some c) rest extra → extra ≡ []
 ended_quiet c rest extra (inl e) = e
 ended_quiet c rest extra (inr h) = absurd (let e : Some c ≡ None = h.0 in cc)
+
+-- of an answer that broke off, all was written that a poll was replied before its last drain
+pub heard_before_last : (x : Exchange) (extra written : List ℕ) → IsBrokenOff (x ∷ []) extra written → x.broken ≡ true → IsPrefix (heard_of x.turns) written
+heard_before_last x extra written (inl h) broken = h.4
+heard_before_last x extra written (inr h) broken = absurd (let clash : true ≡ false = sym broken ∙ h.1 in cc)

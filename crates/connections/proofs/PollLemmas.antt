@@ -15,15 +15,42 @@ use Rattle.tailnet_desk.proofs.Histories.{Chain-append}
 use Rattle.desk_front.specs.Replies.{map_ask_of, reply_bytes}
 use Rattle.desk_front.specs.declared.front_settings.FrontSettings.{FrontSettings}
 use Rattle.desk_front.specs.declared.poll.Poll.{Poll}
-use Rattle.exit_status.specs.Pieces.{Sent}
+use Rattle.exit_status.specs.Pieces.{IsPrefix, Sent}
 use Rattle.exit_status.specs.declared.closed.Closed.{Closed}
 use Rattle.connections.specs.Exchanges.{breaks}
 use Rattle.connections.specs.Polled.{AttachAnswered, Completed, DrainedSent, Followed, FurtherSent, GoesOn, IsPollAnswered, NextSent, TurnedOnce}
-use Rattle.connections.specs.Polls.{AreBehind, AreFurther, IsAttachOf, IsBehindDrain, IsDetachOf, IsDrainOf, IsPollOf, chunks_for, drained_bytes, further_bytes, stream_ending, stream_front, stream_opening}
+use Rattle.connections.specs.Polls.{AreBehind, AreFurther, IsAttachOf, IsBehindDrain, IsDetachOf, IsDrainOf, IsPollOf, before_last, chunks_for, drained_bytes, further_bytes, heard_behind, heard_drains, heard_of, stream_ending, stream_front, stream_opening, without_last}
 use Rattle.connections.specs.Tellings.{Drew, Giving, TurnsTook, taking}
-use Rattle.connections.proofs.AnswerLemmas.{clamped_told, same_number, took_none}
-use Rattle.connections.proofs.SentLemmas.{broke, sent_broken, sent_completed, sent_nothing, sent_then, still_breaks}
+use Rattle.connections.proofs.AnswerLemmas.{clamped_told, heard_alone, same_number, took_none}
+use Rattle.connections.proofs.SentLemmas.{broke, heard_completed, heard_then, sent_broken, sent_completed, sent_nothing, sent_then, still_breaks}
 use Rattle.connections.proofs.Tellings.{took-append}
+
+-- ---- what was heard
+
+all_but_last : {A : Type 0} (xs : List A) (x : A) → without_last (xs ++ x ∷ []) ≡ xs
+all_but_last [] x = refl
+all_but_last (y ∷ []) x = refl
+all_but_last (y ∷ z ∷ zs) x = ap (λ l. y ∷ l) (all_but_last (z ∷ zs) x)
+
+-- of nothing nothing
+heard_nothing : (written : List ℕ) → IsPrefix [] written
+heard_nothing written = (written, refl)
+
+-- one further drain went out whole, and then others
+heard_next : {T : Type 0} (on : Bool) (outcome : Result T Closed) (o mid new : Option (List ℕ)) (n m k : ℕ) (t : Turned) (ts : List Turned)
+    (a : Sent (Ok on) o mid n m (drained_bytes t.reply)) (b : Sent outcome mid new m k (further_bytes ts)) → IsPrefix (further_bytes (without_last ts)) b.written
+    → IsPrefix (further_bytes (without_last (t ∷ ts))) (sent_then on outcome o mid new n m k (drained_bytes t.reply) (further_bytes ts) a b).written
+heard_next on outcome o mid new n m k t [] a b heard = heard_nothing _
+heard_next on outcome o mid new n m k t (u ∷ us) a b heard =
+    heard_then on outcome o mid new n m k (drained_bytes t.reply) (further_bytes (u ∷ us)) (further_bytes (without_last (u ∷ us))) a b heard
+
+-- the first drain went out whole, and then others
+heard_first : {T U : Type 0} (handle : List ℕ) (resumed : Bool) (responses : List Response) (done : U) (outcome : Result T Closed) (o mid new : Option (List ℕ)) (n m k : ℕ) (ts : List Turned)
+    (a : Sent (Ok done) o mid n m (stream_opening handle resumed ++ chunks_for responses)) (b : Sent outcome mid new m k (further_bytes ts)) → IsPrefix (further_bytes (without_last ts)) b.written
+    → IsPrefix (before_last handle resumed (Frames responses) ts) (sent_then done outcome o mid new n m k (stream_opening handle resumed ++ chunks_for responses) (further_bytes ts) a b).written
+heard_first handle resumed responses done outcome o mid new n m k [] a b heard = heard_nothing _
+heard_first handle resumed responses done outcome o mid new n m k (t ∷ ts) a b heard =
+    heard_then done outcome o mid new n m k (stream_opening handle resumed ++ chunks_for responses) (further_bytes (t ∷ ts)) (further_bytes (without_last (t ∷ ts))) a b heard
 
 -- ---- one turn
 
@@ -129,6 +156,7 @@ module _ {S : Type 0} (turn : S → Event → Reply → S → Type 0) where
     chain = refl;
     took = took_none g g (λ k. refl) (λ k. refl) (omega arith);
     sent = sent_nothing done g.held g.write_faults;
+    heard = heard_nothing _;
   }
 
   -- behind a drain that was answered frames, more follow
@@ -176,6 +204,7 @@ module _ {S : Type 0} (turn : S → Event → Reply → S → Type 0) where
     took = took-append old mid new (next.drain ∷ []) rest.further next.took rest.took;
     sent = sent_then on outcome old.held mid.held new.held old.write_faults mid.write_faults new.write_faults (drained_bytes next.drain.reply) (further_bytes rest.further)
         next.sent rest.sent;
+    heard = heard_next on outcome old.held mid.held new.held old.write_faults mid.write_faults new.write_faults next.drain rest.further next.sent rest.sent rest.heard;
   }
 
   ended_sent : {T : Type 0} (on : Bool) (done : T) (o new : Option (List ℕ)) (n k : ℕ) (bytes : List ℕ) → Sent (Ok on) o new n k bytes → Sent (Ok done) o new n k (bytes ++ [])
@@ -190,6 +219,7 @@ module _ {S : Type 0} (turn : S → Event → Reply → S → Type 0) where
     chain = (t, next.leads, refl);
     took = next.took;
     sent = ended_sent on done old.held new.held old.write_faults new.write_faults (drained_bytes next.drain.reply) next.sent;
+    heard = heard_nothing _;
   }
 
   further_broken : {T : Type 0} (e : Closed) (machine : MachineKey) (handle : List ℕ) (more : ℕ) (old new : Giving) (s t : S)
@@ -208,6 +238,7 @@ module _ {S : Type 0} (turn : S → Event → Reply → S → Type 0) where
         chain = (t, next.leads, refl);
         took = next.took;
         sent = sent;
+        heard = heard_nothing _;
       }
 
   pub further_failed : {T : Type 0} (outcome : Result T Closed) (e : Closed) (machine : MachineKey) (handle : List ℕ) (more : ℕ) (old new : Giving) (s t : S)
@@ -229,6 +260,7 @@ module _ {S : Type 0} (turn : S → Event → Reply → S → Type 0) where
       chain = rest.chain;
       took = took_apart k l h l m j n j a b w w f f rest.further rest.took;
       sent = sent_then done outcome h k l n m j (stream_opening handle resumed ++ chunks_for responses) (further_bytes rest.further) first rest.sent;
+      heard = heard_first handle resumed responses done outcome h k l n m j rest.further first rest.sent rest.heard;
     }
 
     -- they broke off
@@ -241,6 +273,7 @@ module _ {S : Type 0} (turn : S → Event → Reply → S → Type 0) where
       chain = refl;
       took = took_none (taking h n a w f) (taking k m a w f) (λ i. refl) (λ i. refl) (omega arith);
       sent = sent_broken {T = T} {U = T} e h k n m (stream_opening handle resumed ++ chunks_for responses) [] first;
+      heard = heard_nothing _;
     }
 
     -- the session has ended
@@ -253,6 +286,7 @@ module _ {S : Type 0} (turn : S → Event → Reply → S → Type 0) where
       chain = refl;
       took = took_none (taking h n a w f) (taking k m a w f) (λ i. refl) (λ i. refl) (omega arith);
       sent = sent;
+      heard = heard_nothing _;
     }
 
     -- memory ran out
@@ -265,6 +299,7 @@ module _ {S : Type 0} (turn : S → Event → Reply → S → Type 0) where
       chain = refl;
       took = took_none (taking h n a w f) (taking k m a w f) (λ i. refl) (λ i. refl) (omega arith);
       sent = sent;
+      heard = heard_nothing _;
     }
 
     -- ---- from the first drain to the detach
@@ -314,6 +349,10 @@ module _ {S : Type 0} (turn : S → Event → Reply → S → Type 0) where
         let took : TurnsTook g0 g3 later = took-append g0 g1 g3 (drain.turned ∷ []) (ts ++ detach.turned ∷ []) drain.took
         (took-append g1 g2 g3 ts (detach.turned ∷ []) drained.took detach.took) in
         let is = sym drain.reply_is in
+        let front : List ℕ = stream_front given close p handle resumed reply ts in
+        let whole : heard_drains handle resumed later ≡ before_last handle resumed reply ts =
+        ap (λ (r : Reply). before_last handle resumed r (without_last (ts ++ detach.turned ∷ []))) drain.reply_is
+        ∙ ap (λ (us : List Turned). before_last handle resumed reply us) (all_but_last ts detach.turned) in
         record {
           later = later;
           bytes = stream_front given close p handle resumed reply ts ++ stream_ending reply;
@@ -331,6 +370,8 @@ module _ {S : Type 0} (turn : S → Event → Reply → S → Type 0) where
           chain = (u, drain.leads, tail);
           took = took_apart h k h l n m n j a d w w f f later took;
           sent = sent_completed sent outcome h k l n m j (stream_front given close p handle resumed reply ts) (stream_ending reply) drained.sent completed;
+          heard = subst (λ (part : List ℕ). IsPrefix part (sent_completed sent outcome h k l n m j front (stream_ending reply) drained.sent completed).written) (sym whole)
+              (heard_completed sent outcome h k l n m j front (stream_ending reply) (before_last handle resumed reply ts) drained.sent completed drained.heard);
         }
 
   -- ---- from the attach on
@@ -348,6 +389,7 @@ module _ {S : Type 0} (turn : S → Event → Reply → S → Type 0) where
       chain = followed.chain;
       took = followed.took;
       sent = followed.sent;
+      heard = subst (λ (r : Reply). IsPrefix (heard_behind r followed.later) followed.sent.written) (sym is) followed.heard;
     }
 
     -- the attach was refused or lost, and nothing follows
@@ -362,6 +404,7 @@ module _ {S : Type 0} (turn : S → Event → Reply → S → Type 0) where
       chain = refl;
       took = took_none (taking h n a w f) (taking k m a w f) (λ i. refl) (λ i. refl) (omega arith);
       sent = sent;
+      heard = heard_alone reply sent.written;
     }
 
     pub polled : {T : Type 0} (outcome : Result T Closed) (reply : Reply) (h k : Option (List ℕ)) (n m : ℕ) (a b c : ℕ → Option ℤ)
@@ -382,4 +425,5 @@ module _ {S : Type 0} (turn : S → Event → Reply → S → Type 0) where
       chain = (u, attach.leads, answered.chain);
       took = took-append (taking h n a w f) (taking h n b x g) (taking k m c x g) (attach.turned ∷ []) answered.later attach.took answered.took;
       sent = answered.sent;
+      heard = subst (λ (r : Reply). IsPrefix (heard_behind r answered.later) answered.sent.written) (sym attach.reply_is) answered.heard;
     }

@@ -6,7 +6,7 @@ use Rattle.fresh_maps.specs.Frames.{frame_of}
 use Rattle.http_front.specs.Streams.{chunk_of}
 use Rattle.io_edge.specs.Edge.{and_held}
 use Rattle.io_edge.proofs.Told.{held_more, held_nothing, rose_later}
-use Rattle.exit_status.specs.Pieces.{IsSent, Sent}
+use Rattle.exit_status.specs.Pieces.{IsPrefix, IsSent, Sent}
 use Rattle.exit_status.specs.declared.closed.Closed.{Closed}
 use Rattle.exit_status.specs.declared.closed.Closed.TheVariants.{End, Early, ReadFault, WriteFault, NoMemory}
 use Rattle.exit_status.proofs.Writes.{prefix_more}
@@ -34,6 +34,13 @@ sent_then done outcome o mid new n m k first rest a b =
       later = omega (arith, a.later, b.later);
       is = sent_as outcome first b.written rest n m k a.later b.is;
     }
+
+-- and what was heard of the rest is heard behind the first
+pub heard_then : {T U : Type 0} (done : U) (outcome : Result T Closed) (o mid new : Option (List ℕ)) (n m k : ℕ) (first rest part : List ℕ)
+    (a : Sent (Ok done) o mid n m first) (b : Sent outcome mid new m k rest) → IsPrefix part b.written
+    → IsPrefix (first ++ part) (sent_then done outcome o mid new n m k first rest a b).written
+unfolding sent_then
+heard_then done outcome o mid new n m k first rest part a b heard = prefix_more first part b.written heard
 
 broken_as : (T U : Type 0) (e : Closed) (written first all : List ℕ) (n k : ℕ) → IsSent {T = T} (Err e) written first n k → IsSent {T = U} (Err e) written all n k
 broken_as T U End written first all n k h = h
@@ -69,10 +76,24 @@ pub sent_completed : {T : Type 0} (sent outcome : Result T Closed) (o mid new : 
     → Sent sent o mid n m front → Completed sent outcome mid new m k ending → Sent outcome o new n k (front ++ ending)
 sent_completed (Ok done) outcome o mid new n m k front ending a c = sent_then done outcome o mid new n m k front ending a c
 sent_completed {T} (Err e) outcome o mid new n m k front ending a c =
-    let here : Sent {T = T} (Err e) o mid n m (front ++ ending) = sent_broken e o mid n m front ending a in
-    subst (λ (r : Result T Closed). Sent r o new n k (front ++ ending)) (sym c.0)
-    (subst (λ (x : Option (List ℕ)). Sent {T = T} (Err e) o x n k (front ++ ending)) (sym c.1)
-    (subst (λ (j : ℕ). Sent {T = T} (Err e) o mid n j (front ++ ending)) (sym c.2) here))
+    let same : IsSent {T = T} (Err e) a.written (front ++ ending) n m = broken_as T T e a.written front (front ++ ending) n m a.is in
+    record {
+      written = a.written;
+      front = (a.front.0 ++ ending, ap (λ x. x ++ ending) a.front.1 ∙ append_assoc a.written a.front.0 ending);
+      to_sink = c.1 ∙ a.to_sink;
+      later = omega (arith, a.later, c.2);
+      is = subst (λ (r : Result T Closed). IsSent r a.written (front ++ ending) n k) (sym c.0)
+          (subst (λ (j : ℕ). IsSent {T = T} (Err e) a.written (front ++ ending) n j) (sym c.2) same);
+    }
+
+-- what was heard before the ending is heard still
+pub heard_completed : {T : Type 0} (sent outcome : Result T Closed) (o mid new : Option (List ℕ)) (n m k : ℕ) (front ending part : List ℕ)
+    (a : Sent sent o mid n m front) (c : Completed sent outcome mid new m k ending) → IsPrefix part a.written
+    → IsPrefix part (sent_completed sent outcome o mid new n m k front ending a c).written
+unfolding sent_completed sent_then
+heard_completed (Ok done) outcome o mid new n m k front ending part a c heard =
+    (heard.0 ++ c.written, ap (λ x. x ++ c.written) (sym a.is ∙ heard.1) ∙ append_assoc part heard.0 c.written)
+heard_completed (Err e) outcome o mid new n m k front ending part a c heard = heard
 
 -- the ending doesn't repair what broke off
 pub still_breaks : {T : Type 0} (sent outcome : Result T Closed) (mid new : Option (List ℕ)) (m k : ℕ) (ending : List ℕ)

@@ -19,6 +19,7 @@ use Rattle.desk_front.specs.declared.front_settings.FrontSettings.{FrontSettings
 use Rattle.connections.specs.Tellings.{Giving, TurnsTook}
 use Rattle.connections.specs.Asked.{IsRefusalSent, IsRefusedBy}
 use Rattle.connections.specs.Exchanges.{Exchange, IsExchange, AreExchanges, Answered, IsOutcome, breaks, turns_of, answers_of, end_of}
+use Rattle.connections.specs.Polls.{heard_of}
 use Rattle.exit_status.specs.Pieces.{IsPrefix}
 use Rattle.connections.specs.Connection.{IsConnection, Goes, Ends, IsExtra, Told}
 use Rattle.connections.proofs.AnswerLemmas.{took_none}
@@ -40,12 +41,12 @@ or_none None = refl
 or_none (Some x) = refl
 
 last_ends : (T : Type 0) (closed : Closed) (x : Exchange) (rest written : List ℕ) (old new : Told) → IsOutcome {T = T} (Err closed) x.ended written x.bytes old.giving.write_faults new.giving.write_faults
-    → IsPrefix written x.bytes → x.broken ≡ breaks {T = T} (Err closed) → Ends closed (x ∷ []) rest [] written old new
-last_ends T End x rest written old new h front b = (h.0 ∙ sym (append-nil x.bytes), inl (or_none x.ended ∙ h.1), (b, tt))
-last_ends T Early x rest written old new h front b = (h.0 ∙ sym (append-nil x.bytes ∙ ap (λ b. b) refl) ∙ sym (append-nil (x.bytes ++ [])), inl (or_none x.ended ∙ h.1), (b, tt))
-last_ends T ReadFault x rest written old new h front b = absurd h
-last_ends T WriteFault x rest written old new h front b = (inl (b, refl, refl, front), h)
-last_ends T NoMemory x rest written old new h front b = inl (b, refl, refl, front)
+    → IsPrefix written x.bytes → IsPrefix (heard_of x.turns) written → x.broken ≡ breaks {T = T} (Err closed) → Ends closed (x ∷ []) rest [] written old new
+last_ends T End x rest written old new h front heard b = (h.0 ∙ sym (append-nil x.bytes), inl (or_none x.ended ∙ h.1), (b, tt))
+last_ends T Early x rest written old new h front heard b = (h.0 ∙ sym (append-nil x.bytes ∙ ap (λ b. b) refl) ∙ sym (append-nil (x.bytes ++ [])), inl (or_none x.ended ∙ h.1), (b, tt))
+last_ends T ReadFault x rest written old new h front heard b = absurd h
+last_ends T WriteFault x rest written old new h front heard b = (inl (b, refl, refl, front, heard), h)
+last_ends T NoMemory x rest written old new h front heard b = inl (b, refl, refl, front, heard)
 
 ends_more : (closed : Closed) (x : Exchange) (xs : List Exchange) (rest extra written : List ℕ) (old mid new : Told) → x.ended ≡ None → x.broken ≡ false → old.read_faults ≤ mid.read_faults → old.giving.write_faults ≤ mid.giving.write_faults
     → Ends closed xs rest extra written mid new → Ends closed (x ∷ xs) rest extra (x.bytes ++ written) old new
@@ -131,7 +132,7 @@ module _ {S : Type 0} (turn : S → Event → Reply → S → Type 0) (given : F
         to_sink = answered.to_sink;
         reads_later = later;
         writes_later = answered.later;
-        ending = last_ends T closed x new_held answered.written old new answered.outcome_is answered.front answered.broken_is;
+        ending = last_ends T closed x new_held answered.written old new answered.outcome_is answered.front answered.heard answered.broken_is;
       }
 
   -- a request was served, and the connection goes on

@@ -9,6 +9,7 @@ use Rattle.tailnet_desk.specs.declared.entry.Event.{Event}
 use Rattle.tailnet_desk.specs.declared.reply.Reply.{Reply}
 use Rattle.desk_front.specs.declared.front_settings.FrontSettings.{FrontSettings}
 use Rattle.connections.specs.Tellings.{Giving, TurnsTook, giving}
+use Rattle.connections.specs.Polls.{heard_of}
 use Rattle.exit_status.specs.Pieces.{IsPrefix}
 use Rattle.connections.specs.Exchanges.{Exchange, IsExchange, AreExchanges, AreUnbroken, requests_of, turns_of, answers_of, end_of}
 use Rattle.exit_status.specs.declared.closed.Closed.{Closed}
@@ -35,11 +36,12 @@ IsRefusal rest extra = (fault : HeadFault) × IsTail rest (bad fault) × (extra 
 abbrev pub IsExtra : Option Closed → List ℕ → List ℕ → Type 0
 IsExtra ended rest extra = (extra ≡ []) ⊎ ((ended ≡ None) × IsRefusal rest extra)
 
--- of the last answer, whose writing broke off, there is a front; or none broke off, and of the refusal behind them there is one
+-- of the last answer, whose writing broke off, there is a front, and all that comes before its last drain: where a write
+-- failed a poll isn't drained again; or none broke off, and of the refusal behind them there is one
 abbrev pub IsBrokenOff : List Exchange → List ℕ → List ℕ → Type 0
 IsBrokenOff [] extra written = IsPrefix written extra
 IsBrokenOff (x ∷ xs) extra written =
-    ((x.broken ≡ true) × (xs ≡ []) × (extra ≡ []) × IsPrefix written x.bytes)
+    ((x.broken ≡ true) × (xs ≡ []) × (extra ≡ []) × IsPrefix written x.bytes × IsPrefix (heard_of x.turns) written)
     ⊎ ((tail : List ℕ) × (x.broken ≡ false) × (written ≡ x.bytes ++ tail) × IsBrokenOff xs extra tail)
 
 -- the input ended inside a request, or what is left of it is refused

@@ -13,7 +13,7 @@ use Rattle.desk_front.specs.Wanted.{wanted_of}
 use Rattle.desk_front.specs.declared.want.Wanted.{Wanted}
 use Rattle.desk_front.specs.declared.want.Wanted.TheVariants as wants
 use Rattle.desk_front.specs.declared.front_settings.FrontSettings.{FrontSettings}
-use Rattle.connections.specs.Polls.{IsPoll}
+use Rattle.connections.specs.Polls.{IsPoll, heard_of}
 use Rattle.connections.specs.Tellings.{Giving, IsTurnOf, TurnsTook}
 use Rattle.exit_status.specs.Pieces.{IsPrefix}
 use Rattle.exit_status.specs.declared.closed.Closed.{Closed}
@@ -104,6 +104,7 @@ pub record Answered {T S : Type 0} (turn : S → Event → Reply → S → Type 
   pub took : TurnsTook old new exchange.turns
   pub written : List ℕ
   pub front : IsPrefix written exchange.bytes
+  pub heard : IsPrefix (heard_of exchange.turns) written
   pub to_sink : new.held ≡ and_held old.held written
   pub later : old.write_faults ≤ new.write_faults
   pub outcome_is : IsOutcome outcome exchange.ended written exchange.bytes old.write_faults new.write_faults

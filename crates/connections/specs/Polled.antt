@@ -8,9 +8,9 @@ use Rattle.tailnet_desk.specs.declared.reply.Reply.TheVariants.{Attached, Detach
 use Rattle.desk_front.specs.declared.front_settings.FrontSettings.{FrontSettings}
 use Rattle.desk_front.specs.declared.poll.Poll.{Poll}
 use Rattle.connections.specs.Exchanges.{breaks}
-use Rattle.connections.specs.Polls.{AreBehind, AreFurther, IsDrainOf, IsPoll, IsPollOf, IsStream, drained_bytes, further_bytes, stream_front}
+use Rattle.connections.specs.Polls.{AreBehind, AreFurther, IsDrainOf, IsPoll, IsPollOf, IsStream, before_last, drained_bytes, further_bytes, heard_behind, heard_drains, heard_of, stream_front, without_last}
 use Rattle.connections.specs.Tellings.{Giving, TurnsTook}
-use Rattle.exit_status.specs.Pieces.{Sent}
+use Rattle.exit_status.specs.Pieces.{IsPrefix, Sent}
 use Rattle.exit_status.specs.declared.closed.Closed.{Closed}
 
 -- one turn, of which the test holds, was replied so
@@ -54,6 +54,7 @@ pub record FurtherSent {T S : Type 0} (turn : S → Event → Reply → S → Ty
   pub chain : Chain turn s further t
   pub took : TurnsTook old new further
   pub sent : Sent outcome old.held new.held old.write_faults new.write_faults (further_bytes further)
+  pub heard : IsPrefix (further_bytes (without_last further)) sent.written
 
 -- what follows a drain that was replied so, but for what ends the answer
 pub record DrainedSent {T S : Type 0} (turn : S → Event → Reply → S → Type 0) (given : FrontSettings) (more : ℕ) (outcome : Result T Closed) (close : Bool) (p : Poll) (handle : List ℕ) (resumed : Bool) (reply : Reply) (old new : Giving) (s t : S) : Type 0 where
@@ -62,6 +63,7 @@ pub record DrainedSent {T S : Type 0} (turn : S → Event → Reply → S → Ty
   pub chain : Chain turn s further t
   pub took : TurnsTook old new further
   pub sent : Sent outcome old.held new.held old.write_faults new.write_faults (stream_front given close p handle resumed reply further)
+  pub heard : IsPrefix (before_last handle resumed reply further) sent.written
 
 -- what was sent is ended so; if its writing broke off, nothing more is written
 abbrev pub Completed : {T : Type 0} → Result T Closed → Result T Closed → Option (List ℕ) → Option (List ℕ) → ℕ → ℕ → List ℕ → Type 0
@@ -76,6 +78,7 @@ pub record Followed {T S : Type 0} (turn : S → Event → Reply → S → Type 
   pub chain : Chain turn s later t
   pub took : TurnsTook old new later
   pub sent : Sent outcome old.held new.held old.write_faults new.write_faults bytes
+  pub heard : IsPrefix (heard_drains handle resumed later) sent.written
 
 -- an attach that was replied so was answered
 pub record AttachAnswered {T S : Type 0} (turn : S → Event → Reply → S → Type 0) (given : FrontSettings) (more : ℕ) (outcome : Result T Closed) (close : Bool) (p : Poll) (reply : Reply) (old new : Giving) (s t : S) : Type 0 where
@@ -85,6 +88,7 @@ pub record AttachAnswered {T S : Type 0} (turn : S → Event → Reply → S →
   pub chain : Chain turn s later t
   pub took : TurnsTook old new later
   pub sent : Sent outcome old.held new.held old.write_faults new.write_faults bytes
+  pub heard : IsPrefix (heard_behind reply later) sent.written
 
 -- a poll was answered
 pub record IsPollAnswered {T S : Type 0} (turn : S → Event → Reply → S → Type 0) (given : FrontSettings) (more : ℕ) (outcome : Result T Closed) (p : Poll) (close : Bool) (old new : Giving) (s t : S) : Type 0 where
@@ -94,3 +98,4 @@ pub record IsPollAnswered {T S : Type 0} (turn : S → Event → Reply → S →
   pub chain : Chain turn s turns t
   pub took : TurnsTook old new turns
   pub sent : Sent outcome old.held new.held old.write_faults new.write_faults bytes
+  pub heard : IsPrefix (heard_of turns) sent.written

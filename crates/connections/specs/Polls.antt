@@ -79,6 +79,37 @@ stream_ending Detached = []
 stream_ending (Refused refusal) = []
 stream_ending (Lost loss) = []
 
+-- ---- what was written whole before the last drain
+
+abbrev pub without_last : {A : Type 0} → List A → List A
+without_last [] = []
+without_last (x ∷ []) = []
+without_last (x ∷ y ∷ ys) = x ∷ without_last (y ∷ ys)
+
+-- the bytes before those of the last further drain, if there is one
+abbrev pub before_last : List ℕ → Bool → Reply → List Turned → List ℕ
+before_last handle resumed first [] = []
+before_last handle resumed first (t ∷ ts) = (stream_opening handle resumed ++ drained_bytes first) ++ further_bytes (without_last (t ∷ ts))
+
+-- the same from the turns behind an attach: a drain, further ones, and a detach
+abbrev pub heard_drains : List ℕ → Bool → List Turned → List ℕ
+heard_drains handle resumed [] = []
+heard_drains handle resumed (drain ∷ rest) = before_last handle resumed drain.reply (without_last rest)
+
+abbrev pub heard_behind : Reply → List Turned → List ℕ
+heard_behind (Done answer) later = []
+heard_behind (Attached handle seq resumed may_wait) later = heard_drains handle resumed later
+heard_behind (Frames responses) later = []
+heard_behind Ended later = []
+heard_behind Detached later = []
+heard_behind (Refused refusal) later = []
+heard_behind (Lost loss) later = []
+
+-- of the turns of a request: nothing, but of a poll that drained again
+abbrev pub heard_of : List Turned → List ℕ
+heard_of [] = []
+heard_of (t ∷ later) = heard_behind t.reply later
+
 -- ---- turns
 
 -- what follows a further drain: after frames more of them; nothing where the session has ended, or where memory ran out,
