@@ -19,7 +19,7 @@ use Rattle.exit_status.specs.Pieces.{IsPrefix, Sent}
 use Rattle.exit_status.specs.declared.closed.Closed.{Closed}
 use Rattle.connections.specs.Exchanges.{breaks}
 use Rattle.connections.specs.Polled.{AttachAnswered, Completed, DrainedSent, Followed, FurtherSent, GoesOn, IsPollAnswered, NextSent, TurnedOnce}
-use Rattle.connections.specs.Polls.{AreBehind, AreFurther, IsAttachOf, IsBehindDrain, IsDetachOf, IsDrainOf, IsPollOf, before_last, chunks_for, drained_bytes, further_bytes, heard_behind, heard_drains, heard_of, stream_ending, stream_front, stream_opening, without_last}
+use Rattle.connections.specs.Polls.{AreBehind, AreFurther, IsAttachOf, IsBehindDrain, IsDetachOf, IsDrainOf, IsPollOf, all_but_last, before_last, chunks_for, drained_bytes, further_bytes, heard_behind, heard_drains, heard_of, stream_ending, stream_front, stream_opening, without_last}
 use Rattle.connections.specs.Tellings.{Drew, Giving, TurnsTook, taking}
 use Rattle.connections.proofs.AnswerLemmas.{clamped_told, heard_alone, same_number, took_none}
 use Rattle.connections.proofs.SentLemmas.{broke, heard_completed, heard_then, sent_broken, sent_completed, sent_nothing, sent_then, still_breaks}
@@ -27,10 +27,13 @@ use Rattle.connections.proofs.Tellings.{took-append}
 
 -- ---- what was heard
 
-all_but_last : {A : Type 0} (xs : List A) (x : A) → without_last (xs ++ x ∷ []) ≡ xs
-all_but_last [] x = refl
-all_but_last (y ∷ []) x = refl
-all_but_last (y ∷ z ∷ zs) x = ap (λ l. y ∷ l) (all_but_last (z ∷ zs) x)
+last_left_out : {A : Type 0} (y : A) (ys : List A) (x : A) → all_but_last y (ys ++ x ∷ []) ≡ y ∷ ys
+last_left_out y [] x = refl
+last_left_out y (z ∷ zs) x = ap (λ l. y ∷ l) (last_left_out z zs x)
+
+without_added : {A : Type 0} (xs : List A) (x : A) → without_last (xs ++ x ∷ []) ≡ xs
+without_added [] x = refl
+without_added (y ∷ ys) x = last_left_out y ys x
 
 -- of nothing nothing
 heard_nothing : (written : List ℕ) → IsPrefix [] written
@@ -352,7 +355,7 @@ module _ {S : Type 0} (turn : S → Event → Reply → S → Type 0) where
         let front : List ℕ = stream_front given close p handle resumed reply ts in
         let whole : heard_drains handle resumed later ≡ before_last handle resumed reply ts =
         ap (λ (r : Reply). before_last handle resumed r (without_last (ts ++ detach.turned ∷ []))) drain.reply_is
-        ∙ ap (λ (us : List Turned). before_last handle resumed reply us) (all_but_last ts detach.turned) in
+        ∙ ap (λ (us : List Turned). before_last handle resumed reply us) (without_added ts detach.turned) in
         record {
           later = later;
           bytes = stream_front given close p handle resumed reply ts ++ stream_ending reply;

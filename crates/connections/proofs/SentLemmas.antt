@@ -75,15 +75,15 @@ broke T NoMemory written bytes before now h = refl
 pub sent_completed : {T : Type 0} (sent outcome : Result T Closed) (o mid new : Option (List ℕ)) (n m k : ℕ) (front ending : List ℕ)
     → Sent sent o mid n m front → Completed sent outcome mid new m k ending → Sent outcome o new n k (front ++ ending)
 sent_completed (Ok done) outcome o mid new n m k front ending a c = sent_then done outcome o mid new n m k front ending a c
-sent_completed {T} (Err e) outcome o mid new n m k front ending a c =
-    let same : IsSent {T = T} (Err e) a.written (front ++ ending) n m = broken_as T T e a.written front (front ++ ending) n m a.is in
+sent_completed {T} (Err e) outcome o mid new n m k ahead ending a c =
+    let same : IsSent {T = T} (Err e) a.written (ahead ++ ending) n m = broken_as T T e a.written ahead (ahead ++ ending) n m a.is in
     record {
       written = a.written;
       front = (a.front.0 ++ ending, ap (λ x. x ++ ending) a.front.1 ∙ append_assoc a.written a.front.0 ending);
       to_sink = c.1 ∙ a.to_sink;
       later = omega (arith, a.later, c.2);
-      is = subst (λ (r : Result T Closed). IsSent r a.written (front ++ ending) n k) (sym c.0)
-          (subst (λ (j : ℕ). IsSent {T = T} (Err e) a.written (front ++ ending) n j) (sym c.2) same);
+      is = subst (λ (r : Result T Closed). IsSent r a.written (ahead ++ ending) n k) (sym c.0)
+          (subst (λ (j : ℕ). IsSent {T = T} (Err e) a.written (ahead ++ ending) n j) (sym c.2) same);
     }
 
 -- what was heard before the ending is heard still

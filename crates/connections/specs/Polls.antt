@@ -81,10 +81,14 @@ stream_ending (Lost loss) = []
 
 -- ---- what was written whole before the last drain
 
+-- an element and others, but for the last of all
+abbrev pub all_but_last : {A : Type 0} → A → List A → List A
+all_but_last x [] = []
+all_but_last x (y ∷ ys) = x ∷ all_but_last y ys
+
 abbrev pub without_last : {A : Type 0} → List A → List A
 without_last [] = []
-without_last (x ∷ []) = []
-without_last (x ∷ y ∷ ys) = x ∷ without_last (y ∷ ys)
+without_last (x ∷ xs) = all_but_last x xs
 
 -- the bytes before those of the last further drain, if there is one
 abbrev pub before_last : List ℕ → Bool → Reply → List Turned → List ℕ
