@@ -18,7 +18,8 @@ pub fn answers_are_heard()
     ensures before_refusal { (xs : List Exchange) (b : ℕ) (bs written : List ℕ)
         → IsBrokenOff xs (b ∷ bs) written → IsPrefix (answers_of xs) written }
     ensures drained { (x : Exchange) (extra written : List ℕ)
-        → IsBrokenOff (x ∷ []) extra written → x.broken ≡ true → IsPrefix (heard_of x.turns) written }
+        → IsBrokenOff (x ∷ []) extra written → x.broken ≡ true
+        → IsPrefix (heard_of x.turns) written }
     ensures nothing { (xs : List Exchange) (y : Exchange) (ys : List Exchange)
         (extra : List ℕ) → IsBrokenOff (xs ++ y ∷ ys) extra [] → answers_of xs ≡ [] }
 {}
