@@ -32,15 +32,12 @@ returns-in-Ok-open g c =
       fault = tt;
     }
 
-pub returns-in-Err : goal.returns-in-Err
-returns-in-Err g c =
+pub returns-clause-fault : goal.returns-clause-fault
+returns-clause-fault g c =
     let failed = c.in-Err.ensures in
     let gives = c.in-Ok.ensures.gives in
-    record {
-      opened = tt;
-      fault = unopened c.in-Err.fault c.ended_of.result c.args.settings _ _ c.ended_of.ensures.fault
-          (kept_given (g.P.Opener.told c.args.opener.now) _ (g.P.Opener.told c.close.new.self) gives (still_still _ _ _ failed.kept c.close.ensures.told))
-          (c.close.ensures.asked ∙ c.in-Ok.ensures.asked ∙ ap (and_asked (g.P.Opener.asked c.args.opener.now)) (c.as_str.ensures.value ∙ ap (λ (f : ServerFields). f.database) c.fields-fields.ensures.value))
-          (λ h. omega (arith, failed.fault h, c.close.ensures.faults, c.in-Ok.ensures.later, c.in-Ok.ensures.fresh))
-          (λ kind id h. still_some _ _ (g.P.Opener.told c.close.new.self) c.close.ensures.told (failed.damaged kind id h));
-    }
+    unopened c.in-Err.fault c.ended_of.result c.args.settings _ _ c.ended_of.ensures.fault
+    (kept_given (g.P.Opener.told c.args.opener.now) _ (g.P.Opener.told c.close.new.self) gives (still_still _ _ _ failed.kept c.close.ensures.told))
+    (c.close.ensures.asked ∙ c.in-Ok.ensures.asked ∙ ap (and_asked (g.P.Opener.asked c.args.opener.now)) (c.as_str.ensures.value ∙ ap (λ (f : ServerFields). f.database) c.fields-fields.ensures.value))
+    (λ h. omega (arith, failed.fault h, c.close.ensures.faults, c.in-Ok.ensures.later, c.in-Ok.ensures.fresh))
+    (λ kind id h. still_some _ _ (g.P.Opener.told c.close.new.self) c.close.ensures.told (failed.damaged kind id h))
