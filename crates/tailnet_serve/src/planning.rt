@@ -44,11 +44,12 @@ fn plan_of(alloc: Global, settings: &FileSettings) -> Result<ServePlan, NoMemory
     ensures limits { IfOk result (λ p. p.limits ≡ limits_of settings.now.server) }
     ensures rules { AreSettings settings.now.tailnet }
 {
+    let tailnet = settings.tailnet.fields();
     let fields = settings.server.fields();
     Ok(ServePlan {
         front: Front::new(alloc, &settings.server)?,
         listen: fields.listen.copy(alloc)?,
-        workers: settings.tailnet.fields().workers,
+        workers: tailnet.workers,
         limits: limits_of(fields),
     })
 }
