@@ -1,5 +1,6 @@
 """Checking a policy without a server: by the program itself, over no machines."""
 
+import json
 import os
 import shutil
 import subprocess
@@ -24,6 +25,14 @@ def program(words, environment):
     return found
 
 
+def read_place(written):
+    """The place that the program wrote as JSON has it between quotes."""
+    try:
+        return json.loads(f'"{written}"')
+    except ValueError:
+        return written
+
+
 def first_fault(words, environment, text):
     """The first fault of a text over no machines; none if it has none."""
     path = program(words, environment)
@@ -37,7 +46,7 @@ def first_fault(words, environment, text):
     if ran.returncode == 0 and told == "ok":
         return None
     if ran.returncode == 10 and code.startswith("P"):
-        return fault_in(text, code, place)
+        return fault_in(text, code, read_place(place))
     # (a file over the limit of files is over the limit of policies, too)
     if b"file too large" in ran.stderr:
         return fault_in(text, "P19", "text")
