@@ -102,6 +102,11 @@ took_apart : (h h' k k' : Option (List ℕ)) (n n' l l' : ℕ) (a a' : ℕ → O
     → TurnsTook (taking h n a w f) (taking h' n' a' w' f') ts → TurnsTook (taking k l a w f) (taking k' l' a' w' f') ts
 took_apart h h' k k' n n' l l' a a' w w' f f' ts t = record { moments = t.moments; clock = t.clock; words = t.words; entropy = t.entropy; word_faults = t.word_faults }
 
+-- nor what was taken from there on
+took_from : (h k : Option (List ℕ)) (n l : ℕ) (a : ℕ → Option ℤ) (w : ℕ → Option (List ℕ)) (f : ℕ) (new : Giving) (ts : List Turned)
+    → TurnsTook (taking k l a w f) new ts → TurnsTook (taking h n a w f) new ts
+took_from h k n l a w f new ts t = record { moments = t.moments; clock = t.clock; words = t.words; entropy = t.entropy; word_faults = t.word_faults }
+
 module _ {S : Type 0} (turn : S → Event → Reply → S → Type 0) where
   pub attached_once : (p : Poll) (m moment : ℤ) (words : Option (List ℕ)) (reply : Reply) (old new : Giving) (s t : S) → moment ≡ clamped m
       → Drew true words old.words new.words old.word_faults new.word_faults → stream.Took old.answers new.answers m
@@ -191,6 +196,41 @@ module _ {S : Type 0} (turn : S → Event → Reply → S → Type 0) where
   behind_break broken e Detached rest holds r goes = absurd goes
   behind_break broken e (Refused refusal) rest holds r goes = absurd goes
   behind_break broken e (Lost loss) rest holds r goes = (refl, holds)
+
+  -- before them there was a wait, by which nothing was written
+  pub further_waited : {T U : Type 0} (seen : U) (outcome : Result T Closed) (machine : MachineKey) (handle : List ℕ) (more : ℕ) (h k : Option (List ℕ)) (n l : ℕ)
+      (a : ℕ → Option ℤ) (w : ℕ → Option (List ℕ)) (f : ℕ) (new : Giving) (s t : S) → Sent (Ok seen) h k n l []
+      → FurtherSent turn outcome machine handle more (taking k l a w f) new s t → FurtherSent turn outcome machine handle more (taking h n a w f) new s t
+  further_waited seen outcome machine handle more h k n l a w f new s t wait rest = record {
+    further = rest.further;
+    are = rest.are;
+    chain = rest.chain;
+    took = took_from h k n l a w f new rest.further rest.took;
+    sent = sent_then seen outcome h k new.held n l new.write_faults [] (further_bytes rest.further) wait rest.sent;
+    heard = heard_then seen outcome h k new.held n l new.write_faults [] (further_bytes rest.further) (further_bytes (without_last rest.further)) wait rest.sent rest.heard;
+  }
+
+  further_gone : {T U : Type 0} (e : Closed) (machine : MachineKey) (handle : List ℕ) (more : ℕ) (h k : Option (List ℕ)) (n l : ℕ) (a : ℕ → Option ℤ)
+      (w : ℕ → Option (List ℕ)) (f : ℕ) (s : S) → Sent {T = U} (Err e) h k n l []
+      → FurtherSent {T = T} turn (Err e) machine handle more (taking h n a w f) (taking k l a w f) s s
+  further_gone {T} {U} e machine handle more h k n l a w f s wait =
+      let sent : Sent {T = T} (Err e) h k n l [] = sent_broken {T = U} {U = T} e h k n l [] [] wait in
+      record {
+        further = [];
+        are = inr (broke T e sent.written [] n l sent.is);
+        chain = refl;
+        took = took_none (taking h n a w f) (taking k l a w f) (λ i. refl) (λ i. refl) (omega arith);
+        sent = sent;
+        heard = heard_nothing _;
+      }
+
+  -- the client left while the poll waited
+  pub further_left : {T U : Type 0} (outcome : Result T Closed) (e : Closed) (machine : MachineKey) (handle : List ℕ) (more : ℕ) (h k : Option (List ℕ)) (n l : ℕ)
+      (a : ℕ → Option ℤ) (w : ℕ → Option (List ℕ)) (f : ℕ) (s : S) → outcome ≡ Err e → Sent {T = U} (Err e) h k n l []
+      → FurtherSent turn outcome machine handle more (taking h n a w f) (taking k l a w f) s s
+  further_left {T} {U} outcome e machine handle more h k n l a w f s is wait =
+      subst (λ (r : Result T Closed). FurtherSent turn r machine handle more (taking h n a w f) (taking k l a w f) s s) (sym is)
+      (further_gone {T = T} {U = U} e machine handle more h k n l a w f s wait)
 
   pub further_more : {T : Type 0} (on : Bool) (outcome : Result T Closed) (machine : MachineKey) (handle : List ℕ) (more left : ℕ) (old mid new : Giving) (s u t : S)
       → left ≡ more - 1 → 0 < more → on ≡ true → NextSent turn (Ok on) machine handle old mid s u → FurtherSent turn outcome machine handle left mid new u t

@@ -1,5 +1,5 @@
 //! One poll: an attach, drains, and a detach, whatever ended it.
-ghost use Rattle.std.specs.Prelude.{◌≡◌, ℕ, Option, List, true, if◌then◌else◌};
+ghost use Rattle.std.specs.Prelude.{◌≡◌, ℕ, Option, List, [], true, if◌then◌else◌};
 ghost use Rattle.tailnet_desk.specs.Step.{drain_reply};
 ghost use Rattle.tailnet_desk.specs.Turns.{IsAttachReply};
 ghost use Rattle.tailnet_desk.specs.declared.reply.Reply.TheVariants as replies;
@@ -111,8 +111,25 @@ fn send_next<T: Turns, O: Sink, C: Clock>(
     send_drained(alloc, texts, output, &drained)
 }
 
-/// Waits for something new and drains, so many times, or until the session has ended. The mark that
-/// is handed in was taken before the last drain, so that no note is lost.
+/// Waits for something new, and looks whether the client is still there: one that has left fails like
+/// a write, so that its poll doesn't hold its worker and its machine isn't online for longer.
+fn wait_connected<O: Sink, P: Pause>(
+    output: &mut O,
+    pause: &P,
+    seen: u64,
+) -> Result<u64, Closed>
+    ensures sent { Sent result (O.holds output.old) (O.holds output.new)
+        (O.write_faults output.old) (O.write_faults output.new) [] }
+{
+    let now = pause.wait(seen);
+    match output.check() {
+        Ok(()) => Ok(now),
+        Err(_) => Err(Closed::WriteFault),
+    }
+}
+
+/// Waits for something new and drains, so many times, or until the session has ended or its client
+/// left. The mark that is handed in was taken before the last drain, so that no note is lost.
 fn send_further<T: Turns, O: Sink, C: Clock, P: Pause>(
     alloc: Global,
     texts: &mut NodeTexts,
@@ -133,7 +150,7 @@ fn send_further<T: Turns, O: Sink, C: Clock, P: Pause>(
     let mut seen = mark;
     let mut left = more;
     while left > 0 {
-        seen = pause.wait(seen);
+        seen = wait_connected(output, pause, seen)?;
         let goes_on = send_next(alloc, texts, turns, output, clock, machine, handle)?;
         if !goes_on {
             return Ok(());

@@ -26,6 +26,16 @@ pub trait Sink {
         ensures err { OnErr result (holds self.new ≡ holds self.old) }
         ensures besides { besides_held self.new ≡ besides_held self.old }
         ensures cause { Counted (write_faults self.old) (write_faults self.new) (is_err result) };
+
+    /// Looks whether what is written can still arrive, without writing: a write of nothing that may fail.
+    /// A connection fails where its other side is known to have left. What can't tell doesn't fail.
+    fn check(&mut self) -> Result<(), Failed>
+        ensures held { holds self.new ≡ holds self.old }
+        ensures besides { besides_held self.new ≡ besides_held self.old }
+        ensures cause { Counted (write_faults self.old) (write_faults self.new) (is_err result) }
+    {
+        Ok(())
+    }
 }
 
 /// A sink in memory, which tells what it holds. Where memory is refused a write fails.
@@ -72,5 +82,13 @@ impl Sink for MemorySink {
             return Err(Failed);
         }
         Ok(from.len())
+    }
+
+    /// A look is one of the calls that may fail.
+    fn check(&mut self) -> Result<(), Failed> {
+        if self.faults.next() {
+            return Err(Failed);
+        }
+        Ok(())
     }
 }

@@ -22,11 +22,11 @@ use Rattle.tailnet_desk.specs.Opening.{unread_policy}
 use Rattle.tailnet_desk.specs.declared.entry.Event.{Event}
 use Rattle.tailnet_desk.specs.declared.reply.Reply.{Reply}
 use Rattle.desk_front.specs.declared.front_settings.FrontSettings.{FrontSettings}
-use Rattle.tailnet_commands.specs.Complete.{IsAccepted, IsClear, IsComplete}
+use Rattle.tailnet_commands.specs.Complete.{IsAccepted, IsClear, IsComplete, IsOpenable}
 use Rattle.connections.specs.Exchanges.{Exchange, IsExchange, AreExchanges, IsAnswered, requests_of, end_of, ended_by}
 use Rattle.tailnet_commands.specs.Pipe.{Piped}
 use Rattle.tailnet_commands.specs.ToldRows.{RefusesToldRows, ServesToldRows}
-use Rattle.tailnet_commands.specs.Run.{IsUnopened}
+use Rattle.tailnet_commands.specs.Run.{IsOpeningFault, IsUnopened}
 use Rattle.exit_status.specs.Statuses.{status_of}
 use Rattle.tailnet_commands.specs.Outside.{Outside}
 use Rattle.connections.specs.Connection.{IsConnection, Told, IsEarly}
@@ -101,23 +101,34 @@ before_unopened kind id None now kept told damaged = tt
 before_unopened kind id (Some x) None kept told damaged = absurd (cc)
 before_unopened kind id (Some x) (Some y) kept told damaged = subst (λ r. unread_policy r ≡ Some (record { kind = kind; id = id })) (sym kept) damaged
 
--- the same by how the run ended
+-- where nothing keeps a desk from being opened, a run that served no connection lacked memory
+pub starved_unopened : (e : Ended) (name : List ℕ) (seed : Option (List ℕ)) (old new : Outside) → IsOpeningFault e → Piped e name seed old new → IsOpenable name old new → status_of e ≡ status.NoMemory
+starved_unopened (ended.Closed closing) name seed old new fault p c = absurd fault
+starved_unopened (ended.Settings rule key) name seed old new fault p c = absurd (let broken = (rw c.file_is at p.1).1 in let kept = c.settings_are in cc)
+starved_unopened ended.TooLarge name seed old new fault p c = absurd (let large = rw c.file_is at p.1 in omega (arith, large, c.small))
+starved_unopened ended.FileFault name seed old new fault p c = absurd (c.no_file_fault p.1)
+starved_unopened ended.KeeperFault name seed old new fault p c = absurd (c.no_keeper_fault p.2)
+starved_unopened (ended.Damaged kind id) name seed old new fault p c =
+    absurd (let damaged = rw c.rows_are at (before_unopened kind id old.rows new.rows p.0.rows c.rows_stay p.2) in let sound = c.opened in cc)
+starved_unopened ended.NoMemory name seed old new fault p c = refl
+
+-- the same of a run in whose way nothing stands, by how it ended
 pub complete_of : (e : Ended) (name : List ℕ) (seed : Option (List ℕ)) (old new : Outside) → Piped e name seed old new → IsClear name old new → (status_of e ≡ status.Ok) ⊎ (status_of e ≡ status.NoMemory)
 complete_of (ended.Closed closed.End) name seed old new p c = inl refl
 complete_of (ended.Closed closed.Early) name seed old new p c = absurd (
-    let told : settings_of c.text ≡ Ok p.settings = (rw c.file_is at p.settings_are).1 in
-    let is = c.settings_are in
-    let same : c.settings ≡ p.settings = cc in
+    let told : settings_of c.openable.text ≡ Ok p.settings = (rw c.openable.file_is at p.settings_are).1 in
+    let is = c.openable.settings_are in
+    let same : c.openable.settings ≡ p.settings = cc in
     never_early _ (front_settings p.settings.server) _ _ _ new.told _ _ c.input c.requests c.whole
     (subst (λ (f : FileSettings). AllByRecursion (λ r. IsAccepted (wanted_of (front_settings f.server) r)) c.requests) same c.accepted) c.input_is p.talk.serves)
 complete_of (ended.Closed closed.ReadFault) name seed old new p c = absurd (c.no_read_fault p.talk.serves.ending.3)
 complete_of (ended.Closed closed.WriteFault) name seed old new p c = absurd (c.no_write_fault p.talk.serves.ending.1)
 complete_of (ended.Closed closed.NoMemory) name seed old new p c = inr refl
-complete_of (ended.Settings rule key) name seed old new p c = absurd (let broken = (rw c.file_is at p.1).1 in let kept = c.settings_are in cc)
-complete_of ended.TooLarge name seed old new p c = absurd (let large = rw c.file_is at p.1 in omega (arith, large, c.small))
-complete_of ended.FileFault name seed old new p c = absurd (c.no_file_fault p.1)
-complete_of ended.KeeperFault name seed old new p c = absurd (c.no_keeper_fault p.2)
-complete_of (ended.Damaged kind id) name seed old new p c = absurd (let damaged = rw c.rows_are at (before_unopened kind id old.rows new.rows p.0.rows c.rows_stay p.2) in let sound = c.opened in cc)
+complete_of (ended.Settings rule key) name seed old new p c = inr (starved_unopened (ended.Settings rule key) name seed old new tt p c.openable)
+complete_of ended.TooLarge name seed old new p c = inr (starved_unopened ended.TooLarge name seed old new tt p c.openable)
+complete_of ended.FileFault name seed old new p c = inr (starved_unopened ended.FileFault name seed old new tt p c.openable)
+complete_of ended.KeeperFault name seed old new p c = inr (starved_unopened ended.KeeperFault name seed old new tt p c.openable)
+complete_of (ended.Damaged kind id) name seed old new p c = inr (starved_unopened (ended.Damaged kind id) name seed old new tt p c.openable)
 complete_of ended.NoMemory name seed old new p c = inr refl
 
 pub complete : IsComplete

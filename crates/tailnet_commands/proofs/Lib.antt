@@ -3,3 +3,4 @@ pub mod RunLemmas
 pub mod OpenedLemmas
 pub mod PipeLemmas
 pub mod CompleteLemmas
+pub mod RunLawLemmas

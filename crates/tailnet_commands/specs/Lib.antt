@@ -5,4 +5,5 @@ pub mod Opened
 pub mod Pipe
 pub mod Check
 pub mod Complete
+pub mod RunLaws
 pub mod ToldRows

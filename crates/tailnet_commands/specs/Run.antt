@@ -98,6 +98,16 @@ Ran (ended.Damaged kind id) settings seed old new =
     Untouched old new × IsAskedFor settings old new × IsUnopened kind id new.rows
 Ran ended.NoMemory settings seed old new = Untouched old new × (IsUnasked old new ⊎ IsAskedFor settings old new)
 
+-- no connection was served
+abbrev pub IsOpeningFault : Ended → Type 0
+IsOpeningFault (ended.Closed closing) = ⊥
+IsOpeningFault (ended.Settings rule key) = Unit {0}
+IsOpeningFault ended.TooLarge = Unit {0}
+IsOpeningFault ended.FileFault = Unit {0}
+IsOpeningFault ended.KeeperFault = Unit {0}
+IsOpeningFault (ended.Damaged kind id) = Unit {0}
+IsOpeningFault ended.NoMemory = Unit {0}
+
 -- how a run ends whose desk didn't open
 abbrev pub IsFaultOf : OpenFault → Ended → Type 0
 IsFaultOf fault.KeeperFault e = e ≡ ended.KeeperFault

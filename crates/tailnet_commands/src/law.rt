@@ -1,5 +1,6 @@
 //! What follows from the contract of `pipe`. The functions do nothing: each states a law.
 ghost use Rattle.tailnet_commands.specs.Complete.{IsComplete};
+ghost use Rattle.tailnet_commands.specs.RunLaws.{LeavesMachinesGone};
 ghost use Rattle.tailnet_commands.specs.ToldRows.{RefusesToldRows, ServesToldRows};
 
 /// Where words and settings are accepted, the rows that the opener tells are not damaged and it tells
@@ -14,4 +15,10 @@ pub fn completeness()
 pub fn told_rows_are_opened()
     ensures serves { ServesToldRows }
     ensures refuses { RefusesToldRows }
+{}
+
+/// What holds of each legal history holds of a run: its settings and the tables that it opens keep their
+/// rules. So an id of a machine that had gone before is no machine's at its end.
+pub fn runs_leave_machines_gone()
+    ensures machines { LeavesMachinesGone }
 {}

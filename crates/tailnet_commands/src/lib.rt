@@ -11,6 +11,6 @@ mod seeding;
 
 pub use checking::policy_check;
 pub use desk_opening::open_desk;
-pub use law::{completeness, told_rows_are_opened};
+pub use law::{completeness, runs_leave_machines_gone, told_rows_are_opened};
 pub use limits::FILE_LIMIT;
 pub use piping::{pipe_command, settings_file};

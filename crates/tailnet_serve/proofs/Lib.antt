@@ -7,3 +7,4 @@ pub mod Manned
 pub mod Closing
 pub mod Served
 pub mod FrontSync
+pub mod Completing

@@ -19,7 +19,7 @@ use Rattle.desk_front.specs.declared.front_settings.FrontSettings.{FrontSettings
 use Rattle.session_hub.specs.Lines.{IsReplayOf, entries_of}
 use Rattle.tailnet_commands.specs.Opened.{IsDeskFault, IsDeskOpened, OpenerTold}
 use Rattle.tailnet_commands.specs.Pipe.{AreSettingsOf, IsUnread}
-use Rattle.tailnet_commands.specs.Run.{IsUnbegun, Untouched}
+use Rattle.tailnet_commands.specs.Run.{IsOpeningFault, IsUnbegun, Untouched}
 use Rattle.tailnet_commands.proofs.PipeLemmas.{ran_piped, unread_piped}
 use Rattle.exit_status.specs.declared.ended.Ended.{Ended}
 use Rattle.exit_status.specs.declared.ended.Ended.TheVariants as ended
@@ -29,7 +29,7 @@ use Rattle.tailnet_serve.specs.declared.serve_end.ServeEnd.TheVariants as end
 use Rattle.tailnet_commands.specs.Outside.{DoorsTold, Outside}
 use Rattle.tailnet_commands.proofs.OpenedLemmas.{opener_in}
 use Rattle.tailnet_serve.specs.Crews.{IsSplitDrawing}
-use Rattle.tailnet_serve.specs.Serve.{IsOpeningFault, IsUnserved, ServeDone, ServeRan}
+use Rattle.tailnet_serve.specs.Serve.{IsUnserved, ServeDone, ServeRan}
 use Rattle.tailnet_serve.specs.Service.{AreAskedFor, IsDeskClosed, IsDeskServed, IsEndAtDoors, IsEndWithOutfits, Service, Shift, end_of_outfits, left_drawing, limits_of}
 use Rattle.tailnet_serve.specs.Visits.{Drawing}
 use Rattle.tailnet_serve.specs.Works.{DoorTold}

@@ -4,4 +4,5 @@ pub mod Works
 pub mod Crews
 pub mod Service
 pub mod Serve
+pub mod Complete
 pub mod Top

@@ -6,13 +6,12 @@ use Rattle.server_settings.specs.declared.file_settings.FileSettings.{FileSettin
 use Rattle.exit_status.specs.Lines.{Noted, ended_line, is_made}
 use Rattle.exit_status.specs.Statuses.{status_of}
 use Rattle.exit_status.specs.declared.ended.Ended.{Ended}
-use Rattle.exit_status.specs.declared.ended.Ended.TheVariants as ended
 use Rattle.exit_status.specs.declared.status.Status.{Status}
 use Rattle.exit_status.specs.declared.status.Status.TheVariants as status
 use Rattle.connections.specs.Connection.{Told}
 use Rattle.tailnet_commands.specs.Outside.{DoorsTold, Outside}
 use Rattle.tailnet_commands.specs.Pipe.{AreSettingsOf, Piped}
-use Rattle.tailnet_commands.specs.Run.{IsAskedFor, Ran}
+use Rattle.tailnet_commands.specs.Run.{IsAskedFor, IsOpeningFault, Ran}
 use Rattle.tailnet_serve.specs.Service.{AreDoorsAsked, Service}
 use Rattle.tailnet_serve.specs.declared.serve_end.ServeEnd.{ServeEnd}
 use Rattle.tailnet_serve.specs.declared.serve_end.ServeEnd.TheVariants as end
@@ -98,16 +97,6 @@ is_line_made end.EntropyFault = false
 is_line_made end.DoorFault = false
 is_line_made end.NoMemory = false
 is_line_made (end.Served failed starved) = false
-
--- no connection was served
-abbrev pub IsOpeningFault : Ended → Type 0
-IsOpeningFault (ended.Closed closing) = ⊥
-IsOpeningFault (ended.Settings rule key) = Unit {0}
-IsOpeningFault ended.TooLarge = Unit {0}
-IsOpeningFault ended.FileFault = Unit {0}
-IsOpeningFault ended.KeeperFault = Unit {0}
-IsOpeningFault (ended.Damaged kind id) = Unit {0}
-IsOpeningFault ended.NoMemory = Unit {0}
 
 -- A desk was opened, and closed before anything was served.
 pub record IsUnserved (settings : FileSettings) (old new : Outside) : Type 0 where

@@ -3,6 +3,7 @@
 #![tactic(auto)]
 
 mod crew;
+mod law;
 mod manning;
 mod outfits;
 mod planning;
@@ -16,6 +17,7 @@ mod wordless;
 mod worker;
 mod working;
 
+pub use law::{serving_completeness, services_leave_machines_gone, well_served_connections};
 pub use seat_serving::serve_seat;
 pub use serve_end::ServeEnd;
 pub use serving::serve_command;

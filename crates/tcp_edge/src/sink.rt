@@ -79,6 +79,22 @@ impl<R: Clock> TcpSink<R> {
         Ok(piece.len())
     }
 
+    /// Looks at what the other side sends, without waiting and without taking it. Its end or an error
+    /// says that it has left; bytes that it sent ahead hide that.
+    fn look(&self) -> io::Result<()> {
+        self.stream.set_nonblocking(true)?;
+        let looked = self.stream.peek(&mut [0; 1]);
+        self.stream.set_nonblocking(false)?;
+        match looked {
+            Ok(0) => Err(io::Error::from(io::ErrorKind::UnexpectedEof)),
+            Ok(_) => Ok(()),
+            Err(error) if is_interrupted(&error) || error.kind() == io::ErrorKind::WouldBlock => {
+                Ok(())
+            }
+            Err(error) => Err(error),
+        }
+    }
+
     /// From now on the other half waits for the next request.
     fn note_write(&self) -> io::Result<()> {
         let now = millis_since(&self.rt, self.start)?;
@@ -99,6 +115,17 @@ impl<R: Clock> Sink for TcpSink<R> {
     fn write(&mut self, from: &[u8]) -> Result<usize, Failed> {
         match self.write_in_time(from) {
             Ok(n) => Ok(n),
+            Err(_) => {
+                self.failed = self.failed.saturating_add(1);
+                Err(Failed)
+            }
+        }
+    }
+
+    /// A client that has ended what it sends counts as one that left.
+    fn check(&mut self) -> Result<(), Failed> {
+        match self.look() {
+            Ok(()) => Ok(()),
             Err(_) => {
                 self.failed = self.failed.saturating_add(1);
                 Err(Failed)

@@ -1,7 +1,8 @@
 //! Events of lines at a desk.
 ghost use Rattle.tailnet_desk.specs.Asks.{IsShort};
 
-use crate::asks::ask_of;
+use crate::asks::{ask_of, mapping};
+use crate::follows::Followers;
 use crate::parts::{cut, machine_key, node_key};
 use crate::replies::tell_reply;
 use net_addr::Moment;
@@ -9,7 +10,7 @@ use row_keeper::Keeper;
 use std::alloc::Global;
 use std::test::Fail;
 use tail_base::{MachineKey, NoMemory, Text};
-use tailnet_desk::{Ask, Desk, Reply};
+use tailnet_desk::{Ask, Desk, Drained, Reply};
 
 /// The random words of each draw.
 const WORDS: [u64; 4] = [1, 2, 3, 4];
@@ -28,7 +29,8 @@ fn ask<K: Keeper>(
 ) -> Result<(), Fail>
     requires short { IsShort ask.now }
 {
-    Ok(tell(alloc, told, desk.ask(alloc, ask, moment, None))?)
+    let words = if ask.draws() { Some(WORDS) } else { None };
+    Ok(tell(alloc, told, desk.ask(alloc, ask, moment, words))?)
 }
 
 /// A poll begins: the machine's key, its node key, the handle (`-` is nobody's), and the last number.
@@ -52,19 +54,40 @@ fn attach<K: Keeper>(
     Ok(tell(alloc, told, reply)?)
 }
 
-/// A poll fetches what is new: the machine's key and the handle.
+/// A poll fetches what is new, and its client follows: the machine's key and the handle.
 fn drain<K: Keeper>(
     alloc: Global,
     desk: &mut Desk<K>,
     moment: Moment,
     line: &str,
+    followers: &mut Followers,
     told: &mut String,
 ) -> Result<(), Fail> {
     let (machine, handle) = cut(line);
     let machine = machine_key(machine)?;
     let handle = Text::from_str(alloc, handle)?;
-    let reply = desk.drain(alloc, &machine, &handle, moment).into_reply();
-    Ok(tell(alloc, told, reply)?)
+    let drained = desk.drain(alloc, &machine, &handle, moment);
+    if let Drained::Frames(responses) = &drained {
+        followers.follow(alloc, &machine, responses.as_slice())?;
+    }
+    Ok(tell(alloc, told, drained.into_reply())?)
+}
+
+/// Whether a machine's client has folded the map that the desk computes afresh: the machine's keys.
+fn compare<K: Keeper>(
+    alloc: Global,
+    desk: &mut Desk<K>,
+    moment: Moment,
+    line: &str,
+    followers: &Followers,
+    told: &mut String,
+) -> Result<(), Fail> {
+    let (machine, _) = cut(line);
+    let machine = machine_key(machine)?;
+    let asked = mapping(line)?;
+    let reply = desk.ask(alloc, &asked, moment, None);
+    let is_same = followers.have(alloc, &machine, &reply)?;
+    Ok(told.push_str(if is_same { "has it\n" } else { "has another\n" })?)
 }
 
 /// A poll ends: the machine's key and the handle.
@@ -99,12 +122,14 @@ pub(crate) fn event<K: Keeper>(
     desk: &mut Desk<K>,
     moment: Moment,
     line: &str,
+    followers: &mut Followers,
     told: &mut String,
 ) -> Result<(), Fail> {
     let (kind, rest) = cut(line);
     match kind {
         "attach" => attach(alloc, desk, moment, rest, told),
-        "drain" => drain(alloc, desk, moment, rest, told),
+        "drain" => drain(alloc, desk, moment, rest, followers, told),
+        "map" => compare(alloc, desk, moment, rest, followers, told),
         "detach" => detach(alloc, desk, moment, rest, told),
         _ => ask_line(alloc, desk, moment, line, told),
     }

@@ -6,6 +6,8 @@ mod asks;
 #[cfg(test)]
 mod events;
 #[cfg(test)]
+mod follows;
+#[cfg(test)]
 mod parts;
 #[cfg(test)]
 mod replies;

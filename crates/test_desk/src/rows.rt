@@ -114,6 +114,54 @@ const PEER_PRESENCE: &str = r#"> seed k1
 < s3-0000000000000001 begins behind 0, may wait
 > drain mkey:%1 s1-0000000000000001
 < {"PeersChangedPatch":[{"NodeID":2,"Online":true}],"Seq":3}
+> map mkey:%1 nodekey:%a
+< has it
+"#;
+
+/// The first machine of another user comes: its row brings the profile of its owner.
+const NEW_OWNER: &str = r#"> seed k1
+< done
+> register mkey:%1 nodekey:%a
+< done
+> attach mkey:%1 nodekey:%a - 0
+< s1-0000000000000001 begins behind 0, may wait
+> drain mkey:%1 s1-0000000000000001
+< {"DNSConfig":{"Domains":["tail.example"],"ExtraRecords":[],"Proxied":true,"Resolvers":[],"Routes":{}},"Domain":"tail.example","MapSessionHandle":"s1-0000000000000001","Node":{"Addresses":["100.64.0.1/32","fd7a:115c:a1e0::1/128"],"AllowedIPs":["100.64.0.1/32","fd7a:115c:a1e0::1/128"],"Created":"2001-09-09T01:46:40Z","DiscoKey":"discokey:%0","Endpoints":[],"HomeDERP":0,"Hostinfo":{"Hostname":""},"ID":1,"Key":"nodekey:%a","KeyExpiry":"0001-01-01T00:00:00Z","Machine":"mkey:%1","MachineAuthorized":true,"Name":"node.tail.example.","Online":true,"StableID":"n1","Tags":[],"User":1},"PacketFilter":[{"DstPorts":[{"IP":"100.64.0.1","Ports":{"First":0,"Last":65535}},{"IP":"fd7a:115c:a1e0::1","Ports":{"First":0,"Last":65535}}],"IPProto":[1,6,17,58],"SrcIPs":["*"]}],"Seq":1,"UserProfiles":[{"DisplayName":"seed","ID":1,"LoginName":"seed@"}]}
+> user bob
+< done
+> key bob@
+< done
+> register mkey:%2 nodekey:%b tnkey-2-0000000000000001000000000000000200000000000000030000000000000004
+< done
+> map mkey:%1 nodekey:%a
+< has another
+> drain mkey:%1 s1-0000000000000001
+< {"PeersChanged":[{"Addresses":["100.64.0.2/32","fd7a:115c:a1e0::2/128"],"AllowedIPs":["100.64.0.2/32","fd7a:115c:a1e0::2/128"],"Created":"2001-09-09T01:46:40Z","DiscoKey":"discokey:%0","Endpoints":[],"HomeDERP":0,"Hostinfo":{"Hostname":""},"ID":2,"Key":"nodekey:%b","KeyExpiry":"0001-01-01T00:00:00Z","Machine":"mkey:%2","MachineAuthorized":true,"Name":"node-1.tail.example.","Online":false,"StableID":"n2","Tags":[],"User":2}],"Seq":2,"UserProfiles":[{"DisplayName":"bob","ID":2,"LoginName":"bob@"}]}
+> map mkey:%1 nodekey:%a
+< has it
+"#;
+
+/// All that a patch can have differs at once: the peer's endpoints, its DERP region, its disco key, and whether it is online.
+const ALL_PATCHED: &str = r#"> seed k1
+< done
+> register mkey:%1 nodekey:%a
+< done
+> register mkey:%2 nodekey:%b
+< done
+> attach mkey:%1 nodekey:%a - 0
+< s1-0000000000000001 begins behind 0, may wait
+> attach mkey:%2 nodekey:%b - 0
+< s2-0000000000000001 begins behind 0, may wait
+> drain mkey:%1 s1-0000000000000001
+< {"DNSConfig":{"Domains":["tail.example"],"ExtraRecords":[],"Proxied":true,"Resolvers":[],"Routes":{}},"Domain":"tail.example","MapSessionHandle":"s1-0000000000000001","Node":{"Addresses":["100.64.0.1/32","fd7a:115c:a1e0::1/128"],"AllowedIPs":["100.64.0.1/32","fd7a:115c:a1e0::1/128"],"Created":"2001-09-09T01:46:40Z","DiscoKey":"discokey:%0","Endpoints":[],"HomeDERP":0,"Hostinfo":{"Hostname":""},"ID":1,"Key":"nodekey:%a","KeyExpiry":"0001-01-01T00:00:00Z","Machine":"mkey:%1","MachineAuthorized":true,"Name":"node.tail.example.","Online":true,"StableID":"n1","Tags":[],"User":1},"PacketFilter":[{"DstPorts":[{"IP":"100.64.0.1","Ports":{"First":0,"Last":65535}},{"IP":"fd7a:115c:a1e0::1","Ports":{"First":0,"Last":65535}}],"IPProto":[1,6,17,58],"SrcIPs":["*"]}],"Peers":[{"Addresses":["100.64.0.2/32","fd7a:115c:a1e0::2/128"],"AllowedIPs":["100.64.0.2/32","fd7a:115c:a1e0::2/128"],"Created":"2001-09-09T01:46:40Z","DiscoKey":"discokey:%0","Endpoints":[],"HomeDERP":0,"Hostinfo":{"Hostname":""},"ID":2,"Key":"nodekey:%b","KeyExpiry":"0001-01-01T00:00:00Z","Machine":"mkey:%2","MachineAuthorized":true,"Name":"node-1.tail.example.","Online":true,"StableID":"n2","Tags":[],"User":1}],"Seq":1,"UserProfiles":[{"DisplayName":"seed","ID":1,"LoginName":"seed@"}]}
+> tell mkey:%2 nodekey:%b discokey:%d 192.0.2.1:41641 5
+< done
+> detach mkey:%2 s2-0000000000000001
+< detached
+> drain mkey:%1 s1-0000000000000001
+< {"PeersChangedPatch":[{"DERPRegion":5,"DiscoKey":"discokey:%d","Endpoints":["192.0.2.1:41641"],"NodeID":2,"Online":false}],"Seq":2}
+> map mkey:%1 nodekey:%a
+< has it
 "#;
 
 /// A handle that no session has.
@@ -177,6 +225,8 @@ fn polls_on_a_desk(rt: HostRuntime) -> Result<(), Fail> {
         ("expiry-seen", EXPIRY_SEEN),
         ("disco-patch", DISCO_PATCH),
         ("peer-presence", PEER_PRESENCE),
+        ("new-owner", NEW_OWNER),
+        ("all-patched", ALL_PATCHED),
         ("unknown-handle", UNKNOWN_HANDLE),
         ("second-poll", SECOND_POLL),
         ("one-worker", ONE_WORKER),

@@ -1,8 +1,10 @@
 //! Rows of events at one desk, as lines of a text.
 //!
 //! Lines `: key = value` may come first, each a line more in the settings. `@ SECONDS` is the moment of what comes behind it. `> EVENT` is
-//! an event, and the lines `< REPLY` behind it are what the desk replies; `%x` stands for 64 times `x`.
+//! an event, and the lines `< REPLY` behind it are what the desk replies, or, of `map`, whether the machine's client has folded the map
+//! that the desk computes afresh; `%x` stands for 64 times `x`.
 use crate::events::event;
+use crate::follows::Followers;
 use crate::parts::{cut, wide};
 use net_addr::Moment;
 use net_rows::Tables;
@@ -67,6 +69,7 @@ fn play_line<K: Keeper>(
     desk: &mut Desk<K>,
     moment: &mut Moment,
     line: &str,
+    followers: &mut Followers,
     told: &mut String,
 ) -> Result<(), Fail> {
     let (mark, rest) = cut(line);
@@ -77,7 +80,7 @@ fn play_line<K: Keeper>(
         }
         ">" => {
             let line = wide(alloc, rest)?;
-            event(alloc, desk, *moment, &line, told)
+            event(alloc, desk, *moment, &line, followers, told)
         }
         _ => Ok(()),
     }
@@ -87,8 +90,9 @@ fn play_line<K: Keeper>(
 fn played<K: Keeper>(alloc: Global, desk: &mut Desk<K>, row: &str) -> Result<String, Fail> {
     let mut told = String::new(alloc);
     let mut moment = Moment::clamp(1_000_000_000);
+    let mut followers = Followers::new(alloc);
     for line in row.lines() {
-        play_line(alloc, desk, &mut moment, line, &mut told)?;
+        play_line(alloc, desk, &mut moment, line, &mut followers, &mut told)?;
     }
     Ok(told)
 }

@@ -8,6 +8,8 @@ mod keepers;
 #[cfg(test)]
 mod paths;
 #[cfg(test)]
+mod pauses;
+#[cfg(test)]
 mod requests;
 #[cfg(test)]
 mod tcp;

@@ -1,7 +1,8 @@
 //! Connections over loopback, with short limits of time.
 use io_edge::{Door, Doors, Sink, Source};
 use std::io::{Read, Write};
-use std::net::TcpStream;
+use std::net::{Shutdown, TcpStream};
+use std::time::Instant;
 use tcp_edge::{TcpDoor, TcpDoors, TcpLimits, TcpSink, TcpSource};
 
 const SHORT: TcpLimits = TcpLimits {
@@ -121,4 +122,42 @@ fn an_answer_arrives_before_input_that_nobody_reads(rt: HostRuntime) {
     door.finish(input, output);
     let mut told = [0; 16];
     assert!(rt; client.read(&mut told).ok() == Some(3));
+}
+
+/// A client is there, then with bytes that it sent ahead, which hide whether it left; and then it ends what it sends.
+#[test]
+fn a_client_that_left_is_seen(rt: HostRuntime) {
+    let Connected {
+        mut door,
+        mut client,
+        mut input,
+        mut output,
+    } = loopback(rt).expect(&rt, "a connection");
+    assert!(rt; output.check().is_ok());
+    client.write_all(b"ahead").expect(&rt, "write");
+    assert!(rt; output.check().is_ok());
+    let mut bytes = [0; 8];
+    assert!(rt; input.read(&mut bytes).ok() == Some(5));
+    assert!(rt; output.check().is_ok());
+    client.shutdown(Shutdown::Write).expect(&rt, "end");
+    assert!(rt; output.check().is_err());
+    door.finish(input, output);
+}
+
+/// A look leaves the connection as it was: a read behind it waits for as long as before.
+#[test]
+fn a_read_behind_a_look_waits(rt: HostRuntime) {
+    let Connected {
+        mut door,
+        client: _client,
+        mut input,
+        mut output,
+    } = loopback(rt).expect(&rt, "a connection");
+    assert!(rt; output.check().is_ok());
+    let start = Instant::now(&rt).expect(&rt, "a clock");
+    let mut bytes = [0; 8];
+    assert!(rt; input.read(&mut bytes).is_err());
+    let waited = start.elapsed(&rt).expect(&rt, "a clock").as_millis();
+    assert!(rt; waited >= 100, "{waited}");
+    door.finish(input, output);
 }

@@ -1,9 +1,11 @@
 //! Listeners: what comes at them, and what fails.
 use exit_status::Status;
 use harness_serve::{
-    NOTHING, ServeFails, ServeRun, answers_of, door_with, one_door, requests_of, served,
+    NOTHING, POLLING, ServeFails, ServeRun, answers_of, door_with, given_with, one_door, requests_of,
+    run_over, served,
 };
-use memory_edge::{DoorPlan, MemoryDoors};
+use io_edge::Pause;
+use memory_edge::{DoorPlan, MemoryDoors, MemoryPause};
 use std::alloc::Global;
 use std::sync::Wait;
 use std::test::Fail;
@@ -227,5 +229,26 @@ fn goes_on_behind_a_cut<R: Threads + Wait + Sync>(rt: &R, alloc: Global) -> Resu
 #[test]
 fn a_connection_that_is_cut_ends_alone(rt: HostRuntime) -> Result<(), Fail> {
     assert!(rt; goes_on_behind_a_cut(&rt, rt.alloc())?);
+    Ok(())
+}
+
+/// How often the pause is noted of a registration and a poll: at each of the three asks, as the poll begins, and as it ends.
+const NOTES: u64 = 5;
+
+/// How often the pause of a server is noted while a machine registers and polls.
+fn notes_of<R: Threads + Wait + Sync>(rt: &R, alloc: Global) -> Result<u64, NoMemory> {
+    let requests = requests_of(alloc, POLLING)?;
+    let door = door_with(alloc, &[requests.as_slice()], 0)?;
+    let plans = one_door(alloc, door)?;
+    let mut doors = MemoryDoors::new(alloc, plans, Items::new(alloc))?;
+    let mut given = given_with(alloc, b"workers = 1\n", &NOTHING)?;
+    let pause = MemoryPause::new();
+    let _status = run_over(rt, alloc, &mut given, &mut doors, &pause);
+    Ok(pause.mark())
+}
+
+#[test]
+fn waiting_polls_are_told(rt: HostRuntime) -> Result<(), Fail> {
+    assert_eq!(rt; notes_of(&rt, rt.alloc())?, NOTES);
     Ok(())
 }

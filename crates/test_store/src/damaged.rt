@@ -21,6 +21,7 @@ key 4 INSERT INTO users VALUES (9, 'ann@'); INSERT INTO auth_keys VALUES (4, 'k'
 key 4 INSERT INTO auth_keys VALUES (4, 'k', 9, 1, 0, 0, 0.5, '')
 pending 6 INSERT INTO pending VALUES (6, 'reg-6-a', x'11', x'22', '', '', '', 0, NULL, 0)
 pending 6 UPDATE meta SET next_pending = 7; INSERT INTO pending VALUES (6, 'reg-6-ab', x'1111111111111111111111111111111111111111111111111111111111111111', x'2222222222222222222222222222222222222222222222222222222222222222', 'a host', 'FD00::/8', '', 0, NULL, 1000000000)
+machine 7 INSERT INTO machines VALUES (7, 1, x'11', x'22', x'33', '', 'a', 1681915905, x'44', '', 0, '', '', '', 0, NULL, 0)
 extras 0 INSERT INTO extras VALUES (2, 'a.example', '192.0.2.1')
 extras 0 INSERT INTO extras VALUES (1, 'a.example', '192.0.2.01')
 policy 0 INSERT INTO policy VALUES (2, '{}')";

@@ -2,6 +2,7 @@
 use keeper_sqlite::HostOpener;
 use row_keeper::{Keeper, Opener};
 use std::alloc::Global;
+use std::fs;
 use std::test::Fail;
 
 /// Whether the tables of this name are loaded.
@@ -18,6 +19,28 @@ fn loads<O: Opener>(alloc: Global, opener: &mut O, name: &str) -> bool {
 
 fn loads_memory(rt: &HostRuntime) -> bool {
     loads(rt.alloc(), &mut HostOpener::new(*rt), ":memory:")
+}
+
+/// Names that differ from `:memory:` in a letter's case, or in what stands behind it.
+const NEAR: [&str; 2] = [":MEMORY:", ":memory: "];
+
+/// Whether what is loaded by this name is kept in a file, which then goes.
+fn is_kept(rt: &HostRuntime, name: &str) -> Result<bool, Fail> {
+    let is_loaded = loads(rt.alloc(), &mut HostOpener::new(*rt), name);
+    let is_empty = fs::read(rt, name)?.is_empty();
+    fs::remove_file(rt, name)?;
+    Ok(is_loaded && !is_empty)
+}
+
+/// Nobody's tables are kept in memory but by the one name for that: an empty name, as of a key that was blanked, opens
+/// nothing, and any other is a file's.
+#[test]
+fn one_name_alone_is_memory(rt: HostRuntime) -> Result<(), Fail> {
+    assert!(rt; !loads(rt.alloc(), &mut HostOpener::new(rt), ""));
+    for name in NEAR {
+        assert!(rt; is_kept(&rt, name)?, "{name}");
+    }
+    Ok(())
 }
 
 #[test]
