@@ -113,11 +113,7 @@ fn send_next<T: Turns, O: Sink, C: Clock>(
 
 /// Waits for something new, and looks whether the client is still there: one that has left fails like
 /// a write, so that its poll doesn't hold its worker and its machine isn't online for longer.
-fn wait_connected<O: Sink, P: Pause>(
-    output: &mut O,
-    pause: &P,
-    seen: u64,
-) -> Result<u64, Closed>
+fn wait_connected<O: Sink, P: Pause>(output: &mut O, pause: &P, seen: u64) -> Result<u64, Closed>
     ensures sent { Sent result (O.holds output.old) (O.holds output.new)
         (O.write_faults output.old) (O.write_faults output.new) [] }
 {

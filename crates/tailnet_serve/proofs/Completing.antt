@@ -55,8 +55,7 @@ visits_well : (given : FrontSettings) (more requests : ℕ) (before after : Draw
 visits_well given more requests before after [] served fed = tt
 visits_well given more requests before after (v ∷ vs) served fed =
     let parts = or_parts (is_starved v.closed) (is_any_starved vs) fed in
-    let is = served.1.serves in
-    (
+    let is = served.1.serves in (
       λ read wrote. closed_well v.closed is.exchanges is.rest is.extra is.written v.came v.left is.ending parts.0 read wrote,
       visits_well given more requests _ after vs served.2 parts.1,
     )
@@ -65,8 +64,7 @@ shifts_well : (given : FrontSettings) (limits : WorkLimits) (told : Option (List
     → AreShifts given limits told start history place ws → any_starved ws ≡ false → AllByRecursion (λ (w : Shift). AllByRecursion IsServedWell w.visits) ws
 shifts_well given limits told start history place [] each fed = tt
 shifts_well given limits told start history place (w ∷ ws) each fed =
-    let parts = or_parts (is_any_starved w.visits) (any_starved ws) fed in
-    (
+    let parts = or_parts (is_any_starved w.visits) (any_starved ws) fed in (
       visits_well given limits.more limits.requests w.drawing w.drawing_after w.visits each.0.served parts.0,
       shifts_well given limits told start history _ ws each.1 parts.1,
     )

@@ -17,7 +17,7 @@ mod wordless;
 mod worker;
 mod working;
 
-pub use law::{serving_completeness, services_leave_machines_gone, well_served_connections};
+pub use law::{services_leave_machines_gone, serving_completeness, well_served_connections};
 pub use seat_serving::serve_seat;
 pub use serve_end::ServeEnd;
 pub use serving::serve_command;

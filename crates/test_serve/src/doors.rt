@@ -1,8 +1,8 @@
 //! Listeners: what comes at them, and what fails.
 use exit_status::Status;
 use harness_serve::{
-    NOTHING, POLLING, ServeFails, ServeRun, answers_of, door_with, given_with, one_door, requests_of,
-    run_over, served,
+    NOTHING, POLLING, ServeFails, ServeRun, answers_of, door_with, given_with, one_door,
+    requests_of, run_over, served,
 };
 use io_edge::Pause;
 use memory_edge::{DoorPlan, MemoryDoors, MemoryPause};

@@ -247,10 +247,12 @@ impl<R> ReadyDoors<R> {
     /// What was written at a door, if it was given back.
     pub(crate) fn written_at(&self, place: usize) -> &[u8] {
         match self.closed.get(place) {
-            Some(OneDoor {
-                finished: Some(output),
-                ..
-            }) => output.bytes.bytes(),
+            Some(
+                OneDoor {
+                    finished: Some(output),
+                    ..
+                },
+            ) => output.bytes.bytes(),
             Some(_) | None => b"",
         }
     }
