@@ -51,3 +51,8 @@ pub fn tokens_are_escaped()
     ensures escaped { (b : ℕ) → b < 256
         → should_percent_encode TOKEN_ESCAPED b ≡ not (is_token_byte b) }
 {}
+
+/// The most bytes of an answer's body.
+pub fn the_numbers_are_these()
+    ensures answer { answer_limit ≡ 16777216 }
+{}

@@ -11,5 +11,7 @@ mod stepping;
 
 pub use answer::{ServerAnswer, TakenAnswer};
 pub use asking::ask_bytes;
-pub use law::{answers_come_back, answers_stay, one_answer, tokens_are_escaped};
+pub use law::{
+    answers_come_back, answers_stay, one_answer, the_numbers_are_these, tokens_are_escaped,
+};
 pub use reading::read_answer;

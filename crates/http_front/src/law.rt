@@ -4,6 +4,8 @@ ghost use Rattle.std.specs.Prelude.{◌≡◌, ℕ, List, [], ◌++◌};
 ghost use Rattle.http_front.specs.declared.head_fault.HeadFault.{HeadFault};
 ghost use Rattle.http_front.specs.declared.request.Request.{Request};
 ghost use Rattle.http_front.specs.Requests.{Tail, at_end, bad, Leads, Splits};
+ghost use Rattle.http_front.specs.declared.head.TheConstants.{BODY_LIMIT, LINE_LIMIT};
+ghost use Rattle.http_front.specs.declared.looking.TheConstants.{HEAD_LIMIT};
 
 /// A byte string is whole requests and a tail in at most one way.
 pub fn one_reading()
@@ -31,4 +33,11 @@ pub fn served_first()
 pub fn refusals_stay()
     ensures stays { (bytes more : List ℕ) (requests : List Request) (fault : HeadFault)
         → Splits bytes requests (bad fault) → Splits (bytes ++ more) requests (bad fault) }
+{}
+
+/// The limits of a request: the bytes of its head, its field lines, and the bytes of its body.
+pub fn the_numbers_are_these()
+    ensures head { HEAD_LIMIT ≡ 16384 }
+    ensures lines { LINE_LIMIT ≡ 64 }
+    ensures body { BODY_LIMIT ≡ 1048576 }
 {}

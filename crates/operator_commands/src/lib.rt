@@ -4,9 +4,11 @@
 mod asking;
 mod exchanging;
 mod filing;
+mod law;
 mod operating;
 mod telling;
 mod unanswered;
 
+pub use law::the_numbers_are_these;
 pub use operating::operator_command;
 pub use unanswered::Unanswered;

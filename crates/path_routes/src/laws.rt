@@ -1,10 +1,11 @@
 //! Laws of the definitions. None of these functions does anything: each states a law.
-ghost use Rattle.std.specs.Prelude.{◌≡◌, ◌≤◌, ℕ, List, [], Some, true, false, is_some};
+ghost use Rattle.std.specs.Prelude.{◌≡◌, ◌≤◌, ◌∷◌, ℕ, List, [], Some, codes, true, false, is_some};
 ghost use Rattle.std.specs.Fmt.{decimal};
 ghost use Rattle.std.specs.List.{All};
 ghost use Rattle.net_rows.specs.declared.limits.TheConstants.{COUNTER_LIMIT};
 ghost use Rattle.path_routes.specs.Leads.{IsSegment, filled, leads};
 ghost use Rattle.path_routes.specs.Table.{brace_in, names_id, paths};
+ghost use Rattle.path_routes.specs.declared.route.Route.TheVariants as routes;
 
 /// Each path of the table leads to its route: one without braces as it stands, one with `{id}` with
 /// each id in the braces' place, and any other with each segment there, which names the row.
@@ -17,4 +18,24 @@ pub fn paths_lead()
     ensures rows { (segment : List ℕ) → IsSegment segment
         → All (λ path. is_some (brace_in path.0) ≡ true → names_id path.0 ≡ false
         → leads (filled path.0 segment) ≡ Some (path.1, 0, segment)) paths }
+{}
+
+/// The paths of the table, each with its route.
+pub fn the_paths_are_these()
+    ensures paths { paths ≡ (codes "/machine/register", routes.Register)
+        ∷ (codes "/machine/map", routes.Map)
+        ∷ (codes "/api/v1/user", routes.Users)
+        ∷ (codes "/api/v1/user/{login}", routes.User)
+        ∷ (codes "/api/v1/preauthkey", routes.Keys)
+        ∷ (codes "/api/v1/preauthkey/{id}", routes.Key)
+        ∷ (codes "/api/v1/node", routes.Nodes)
+        ∷ (codes "/api/v1/node/{id}", routes.Node)
+        ∷ (codes "/api/v1/node/{id}/expire", routes.NodeExpire)
+        ∷ (codes "/api/v1/node/{id}/rename", routes.NodeRename)
+        ∷ (codes "/api/v1/node/{id}/tags", routes.NodeTags)
+        ∷ (codes "/api/v1/node/{id}/routes", routes.NodeRoutes)
+        ∷ (codes "/api/v1/register", routes.Waiting)
+        ∷ (codes "/api/v1/policy", routes.Policy)
+        ∷ (codes "/api/v1/dns", routes.Dns)
+        ∷ (codes "/api/v1/sweep", routes.Sweep) ∷ [] }
 {}

@@ -11,6 +11,9 @@ mod seeding;
 
 pub use checking::policy_check;
 pub use desk_opening::open_desk;
-pub use law::{completeness, runs_leave_machines_gone, told_rows_are_opened};
+pub use law::{
+    completeness, connections_at_a_desk_are_followed, runs_leave_machines_gone,
+    told_rows_are_opened,
+};
 pub use limits::FILE_LIMIT;
 pub use piping::{pipe_command, settings_file};

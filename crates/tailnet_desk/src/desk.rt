@@ -4,6 +4,7 @@ ghost use Rattle.io_edge.specs.Edge.{IsWhereTold, Rose, StillTells};
 ghost use Rattle.net_rows.specs.Damage.{damage};
 ghost use Rattle.net_rows.specs.Held.{Suffices};
 ghost use Rattle.net_rows.specs.Rows.{after};
+ghost use Rattle.settings.specs.Settings.{AreSettings};
 ghost use Rattle.row_keeper.specs.Before.{ToldBefore};
 ghost use Rattle.std.specs.Option.{option_or};
 ghost use Rattle.desk_state.specs.Decisions.{rows_after};
@@ -351,6 +352,15 @@ impl<K: Keeper> Desk<K> {
     {
         let _rules = self.tables.users();
         &self.tables
+    }
+
+    /// What holds of every desk: its settings keep their rules, and the policy in force is that of its
+    /// tables. So laws on histories can be applied from here on.
+    pub fn rules(&self)
+        ensures settings { AreSettings self.now.state.settings }
+        ensures in_force { IsInForce self.now.state.rows self.now.state.policy }
+    {
+        let _fields = self.settings.fields();
     }
 
     /// Gives the keeper back.

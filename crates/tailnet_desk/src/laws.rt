@@ -8,9 +8,11 @@ ghost use Rattle.desk_state.specs.Decisions.{IsNoLess, IsSound, rows_after};
 ghost use Rattle.desk_state.specs.State.{State};
 ghost use Rattle.desk_state.specs.declared.decision.Decision.{Decision};
 ghost use Rattle.tailnet_desk.specs.Asks.{IsPollEvent, IsShort};
+ghost use Rattle.tailnet_desk.specs.Chains.{Chain, IsHistory, Turned};
 ghost use Rattle.tailnet_desk.specs.History.{Legal, replay};
-ghost use Rattle.tailnet_desk.specs.Seated.{IsInForce};
+ghost use Rattle.tailnet_desk.specs.Seated.{IsInForce, Point};
 ghost use Rattle.tailnet_desk.specs.Step.{decision, step};
+ghost use Rattle.tailnet_desk.specs.Turns.{IsTurn};
 ghost use Rattle.tailnet_desk.specs.declared.ask.Ask.{Ask};
 ghost use Rattle.tailnet_desk.specs.declared.entry.Entry.{Entry};
 ghost use Rattle.tailnet_desk.specs.declared.entry.Event.{Event};
@@ -58,4 +60,10 @@ pub fn legal_histories_keep_the_policy()
 pub fn polls_leave_tables()
     ensures rows { (s : State) (e : Event) → IsPollEvent e → (step s e).state.rows ≡ s.rows }
     ensures policy { (s : State) (e : Event) → IsPollEvent e → (step s e).state.policy ≡ s.policy }
+{}
+
+/// Turns of a desk, one after another, are a legal history.
+pub fn turns_are_a_history()
+    ensures history { (p : Point) (turns : List Turned) (q : Point)
+        → Chain IsTurn p turns q → IsHistory p turns q }
 {}

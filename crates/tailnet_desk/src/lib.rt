@@ -19,7 +19,7 @@ pub use desk::{Desk, OpenFault};
 pub use entry::{Entry, Event};
 pub use laws::{
     decisions_are_sound, decisions_keep_the_policy, legal_histories_keep_rules,
-    legal_histories_keep_the_policy, polls_leave_tables,
+    legal_histories_keep_the_policy, polls_leave_tables, turns_are_a_history,
 };
 pub use reply::{Answer, Drained, Loss, Reply};
 pub use turns::Turns;

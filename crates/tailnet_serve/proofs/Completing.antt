@@ -3,7 +3,6 @@ use Rattle.std.proofs.Common.{◌≡◌, ◌⊎◌, ◌||◌, ℕ, Bool, Option,
 use Rattle.std.specs.List.{AllByRecursion}
 use Rattle.std.proofs.lemmas.Bool.{or_parts}
 use Rattle.io_edge.specs.Edge.{Rose}
-use Rattle.desk_state.specs.State.{State}
 use Rattle.desk_front.specs.declared.front_settings.FrontSettings.{FrontSettings}
 use Rattle.exit_status.specs.declared.closed.Closed.{Closed}
 use Rattle.exit_status.specs.declared.closed.Closed.TheVariants.{End, Early, ReadFault, WriteFault, NoMemory}
@@ -11,14 +10,10 @@ use Rattle.exit_status.specs.declared.status.Status.{Status}
 use Rattle.exit_status.specs.declared.status.Status.TheVariants as status
 use Rattle.connections.specs.Connection.{Ends, Told}
 use Rattle.connections.specs.Exchanges.{Exchange}
-use Rattle.tailnet_desk.specs.Opening.{opening}
-use Rattle.session_hub.specs.Lines.{entries_of}
 use Rattle.session_hub.specs.declared.known.Line.{Line}
-use Rattle.tailnet_laws.specs.Gone.{IsGoneMachine}
-use Rattle.tailnet_laws.proofs.GoneIds.{gone_machines_stay}
 use Rattle.tailnet_commands.proofs.CompleteLemmas.{starved_unopened}
 use Rattle.tailnet_commands.specs.Outside.{Outside}
-use Rattle.tailnet_serve.specs.Complete.{IsServable, IsServedWell, IsServingComplete, ServesWell, ServiceLeavesMachinesGone}
+use Rattle.tailnet_serve.specs.Complete.{IsServable, IsServedWell, IsServingComplete, ServesWell}
 use Rattle.tailnet_serve.specs.Serve.{ServeDone, serve_status}
 use Rattle.tailnet_serve.specs.Service.{AreShifts, Shift, any_starved}
 use Rattle.tailnet_serve.specs.Visits.{AreVisits, Drawing, Visit, is_any_starved, is_starved}
@@ -71,8 +66,3 @@ shifts_well given limits told start history place (w ∷ ws) each fed =
 
 pub serves_well : ServesWell
 serves_well failed settings old new run = shifts_well _ _ _ _ run.history 0 run.shifts run.shared.each (sym run.starved_is)
-
-pub service_leaves_machines_gone : ServiceLeavesMachinesGone
-service_leaves_machines_gone failed starved settings old new run id gone =
-    subst (λ (s : State). IsGoneMachine s.rows id) (sym run.legal.state)
-    (gone_machines_stay (opening settings.tailnet run.rows run.moment) run.keeping.faults (entries_of run.history) id run.rules run.sound run.legal.legal gone)

@@ -8,3 +8,4 @@ pub mod Closing
 pub mod Served
 pub mod FrontSync
 pub mod Completing
+pub mod ServiceLawLemmas

@@ -1,4 +1,4 @@
--- When a run of `serve` can't but end well, and how it leaves its connections and its tables.
+-- When a run of `serve` can't but end well, and how it leaves its connections.
 use Rattle.std.specs.Prelude.{◌≡◌, ◌⊎◌, ℕ, Bool, false, List}
 use Rattle.std.specs.List.{AllByRecursion}
 use Rattle.io_edge.specs.Edge.{Rose}
@@ -6,7 +6,6 @@ use Rattle.exit_status.specs.declared.closed.Closed.TheVariants.{End, Early}
 use Rattle.exit_status.specs.declared.status.Status.{Status}
 use Rattle.exit_status.specs.declared.status.Status.TheVariants as status
 use Rattle.server_settings.specs.declared.file_settings.FileSettings.{FileSettings}
-use Rattle.tailnet_laws.specs.Gone.{IsGoneMachine}
 use Rattle.tailnet_commands.specs.Complete.{IsOpenable}
 use Rattle.tailnet_commands.specs.Outside.{Outside}
 use Rattle.tailnet_serve.specs.Serve.{ServeOutcome}
@@ -37,8 +36,3 @@ IsServedWell v =
 abbrev pub ServesWell : Type 0
 ServesWell = (failed : Bool) (settings : FileSettings) (old new : Outside) (run : Service failed false settings old new)
     → AllByRecursion (λ (w : Shift). AllByRecursion IsServedWell w.visits) run.shifts
-
--- an id of a machine that had gone when the desk was opened is no machine's at the end
-abbrev pub ServiceLeavesMachinesGone : Type 0
-ServiceLeavesMachinesGone = (failed starved : Bool) (settings : FileSettings) (old new : Outside) (run : Service failed starved settings old new) (id : ℕ)
-    → IsGoneMachine run.rows id → IsGoneMachine run.final.state.rows id

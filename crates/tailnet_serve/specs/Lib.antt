@@ -5,4 +5,5 @@ pub mod Crews
 pub mod Service
 pub mod Serve
 pub mod Complete
+pub mod ServiceLaws
 pub mod Top

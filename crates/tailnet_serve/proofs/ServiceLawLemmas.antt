@@ -1,0 +1,33 @@
+-- Laws on histories, put on a connection at a seat and on a run.
+use Rattle.std.proofs.Common.{◌≡◌, List, Some, sym, subst}
+use Rattle.desk_state.specs.State.{State}
+use Rattle.tailnet_desk.specs.Chains.{Chain, Turned}
+use Rattle.tailnet_desk.specs.Opening.{opening}
+use Rattle.tailnet_desk.specs.Seated.{Point}
+use Rattle.session_hub.specs.Lines.{AreLegal, LegalFrom, entries_of}
+use Rattle.session_hub.specs.Seats.{SeatView}
+use Rattle.tailnet_laws.specs.Followed.{AreFollowed}
+use Rattle.tailnet_laws.specs.Gone.{IsGoneMachine}
+use Rattle.tailnet_laws.specs.Sessions.{sent_to}
+use Rattle.tailnet_laws.proofs.Following.{legal_followed}
+use Rattle.tailnet_laws.proofs.GoneIds.{gone_machines_stay}
+use Rattle.tailnet_commands.specs.RunLaws.{IsSoundState}
+use Rattle.tailnet_commands.proofs.RunLawLemmas.{kept, ruled}
+use Rattle.tailnet_serve.specs.Runs.{IsSeatStep}
+use Rattle.tailnet_serve.specs.ServiceLaws.{SeatIsFollowed, ServiceLeavesMachinesGone}
+use Rattle.tailnet_serve.proofs.SeatRuns.{run_chain}
+
+-- what a seat has seen is legal still
+seen_legal : (old new : SeatView) (turns : List Turned) (start : Point) → Chain IsSeatStep old turns new → old.hub.start ≡ Some start → LegalFrom start old.seen → LegalFrom start new.seen
+seen_legal old new turns start chain starts legal =
+    subst (λ s. AreLegal s new.seen) starts ((run_chain old turns new chain).legal (subst (λ s. AreLegal s old.seen) (sym starts) legal))
+
+pub seat_followed : SeatIsFollowed
+seat_followed given more limit held closed before after old new start talk starts legal sound =
+    legal_followed start.state start.keeping.faults (entries_of new.seen) (sent_to start.state.sessions) (ruled start.state sound) (kept start.state sound)
+    (seen_legal old new _ start talk.chain starts legal)
+
+pub service_leaves_machines_gone : ServiceLeavesMachinesGone
+service_leaves_machines_gone failed starved settings old new run id gone =
+    subst (λ (s : State). IsGoneMachine s.rows id) (sym run.legal.state)
+    (gone_machines_stay (opening settings.tailnet run.rows run.moment) run.keeping.faults (entries_of run.history) id run.rules run.sound run.legal.legal gone)
