@@ -41,4 +41,5 @@ def main(port, what):
         sys.exit(f"{what}: answered {got[:100]!r}")
 
 
-main(*sys.argv[1:])
+if __name__ == "__main__":
+    main(*sys.argv[1:])
