@@ -93,6 +93,29 @@ pub const ROUTE_ROWS: &str = r##"= half-exit
 < 200 {"nodes":[{"addresses":["100.64.0.1","fd7a:115c:a1e0::1"],"advertised":["10.1.0.0/16"],"approved":[],"expiry":"0001-01-01T00:00:00Z","id":1,"live":true,"name":"node","online":false,"served":[],"tags":[],"user":"seed@"}]}
 > POST /api/v1/node/1/routes Bearer/secret {"routes":["10.1.0.0/16"]}
 < 200 {"addresses":["100.64.0.1","fd7a:115c:a1e0::1"],"advertised":["10.1.0.0/16"],"approved":["10.1.0.0/16"],"expiry":"0001-01-01T00:00:00Z","id":1,"live":true,"name":"node","online":false,"served":["10.1.0.0/16"],"tags":[],"user":"seed@"}
+= failed-route-commit-and-a-poll
+! keep 5
+> POST /machine/register mkey:%1 {"Auth":{"AuthKey":"k1"},"NodeKey":"nodekey:%a"}
+< registered
+> POST /machine/register mkey:%2 {"Auth":{"AuthKey":"k1"},"NodeKey":"nodekey:%b","Hostinfo":{"RoutableIPs":["10.1.0.0/16"]}}
+< registered
+> POST /machine/map mkey:%1 {"MapSessionHandle":"","MapSessionSeq":0,"NodeKey":"nodekey:%a","OmitPeers":false,"Stream":true}
+< stream
++ {"DNSConfig":{"Domains":["tail.example"],"ExtraRecords":[],"Proxied":true,"Resolvers":[],"Routes":{}},"Domain":"tail.example","MapSessionHandle":"s1-0000000000000001","Node":{"Addresses":["100.64.0.1/32","fd7a:115c:a1e0::1/128"],"AllowedIPs":["100.64.0.1/32","fd7a:115c:a1e0::1/128"],"Created":"2001-09-09T01:46:40Z","DiscoKey":"discokey:%0","Endpoints":[],"HomeDERP":0,"Hostinfo":{"Hostname":""},"ID":1,"Key":"nodekey:%a","KeyExpiry":"0001-01-01T00:00:00Z","Machine":"mkey:%1","MachineAuthorized":true,"Name":"node.tail.example.","Online":true,"StableID":"n1","Tags":[],"User":1},"PacketFilter":[{"DstPorts":[{"IP":"100.64.0.1","Ports":{"First":0,"Last":65535}},{"IP":"fd7a:115c:a1e0::1","Ports":{"First":0,"Last":65535}}],"IPProto":[1,6,17,58],"SrcIPs":["*"]}],"Peers":[{"Addresses":["100.64.0.2/32","fd7a:115c:a1e0::2/128"],"AllowedIPs":["100.64.0.2/32","fd7a:115c:a1e0::2/128"],"Created":"2001-09-09T01:46:40Z","DiscoKey":"discokey:%0","Endpoints":[],"HomeDERP":0,"Hostinfo":{"Hostname":""},"ID":2,"Key":"nodekey:%b","KeyExpiry":"0001-01-01T00:00:00Z","Machine":"mkey:%2","MachineAuthorized":true,"Name":"node-1.tail.example.","Online":false,"StableID":"n2","Tags":[],"User":1}],"Seq":1,"UserProfiles":[{"DisplayName":"seed","ID":1,"LoginName":"seed@"}]}
+.
+> POST /api/v1/node/2/routes Bearer/secret {"routes":["10.1.0.0/16"]}
+< 500 {"error":"KeeperFault"}
+> POST /machine/map mkey:%1 {"MapSessionHandle":"s1-0000000000000001","MapSessionSeq":1,"NodeKey":"nodekey:%a","OmitPeers":false,"Stream":true}
+< stream
++ {"MapSessionHandle":"s1-0000000000000001"}
+.
+> POST /api/v1/node/2/routes Bearer/secret {"routes":["10.1.0.0/16"]}
+< 200 {"addresses":["100.64.0.2","fd7a:115c:a1e0::2"],"advertised":["10.1.0.0/16"],"approved":["10.1.0.0/16"],"expiry":"0001-01-01T00:00:00Z","id":2,"live":true,"name":"node-1","online":false,"served":["10.1.0.0/16"],"tags":[],"user":"seed@"}
+> POST /machine/map mkey:%1 {"MapSessionHandle":"s1-0000000000000001","MapSessionSeq":1,"NodeKey":"nodekey:%a","OmitPeers":false,"Stream":true}
+< stream
++ {"MapSessionHandle":"s1-0000000000000001"}
++ {"PeersChanged":[{"Addresses":["100.64.0.2/32","fd7a:115c:a1e0::2/128"],"AllowedIPs":["100.64.0.2/32","fd7a:115c:a1e0::2/128","10.1.0.0/16"],"Created":"2001-09-09T01:46:40Z","DiscoKey":"discokey:%0","Endpoints":[],"HomeDERP":0,"Hostinfo":{"Hostname":""},"ID":2,"Key":"nodekey:%b","KeyExpiry":"0001-01-01T00:00:00Z","Machine":"mkey:%2","MachineAuthorized":true,"Name":"node-1.tail.example.","Online":false,"StableID":"n2","Tags":[],"User":1}],"Seq":2}
+.
 = routes-again
 ! keep 5
 > POST /machine/register mkey:%1 {"Auth":{"AuthKey":"k1"},"NodeKey":"nodekey:%a","Hostinfo":{"RoutableIPs":["0.0.0.0/0","10.1.0.0/16","::/0"]}}

@@ -58,6 +58,8 @@ pub const WORKED: &str = r#"= first-registration
 < registered
 > POST /machine/register mkey:%3 {"Auth":{"AuthKey":"k1"},"NodeKey":"nodekey:%c"}
 < 507 {"error":"AddressesSpent","family":4}
+> GET /api/v1/node Bearer/secret
+< 200 {"nodes":[{"addresses":["100.64.0.1","fd7a:115c:a1e0::1"],"advertised":[],"approved":[],"expiry":"0001-01-01T00:00:00Z","id":1,"live":true,"name":"node","online":false,"served":[],"tags":[],"user":"seed@"},{"addresses":["100.64.0.2","fd7a:115c:a1e0::2"],"advertised":[],"approved":[],"expiry":"0001-01-01T00:00:00Z","id":2,"live":true,"name":"node-1","online":false,"served":[],"tags":[],"user":"seed@"}]}
 = waiting-for-admission
 > POST /machine/register mkey:%4 {"NodeKey":"nodekey:%d"}
 < 200 {"AuthURL":"http://tail.example/register/reg-1-00000000000000010000000000000002","Error":"","Login":{"ID":0,"LoginName":""},"MachineAuthorized":false,"NodeKeyExpired":false,"User":{"DisplayName":"","ID":0}}

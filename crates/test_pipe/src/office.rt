@@ -79,8 +79,9 @@ fn add_machine(alloc: Global, input: &mut Vec<u8>, number: u32) -> Result<(), No
     )
 }
 
-fn add_map(alloc: Global, input: &mut Vec<u8>, number: u32) -> Result<(), NoMemory> {
-    let body = format!(in alloc; "{{\"NodeKey\":\"nodekey:1{number:063}\"}}")?;
+/// A machine asks for its map, once or by a poll.
+fn add_map(alloc: Global, input: &mut Vec<u8>, number: u32, polls: bool) -> Result<(), NoMemory> {
+    let body = format!(in alloc; "{{\"NodeKey\":\"nodekey:1{number:063}\",\"Stream\":{polls}}}")?;
     let caller = caller_of(alloc, number)?;
     add_request(
         alloc,
@@ -91,7 +92,7 @@ fn add_map(alloc: Global, input: &mut Vec<u8>, number: u32) -> Result<(), NoMemo
     )
 }
 
-/// The office's beginning: its users, its policy, its machines, the policy once more, tested over them, and a map of each.
+/// The office's beginning: its users, its policy, its machines, the policy once more, tested over them, a map of each, and a poll of each.
 /// The operator approves none of the routes.
 fn office(alloc: Global) -> Result<Vec<u8>, NoMemory> {
     let mut input = Vec::new(alloc);
@@ -101,8 +102,10 @@ fn office(alloc: Global) -> Result<Vec<u8>, NoMemory> {
         add_machine(alloc, &mut input, number)?;
     }
     add_asked(alloc, &mut input, "PUT /api/v1/policy", OFFICE)?;
-    for number in 1..=40 {
-        add_map(alloc, &mut input, number)?;
+    for polls in [false, true] {
+        for number in 1..=40 {
+            add_map(alloc, &mut input, number, polls)?;
+        }
     }
     for target in [
         "POST /api/v1/node/1/routes",
@@ -126,8 +129,9 @@ fn count_of(bytes: &[u8], text: &[u8]) -> u32 {
 }
 
 /// What is looked for in the answers, and how often it is there.
-const COUNTS: [(&[u8], u32); 4] = [
-    (ANSWERED, 12 + 1 + 40 + 1 + 40 + 3),
+const COUNTS: [(&[u8], u32); 5] = [
+    (ANSWERED, 12 + 1 + 40 + 1 + 40 + 40 + 3),
+    (b"\"Seq\":1,", 40),
     (b"\"approved\":[],", 3),
     (b"\"served\":[\"192.168.5.0/24\"]", 1),
     (b"\"served\":[\"0.0.0.0/0\",\"::/0\"]", 1),

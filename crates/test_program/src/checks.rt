@@ -45,8 +45,12 @@ fn is_judged(alloc: Global, text: &[u8], verdict: &[u8]) -> Result<bool, NoMemor
 }
 
 /// Policies without tests, and what is written of each.
-const JUDGED: [(&[u8], &[u8]); 5] = [
+const JUDGED: [(&[u8], &[u8]); 6] = [
     (b"{/* none */ \"acls\": [],} // end", b"ok\n"),
+    (
+        b"{/* all of it */\"ACLs\":[{\"action\":\"accept\",\"Users\":[\"*\"],\"Ports\":[\"*:*\",],}],}// open",
+        b"ok\n",
+    ),
     (b"{\"acls\":[],\"ACLs\":[]}", b"P3 acls\n"),
     (b"{\"x\\nok\":1}", b"P3 x\\nok\n"),
     (
