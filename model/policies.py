@@ -10,8 +10,8 @@ from texts import address_of, is_tag, login_of, prefix_of
 MOST = {"text": 262144, "rules": 512, "hosts": 512, "entries": 256, "list": 256}
 TOKEN = re.compile(rb'"(?:\\.|[^"\\])*"|//[^\n]*|/\*.*?\*/|.', re.DOTALL)
 UNREAD = ["ssh", "sshTests", "nodeAttrs", "derpMap", "randomizeClientPort", "OneCGNATRoute", "disableIPv4"]
-SECTIONS = ["groups", "hosts", "tagOwners", "acls", "autoApprovers", "tests"]
-UNSUPPORTED = ["grants", "ipsets", "postures", "defaultSrcPosture"]
+SECTIONS = ["groups", "hosts", "tagOwners", "acls", "grants", "autoApprovers", "tests"]
+UNSUPPORTED = ["ipsets", "postures", "defaultSrcPosture"]
 NEWER = {"users": "src", "ports": "dst"}
 AUTOMATIC = ["autogroup:member", "autogroup:tagged", "autogroup:internet", "autogroup:self"]
 PROTOCOLS = {
@@ -33,7 +33,8 @@ class Policy:
     groups: dict = field(default_factory=dict)
     hosts: dict = field(default_factory=dict)
     tags: dict = field(default_factory=dict)
-    # each rule is its protocol or None, its sources, and its destinations with their ports; None without `acls`
+    # each rule is its protocol or None, its sources, and its destinations with their ports: those of `acls`, then one for each
+    # element of the `ip` lists of `grants`; None without both
     rules: list | None = None
     # each prefix with its approvers
     routes: list = field(default_factory=list)
@@ -306,6 +307,32 @@ class Reader:
             listed(under(place, "dst"), found.get("dst"), MOST["list"], lambda at, item: self.dest(at, item, only_all)),
         )
 
+    def end(self, place, value):
+        """A destination of a grant, which has no ports."""
+        return self.selector(place, shaped(place, value, str))
+
+    def flow(self, place, value):
+        """The protocol, or None, and the ports that an element of `ip` names."""
+        head, colon, rest = shaped(place, value, str).partition(":")
+        proto = self.proto(place, head) if colon else None
+        ports = rest if colon else head
+        if "," in ports:
+            raise PolicyFault(16, place)
+        ranges = ports_of(place, ports, 16)
+        if proto is not None and proto not in (6, 17, 132) and ports != "*":
+            raise PolicyFault(17, place)
+        return proto, ranges
+
+    def grant(self, place, value):
+        """Adds the rules of an entry of `grants`."""
+        found = sections(place, shaped(place, value, dict), ["src", "dst", "ip"], ["srcPosture", "app", "via"])
+        sources = listed(under(place, "src"), found.get("src"), MOST["list"], self.source)
+        ends = listed(under(place, "dst"), found.get("dst"), MOST["list"], self.end)
+        at = under(place, "ip")
+        room = MOST["rules"] - len(self.policy.rules)
+        flows = listed(at, found.get("ip"), min(MOST["list"], room), self.flow)
+        self.policy.rules += [(proto, sources, [(end, ranges) for end in ends]) for proto, ranges in flows]
+
     def approvers(self, value):
         place = "autoApprovers"
         found = sections(place, shaped(place, value, dict), ["routes", "exitNode"], ["services"])
@@ -341,6 +368,9 @@ class Reader:
                 self.entries(name, found[name], MOST[most], read)
         if "acls" in found:
             self.policy.rules = listed("acls", found["acls"], MOST["rules"], self.rule)
+        if "grants" in found:
+            self.policy.rules = self.policy.rules or []
+            listed("grants", found["grants"], MOST["entries"], self.grant)
         if "autoApprovers" in found:
             self.approvers(found["autoApprovers"])
         if "tests" in found:

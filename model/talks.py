@@ -59,9 +59,13 @@ TESTED = [
     '{"tagOwners": {"tag:web": []}, "acls": [{"action": "accept", "src": ["seed@"], "dst": ["tag:web:80-90"]}], "tests": '
     '[{"src": "seed@", "accept": ["tag:web:80"], "deny": ["tag:web:443"]}, {"src": "100.64.0.1", "deny": ["tag:web:85"]}]}',
     '{"acls": [], "tests": [{"src": "ann@", "deny": ["seed@:22"], "accept": ["ann@:22"]}]}',
+    '{"grants": [{"src": ["seed@"], "dst": ["100.64.0.0/30"], "ip": ["22"]}], "tests": [{"src": "seed@", "deny": ["seed@:22", "ann@:22"]}]}',
+    '{"grants": [{"src": ["*"], "dst": ["autogroup:self"], "ip": ["tcp:22"]}], "tests": [{"src": "100.64.0.1", "accept": ["seed@:22"]}]}',
 ]
 NO_POLICIES = [
     "", "[,]", "/* open", '{"tagOwners": {"tag:1": []}}', '{"tagOwners": {"tag:a": ["group:x"]}}', '{"tests": [{"src": "*"}]}',
+    '{"grants": [{"src": ["*"], "dst": ["*:*"], "ip": ["*"]}]}', '{"grants": [{"src": ["*"], "dst": ["*"], "ip": ["*"], "via": ["tag:a"]}]}', '{"grants": null}',
+    '{"grants": [{"users": ["*"], "dst": ["*"], "ip": ["*"]}]}', '{"grants": [{"src": ["*"], "dst": ["*"]}]}', '{"grants": 5, "acls": [{}]}',
     '{"autoApprovers": {"exitNode": ["*"]}}', '{"autoApprovers": {"routes": {"10.0.0.1/8": []}}}', '{"a\\"b": 1}', '{"groups": {"group:a": ["ann"]}}', "null", "\ufeff{}",
 ]
 SOURCES = [
@@ -72,6 +76,8 @@ SOURCES = [
 DESTS = SOURCES + ["autogroup:self", "autogroup:self", "autogroup:internet", "10.1.0.0/24", "192.168.0.0/16", "8.8.8.8", "fd00::/16"]
 APPROVERS = ["ann@", "seed@", "seed@", "group:dev", "tag:web", "tag:Db-1"]
 PORTS = ["*", "*", "22", "80-90,85-100", "443,22", "1-2,3-4,6", "0-65535"]
+FLOWS = ["*", "*", "22", "80-90", "tcp:443", "tcp:*", "6:22-80", "udp:53", "132:0-65535", "icmp:*", "58:*", "255:*", "0-65535", "udp:00080"]
+NO_FLOWS = ["icmp:80", "tcp:80,81", "foo:80", "tcp", "tcp:1:2", ":80", "*:*", "256:*", "icmp:0-65535", "9-8", "", 80, None]
 STRAY = [
     ("GET", "/"), ("GET", "/machine/map"), ("PUT", "/machine/map"), ("POST", "/machine/map/"), ("GET", "/api/v1/node/1"),
     ("POST", "/api/v1/policy"), ("PUT", "/api/v1/node/1/routes"), ("POST", "/api/v1/dns"), ("DELETE", "/api/v1/dns"), ("GET", "/api/v1/dns/"), ("DELETE", "/api/v1/user/"),
@@ -339,13 +345,26 @@ class Talk:
             "dst": [f"{self.one_of(DESTS)}:{self.one_of(ports)}" for _ in range(self.one_of([0, 1, 1, 1, 2, 3]))],
         }
 
+    def grant(self):
+        return {
+            "src": [self.one_of(SOURCES) for _ in range(self.one_of([0, 1, 1, 1, 2, 3]))],
+            "dst": [self.one_of(DESTS) for _ in range(self.one_of([0, 1, 1, 1, 2, 3]))],
+            "ip": [self.one_of(FLOWS, NO_FLOWS if self.once_in(60) else []) for _ in range(self.one_of([0, 1, 1, 1, 2, 3]))],
+        }
+
+    def granting(self):
+        """The sections of a policy that say who reaches whom. Half of them have `grants`, and with the fixed policies a third of all saves."""
+        acls = {"acls": [self.rule() for _ in range(self.one_of([0, 1, 1, 2, 3, 4]))]}
+        grants = {"grants": [self.grant() for _ in range(self.one_of([0, 1, 1, 2, 3]))]}
+        return self.one_of([acls, acls, acls, grants, grants, grants | acls])
+
     def rules(self):
         """A policy with rules."""
         return json.dumps({
             "groups": {"group:dev": ["ann@", "bob@example.org"], "group:none": []},
             "hosts": {"lab": "100.64.0.0/30", "one": "fd7a:115c:a1e0::1"},
             "tagOwners": {"tag:web": ["group:dev", "seed@"], "tag:Db-1": ["seed@"], "tag:a": []},
-            "acls": [self.rule() for _ in range(self.one_of([0, 1, 1, 2, 3, 4]))],
+            **self.granting(),
             **({} if self.once_in(2) else {"autoApprovers": self.auto_approvers()}),
         })
 

@@ -13,11 +13,11 @@ SENTENCES = {
     "P2": ("the top isn't an object", "put the sections into braces"),
     "P3": ("a key isn't known, or stands for one that was there before, as `users` beside `src`", "correct the spelling, or leave one of the two out"),
     "P4": (
-        "a part of the policy file that isn't supported: the keys `grants`, `ipsets`, `postures`, `defaultSrcPosture`; `srcPosture` in a rule; `services` in `autoApprovers`; "
+        "a part of the policy file that isn't supported: the keys `ipsets`, `postures`, `defaultSrcPosture`; `srcPosture` in a rule or a grant; `app` or `via` in a grant; `services` in `autoApprovers`; "
         "`srcPostureAttrs` in a test; selectors that begin `ipset:` or `svc:`, and automatic groups other than the four above; a tag or an automatic group as owner of a tag",
-        "say it by groups, tags, hosts and rules",
+        "say it by groups, tags, hosts, rules and grants",
     ),
-    "P5": ("a list, an object or a text was due and isn't there; a rule has no `src` or no `dst`", "give the value the shape that this page shows"),
+    "P5": ("a list, an object or a text was due and isn't there; a rule has no `src` or no `dst`; a grant has no `src`, no `dst` or no `ip`", "give the value the shape that this page shows"),
     "P6": ("a group's name is ill-formed, or a member is no login", "begin the name with `group:`; end a login with `@` or `@` and a domain"),
     "P7": ("a host's name is ill-formed or is an address, or its value is no address or prefix", "choose another name; write a prefix from its base, as `10.0.0.0/8`"),
     "P8": ("a tag is ill-formed, or an owner is neither a login nor a group", "begin the tag with `tag:` and a letter; name users as `ann@`"),
@@ -28,10 +28,10 @@ SENTENCES = {
     "P13": ("a tag has no entry", "add it to `tagOwners`, if need be with an empty list"),
     "P14": ("a host has no entry. A tag or group whose ports are missing is also read so: `tag:web` is the host `tag` with ports `web`", "add it to `hosts`, or add the ports: `tag:web:*`"),
     "P15": ("`autogroup:internet` or `autogroup:self` is a source", "name the users, groups or tags that are meant, or `autogroup:member`"),
-    "P16": ("a destination of a rule has no colon, or its ports are ill-formed", "add `:*` or the ports; put the lesser port first"),
+    "P16": ("a destination of a rule has no colon; or its ports, or those of an element of `ip`, are ill-formed", "add `:*` or the ports; put the lesser port first; in `ip` write one element for each piece"),
     "P17": ("ports other than `*` for a protocol that has none", "write `*`, or make a rule of its own for TCP, UDP or SCTP"),
     "P18": ("a route is no prefix, or stands there twice", "write the prefix from its base; join the lists of the two"),
-    "P19": ("the text, a list or an object is over its limit, or ports have more than 64 pieces", "name ranges, prefixes and groups in place of single ones; make two rules of one"),
+    "P19": ("the text, a list or an object is over its limit, or ports have more than 64 pieces; or an `ip` brings the rules over 512", "name ranges, prefixes and groups in place of single ones; make two rules of one"),
     "P20": ("a test has no subject; its subject or a destination is none of login, group, tag and address; or a destination hasn't exactly one port", "name one user, group, tag, address or host, and one port"),
     "P21": ("a test fails", "fix the rules, or the test"),
 }

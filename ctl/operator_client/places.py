@@ -7,8 +7,8 @@ from . import hujson
 
 # (the names by which the server writes a key, whatever its case or age in the file)
 NAMES = (
-    "groups", "hosts", "tagOwners", "acls", "autoApprovers", "tests", "action", "proto", "src", "dst", "routes", "exitNode",
-    "accept", "deny",
+    "groups", "hosts", "tagOwners", "acls", "grants", "autoApprovers", "tests", "action", "proto", "src", "dst", "ip", "routes",
+    "exitNode", "accept", "deny",
 )
 WRITTEN = {hujson.lower(name): name for name in NAMES} | {"users": "src", "ports": "dst"}
 # the faults whose place is a member that is there, and of which the key is wrong and not the value

@@ -1,6 +1,9 @@
 pub mod Counts
 pub mod FaultLemmas
+pub mod Former
 pub mod Front
+pub mod GrantFaults
+pub mod GrantLemmas
 pub mod KnownLemmas
 pub mod OwnerLemmas
 pub mod PolicyLemmas

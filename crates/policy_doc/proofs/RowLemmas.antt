@@ -35,7 +35,7 @@ use Rattle.policy_doc.proofs.KnownLemmas.{IsRead, approver_read, selector_known,
 use Rattle.tail_base.proofs.StepLemmas.{bind_parts, check_parts, due_parts}
 use Rattle.policy_doc.proofs.StepLemmas.{given_all, given_short, list_all_read, list_short}
 
-source_text_read : (names : Names) (place : List ℕ) (d : Data) (s : Selector) → source_text names place d ≡ Ok s → IsRead names is_source s
+pub source_text_read : (names : Names) (place : List ℕ) (d : Data) (s : Selector) → source_text names place d ≡ Ok s → IsRead names is_source s
 unfolding source_text
 source_text_read names place d s e =
     let text = due_parts (fault_at code.WrongShape place) (as_str d) _ s e in
@@ -47,7 +47,7 @@ approver_text_read names place d s e =
     let text = due_parts (fault_at code.WrongShape place) (as_str d) _ s e in
     approver_read names place text.0 s text.2
 
-ports_read : (ill : PolicyCode) (place : List ℕ) (r : Result (List PortRange) PortFault) (ports : List PortRange) → ports_from ill place r ≡ Ok ports → r ≡ Ok ports
+pub ports_read : (ill : PolicyCode) (place : List ℕ) (r : Result (List PortRange) PortFault) (ports : List PortRange) → ports_from ill place r ≡ Ok ports → r ≡ Ok ports
 ports_read ill place (Ok found) ports e = cc
 ports_read ill place (Err fault) ports e = absurd (cc)
 
@@ -57,7 +57,7 @@ star_every text ports e star =
     let same : record { first = 0; last = 65535 } ∷ [] ≡ ports = cc (ports_star text star, e) in
     rw (← same) refl
 
-every_if : (only_all : Bool) (text : List ℕ) (ports : List PortRange) → ports_of_text text ≡ Ok ports → (not only_all || bytes_eq text (codes "*")) ≡ true → (not only_all || is_every_port ports) ≡ true
+pub every_if : (only_all : Bool) (text : List ℕ) (ports : List PortRange) → ports_of_text text ≡ Ok ports → (not only_all || bytes_eq text (codes "*")) ≡ true → (not only_all || is_every_port ports) ≡ true
 every_if true text ports e star = star_every text ports e star
 every_if false text ports e star = refl
 
@@ -81,12 +81,12 @@ dest_text_read only_all names place d x e =
     let text = due_parts (fault_at code.WrongShape place) (as_str d) _ x e in
     dest_read only_all names place text.0 x text.2
 
-due_all : {A : Type 0} (P : A → Bool) (read : List ℕ → Data → Result A PolicyFault) → ((place : List ℕ) (d : Data) (x : A) → read place d ≡ Ok x → P x ≡ true)
+pub due_all : {A : Type 0} (P : A → Bool) (read : List ℕ → Data → Result A PolicyFault) → ((place : List ℕ) (d : Data) (x : A) → read place d ≡ Ok x → P x ≡ true)
     → (place : List ℕ) (o : Option Data) (xs : List A) → list_due read place o ≡ Ok xs → list_all P xs ≡ true
 due_all P read h place None xs e = absurd (cc)
 due_all P read h place (Some d) xs e = list_all_read P LIST_LIMIT read h place d xs e
 
-due_short : {A : Type 0} (read : List ℕ → Data → Result A PolicyFault) (place : List ℕ) (o : Option Data) (xs : List A) → list_due read place o ≡ Ok xs → leb (length xs) LIST_LIMIT ≡ true
+pub due_short : {A : Type 0} (read : List ℕ → Data → Result A PolicyFault) (place : List ℕ) (o : Option Data) (xs : List A) → list_due read place o ≡ Ok xs → leb (length xs) LIST_LIMIT ≡ true
 due_short read place None xs e = absurd (cc)
 due_short read place (Some d) xs e = le-leb (length xs) LIST_LIMIT (list_short LIST_LIMIT read place d xs e)
 

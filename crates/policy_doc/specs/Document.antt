@@ -20,6 +20,7 @@ use Rattle.policy_doc.specs.declared.approvers.Approvers.{Approvers}
 use Rattle.policy_doc.specs.declared.limits.TheConstants.{ENTRY_LIMIT, LIST_LIMIT, RULE_LIMIT}
 use Rattle.tail_base.specs.declared.limits.TheConstants.{POLICY_LIMIT}
 use Rattle.policy_doc.specs.Entries.{approver_text, group_entry, host_entry, route_entry, tag_entry}
+use Rattle.policy_doc.specs.Grants.{grants_at, with_grants}
 use Rattle.policy_doc.specs.Keys.{keys_of, section}
 use Rattle.policy_doc.specs.Rules.{rule_at, test_at}
 use Rattle.policy_doc.specs.Walks.{list_of, object_of, object_at, optional, or_empty}
@@ -49,20 +50,24 @@ names_of ms = do
 -- the keys of the top object that are known; the last seven are left unread
 abbrev pub top_keys : List (List ℕ)
 top_keys =
-    codes "groups" ∷ codes "hosts" ∷ codes "tagOwners" ∷ codes "acls" ∷ codes "autoApprovers" ∷ codes "tests"
+    codes "groups" ∷ codes "hosts" ∷ codes "tagOwners" ∷ codes "acls" ∷ codes "grants" ∷ codes "autoApprovers" ∷ codes "tests"
     ∷ codes "ssh" ∷ codes "sshTests" ∷ codes "nodeAttrs" ∷ codes "derpMap" ∷ codes "randomizeClientPort" ∷ codes "OneCGNATRoute" ∷ codes "disableIPv4" ∷ []
 
 -- the keys of the top object that aren't supported
 abbrev pub unsupported_keys : List (List ℕ)
-unsupported_keys = codes "grants" ∷ codes "ipsets" ∷ codes "postures" ∷ codes "defaultSrcPosture" ∷ []
+unsupported_keys = codes "ipsets" ∷ codes "postures" ∷ codes "defaultSrcPosture" ∷ []
 
 -- each key of the top object is known
 abbrev pub top_keys_of : Members → Result (Unit {0}) PolicyFault
 top_keys_of ms = keys_of [] top_keys unsupported_keys [] ms
 
--- the rules; none where there are no `acls`
-abbrev pub acls_section : Names → Option Data → Result (Option (List Rule)) PolicyFault
-acls_section names d = optional (list_of RULE_LIMIT (rule_at names) (codes "acls")) d
+-- the rules: those of `acls`, and behind them those of `grants`; none where there is neither
+abbrev pub rules_section : Names → (acls grants : Option Data) → Result (Option (List Rule)) PolicyFault
+rules_section names None grants = optional (grants_at names [] (codes "grants")) grants
+rules_section names (Some acls) grants = do
+  before ← list_of RULE_LIMIT (rule_at names) (codes "acls") acls
+  rules ← with_grants names before grants
+  Ok (Some rules)
 
 -- the tests
 abbrev pub tests_section : Names → Option Data → Result (List Test) PolicyFault
@@ -86,7 +91,7 @@ policy_of d = do
   ms ← or_fault (fault_at code.NotObject (codes "top")) (as_object d)
   _ ← top_keys_of ms
   names ← names_of ms
-  rules ← acls_section names (section (codes "acls") ms)
+  rules ← rules_section names (section (codes "acls") ms) (section (codes "grants") ms)
   approvers ← approvers_or_none names (section (codes "autoApprovers") ms)
   tests ← tests_section names (section (codes "tests") ms)
   Ok (policy_from names rules approvers tests)

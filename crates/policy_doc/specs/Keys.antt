@@ -1,5 +1,5 @@
 -- Keys that are compared without regard to ASCII case.
-use Rattle.std.specs.Prelude.{ℕ, ◌&&◌, Bool, not, List, [], ◌∷◌, ◌++◌, codes, Option, Some, None, Result, Ok, if◌then◌else◌}
+use Rattle.std.specs.Prelude.{ℕ, ◌&&◌, Bool, true, not, List, [], ◌∷◌, ◌++◌, codes, Option, Some, None, Result, Ok, if◌then◌else◌}
 use Rattle.std.specs.List.{list_any}
 use Rattle.std.specs.Str.{str_eq_ignore_ascii_case}
 use Rattle.serde_json.specs.Data.{Data, Members, no_members, member}
@@ -18,6 +18,11 @@ newer key =
 -- the key is one of the names
 abbrev pub is_one_of : List ℕ → List (List ℕ) → Bool
 is_one_of key names = list_any (λ name. str_eq_ignore_ascii_case name key) names
+
+-- no key is the name, in any case of its letters
+abbrev pub lacks_key : List ℕ → Members → Bool
+lacks_key name no_members = true
+lacks_key name (member key d ms) = not (str_eq_ignore_ascii_case name key) && lacks_key name ms
 
 -- each key is supported, is known, and is none that was walked before
 abbrev pub keys_of : List ℕ → (known unsupported seen : List (List ℕ)) → Members → Result (Unit {0}) PolicyFault

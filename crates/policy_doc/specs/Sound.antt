@@ -14,7 +14,7 @@ use Rattle.policy_rows.specs.Nets.{is_one_address}
 use Rattle.policy_rows.specs.Selectors.{is_approver, is_source}
 use Rattle.policy_doc.specs.declared.limits.TheConstants.{ENTRY_LIMIT, LIST_LIMIT, RULE_LIMIT}
 
--- the rules that are written; none where there are no `acls`
+-- the rules that are written; none where there are neither `acls` nor `grants`
 abbrev pub written_rules : Option (List Rule) → List Rule
 written_rules None = []
 written_rules (Some rules) = rules

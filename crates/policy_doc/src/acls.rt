@@ -20,7 +20,7 @@ use std::alloc::Global;
 use tail_base::{Failure, Items};
 
 /// A source of a rule.
-struct SourceText;
+pub(crate) struct SourceText;
 
 impl ReadElement for SourceText {
     type Item = Selector;
@@ -82,7 +82,7 @@ fn check_action(
 }
 
 /// A list that a rule has to have.
-fn list_due<E: ReadElement>(
+pub(crate) fn list_due<E: ReadElement>(
     alloc: Global,
     names: &Names,
     place: &str,

@@ -3,10 +3,11 @@ ghost use Rattle.std.specs.Prelude.{◌≡◌, ◌<◌, ◌^◌, length};
 ghost use Rattle.std.specs.Option.{option_copied, option_map};
 ghost use Rattle.serde_json.specs.View.{members_view, view};
 ghost use Rattle.tail_base.specs.Steps.{Gives};
-ghost use Rattle.policy_doc.specs.Document.{json_at, names_of, policy_from, policy_of, policy_of_text, acls_section, standard_at, syntax_at, tests_section, top_keys_of};
+ghost use Rattle.policy_doc.specs.Document.{json_at, names_of, policy_from, policy_of, policy_of_text, rules_section, standard_at, syntax_at, tests_section, top_keys_of};
 
 use crate::acls::RuleObject;
 use crate::approvers::{Approvers, approvers_or_none};
+use crate::grants::add_grants;
 use crate::keys::{check_keys, section};
 use crate::limits::{ENTRY_LIMIT, RULE_LIMIT};
 use crate::testing::TestObject;
@@ -41,19 +42,23 @@ fn read_names(alloc: Global, members: &Map<String, Value>) -> Result<Names, Fail
     })
 }
 
-/// The rules, if there are any.
+/// The rules of `acls` and, behind them, those of `grants`. None where there is neither.
 fn read_rules(
     alloc: Global,
     names: &Names,
-    value: Option<&Value>,
+    acls: Option<&Value>,
+    grants: Option<&Value>,
 ) -> Result<Option<Items<Rule>>, Failure<PolicyFault>>
-    ensures value { Gives (λ x. x) result (acls_section names.now
-        (option_map view (option_copied value.entry))) }
+    ensures value { Gives (λ x. x) result (rules_section names.now
+        (option_map view (option_copied acls.entry))
+        (option_map view (option_copied grants.entry))) }
 {
-    match value {
-        Some(value) => Ok(Some(list_of::<RuleObject>(alloc, RULE_LIMIT, names, "acls", value)?)),
-        None => Ok(None),
+    if acls.is_none() && grants.is_none() {
+        return Ok(None);
     }
+    let mut rules = list_or_empty::<RuleObject>(alloc, RULE_LIMIT, names, "acls", acls)?;
+    add_grants(alloc, names, &mut rules, grants)?;
+    Ok(Some(rules))
 }
 
 /// The tests.
@@ -77,6 +82,7 @@ fn check_top_keys(alloc: Global, members: &Map<String, Value>) -> Result<(), Fai
         "hosts",
         "tagOwners",
         "acls",
+        "grants",
         "autoApprovers",
         "tests",
         "ssh",
@@ -87,7 +93,7 @@ fn check_top_keys(alloc: Global, members: &Map<String, Value>) -> Result<(), Fai
         "OneCGNATRoute",
         "disableIPv4",
     ];
-    let unsupported = ["grants", "ipsets", "postures", "defaultSrcPosture"];
+    let unsupported = ["ipsets", "postures", "defaultSrcPosture"];
     check_keys(alloc, "", &known, &unsupported, members)
 }
 
@@ -121,7 +127,8 @@ fn read_value(alloc: Global, value: &Value) -> Result<Policy, Failure<PolicyFaul
     };
     check_top_keys(alloc, members)?;
     let names = read_names(alloc, members)?;
-    let rules = read_rules(alloc, &names, section("acls", members))?;
+    let acls = section("acls", members);
+    let rules = read_rules(alloc, &names, acls, section("grants", members))?;
     let approvers = approvers_or_none(alloc, &names, section("autoApprovers", members))?;
     let tests = read_tests(alloc, &names, section("tests", members))?;
     Ok(policy_from(names, rules, approvers, tests))
@@ -162,8 +169,8 @@ fn json_of(alloc: Global, text: &[u8]) -> Result<Value, Failure<PolicyFault>>
 
 /// The policy that a text states: a HuJSON text in UTF-8 of at most 256 KiB, in the form of a Tailscale
 /// policy file. The fault is the first in this order: the text's length, its syntax, the keys of the
-/// top object, and then the sections `groups`, `hosts`, `tagOwners`, `acls`, `autoApprovers` and
-/// `tests`.
+/// top object, and then the sections `groups`, `hosts`, `tagOwners`, `acls`, `grants`,
+/// `autoApprovers` and `tests`.
 #[tactic(auto, unfolding(crate::specs::Document::policy_of_text))]
 pub fn read_policy(alloc: Global, text: &[u8]) -> Result<Policy, Failure<PolicyFault>>
     ensures value { Gives (λ x. x) result (policy_of_text text.now) }

@@ -5,6 +5,7 @@
 mod acls;
 mod approvers;
 mod document;
+mod grants;
 mod groups;
 mod hosts;
 mod keys;
@@ -18,5 +19,8 @@ mod testing;
 mod walk;
 
 pub use document::read_policy;
-pub use laws::{first_faults_count, policies_are_sound};
+pub use laws::{
+    first_faults_count, first_faulty_grants_count, policies_are_sound,
+    texts_without_grants_read_as_before,
+};
 pub use limits::{ENTRY_LIMIT, LIST_LIMIT, RULE_LIMIT};

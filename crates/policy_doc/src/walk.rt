@@ -29,7 +29,8 @@ pub(crate) trait ReadElement {
         ensures value { Gives (λ x. x) result (reads names.now place.now (view value.now)) };
 }
 
-fn each<E: ReadElement>(
+/// What each element of a list is read as.
+pub(crate) fn each<E: ReadElement>(
     alloc: Global,
     names: &Names,
     place: &str,
