@@ -11,10 +11,10 @@ loop-left-preserved g c = λ words word_faults outcome new t rest.
 
 pub returns-in_err-seen : goal.returns-in_err-seen
 returns-in_err-seen g c =
-    let same : c.from_residual-in_err-seen.result ≡ Err c.in_err-seen.field-0.0 = search rules in
+    let same : c.from_residual.result ≡ Err c.in_err-seen.field-0.0 = search rules in
     record {
-      further = λ words word_faults. c.loop-left.invariant words word_faults c.from_residual-in_err-seen.result _ _
-          (further_left _ c.from_residual-in_err-seen.result c.in_err-seen.field-0.0 c.args.machine.now c.args.handle.now c.loop-left.left _ _ _ _ _ words word_faults _ same
+      further = λ words word_faults. c.loop-left.invariant words word_faults c.from_residual.result _ _
+          (further_left _ c.from_residual.result c.in_err-seen.field-0.0 c.args.machine.now c.args.handle.now c.loop-left.left _ _ _ _ _ words word_faults _ same
           (c.in_err-seen.ensures.sent));
     }
 
