@@ -19,3 +19,4 @@ mod SpentKeys
 mod Steps
 mod Taken
 mod UsedKeys
+mod Workers

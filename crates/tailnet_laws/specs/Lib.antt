@@ -6,3 +6,4 @@ pub mod KeyUse
 pub mod Online
 pub mod Sessions
 pub mod Shown
+pub mod Workers

@@ -16,4 +16,4 @@ pub use keys::{registrations_take_keys, single_use_keys_admit_once, used_keys_ar
 pub use maps::{
     expired_machines_are_in_no_map, expired_machines_are_no_peers, expired_machines_get_no_map,
 };
-pub use polls::machines_are_online_by_polls;
+pub use polls::{machines_are_online_by_polls, waiting_polls_leave_a_worker};
