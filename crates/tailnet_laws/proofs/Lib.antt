@@ -8,6 +8,7 @@ mod Handles
 mod Hiding
 mod LiveMachines
 mod MachinePuts
+mod Numbers
 mod Online
 mod OperatorPuts
 mod PolicyPuts

@@ -7,6 +7,7 @@ mod folds;
 mod ids;
 mod keys;
 mod maps;
+mod numbering;
 mod polls;
 
 pub use entrances::machines_enter_by_key_or_admission;
@@ -16,4 +17,5 @@ pub use keys::{registrations_take_keys, single_use_keys_admit_once, used_keys_ar
 pub use maps::{
     expired_machines_are_in_no_map, expired_machines_are_no_peers, expired_machines_get_no_map,
 };
+pub use numbering::numbers_run;
 pub use polls::{machines_are_online_by_polls, waiting_polls_leave_a_worker};
