@@ -12,6 +12,7 @@ mod Numbers
 mod Online
 mod OperatorPuts
 mod PolicyPuts
+mod Presence
 mod Puts
 mod Replied
 pub mod SessionRules

@@ -39,10 +39,10 @@ use Rattle.tailnet_laws.proofs.Puts.{IsKeyPut, IsKeyUsed, Puts, used_is_put}
 outcome_grown : (s : State) (keys : AuthKey → Type 0) (enters : MachineKey → Type 0) (r : Result (Decision Answer) Refusal)
     → Every (Puts s.rows keys enters) r → Grown s.rows keys enters (outcome s r).state.rows
 outcome_grown s keys enters (Err e) h = same_grown s.rows keys enters
-outcome_grown s keys enters (Ok d) h = rows_grown s.rows keys enters d.change (h d refl)
+outcome_grown s keys enters (Ok d) h = rows_grown s.rows keys enters d.change (λ c is. (h d refl c is).0)
 
 -- the answer doesn't matter
-answered_puts : {A B : Type 0} (f : A → B) (t : Rows) (keys : AuthKey → Type 0) (enters : MachineKey → Type 0) (r : Result (Decision A) Refusal)
+pub answered_puts : {A B : Type 0} (f : A → B) (t : Rows) (keys : AuthKey → Type 0) (enters : MachineKey → Type 0) (r : Result (Decision A) Refusal)
     → Every (Puts t keys enters) r → Every (Puts t keys enters) (r >>= λ d. Ok (answered f d))
 answered_puts f t keys enters r h =
     every_bind (Puts t keys enters) r (λ d. Ok (answered f d)) (λ d is. every_ok (Puts t keys enters) (answered f d) (h d is))

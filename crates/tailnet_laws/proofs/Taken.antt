@@ -76,7 +76,7 @@ pub registration_takes : (s : State) (mk : MachineKey) (form : Register) (words 
     → decision s (ask.Register mk form) words ≡ Ok d → HasMachine (rows_after s.rows d.change) mk → PutsByText s d mk form.auth
 registration_takes s mk form words d none is row =
     let enters = IsKeyed (ask.Register mk form) in
-    let grown = rows_grown s.rows (IsKeyUsed s.rows) enters d.change (machine_puts s (ask.Register mk form) words d is) in
+    let grown = rows_grown s.rows (IsKeyUsed s.rows) enters d.change (λ c e. (machine_puts s (ask.Register mk form) words d is c e).0) in
     let keyed = grown_enters s.rows (IsKeyUsed s.rows) enters (rows_after s.rows d.change) mk grown none row in
     let held = none_held s.rows mk (machine_of s.rows.machines mk.0) refl none in
     let steps : register_as s mk form words None ≡ Ok d = sym (ap (λ (m : Option Machine). register_as s mk form words m) held) ∙ is in

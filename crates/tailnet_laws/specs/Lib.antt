@@ -5,6 +5,7 @@ pub mod Gone
 pub mod KeyUse
 pub mod Numbers
 pub mod Online
+pub mod Presence
 pub mod Sessions
 pub mod Shown
 pub mod Workers

@@ -1,12 +1,15 @@
 //! Which machines are online, and how many polls may wait.
-ghost use Rattle.std.specs.Prelude.{◌≤◌, ◌-◌, ℕ, ℤ, List};
+ghost use Rattle.std.specs.Prelude.{◌≤◌, ◌-◌, ℕ, ℤ, List, Contains};
 ghost use Rattle.settings.specs.declared.fields.SettingsFields.{SettingsFields};
+ghost use Rattle.net_rows.specs.Sound.{AreSound};
+ghost use Rattle.net_rows.specs.declared.machine.Machine.{Machine};
 ghost use Rattle.net_rows.specs.declared.rows.Rows.{Rows};
 ghost use Rattle.desk_state.specs.State.{State};
 ghost use Rattle.tailnet_desk.specs.History.{Legal, replay};
 ghost use Rattle.tailnet_desk.specs.Opening.{opening};
 ghost use Rattle.tailnet_desk.specs.declared.entry.Entry.{Entry};
 ghost use Rattle.tailnet_laws.specs.Online.{AreOnlineByPolls};
+ghost use Rattle.tailnet_laws.specs.Presence.{ArePresent, HasOnePresence};
 ghost use Rattle.tailnet_laws.specs.Workers.{LeaveWorker, waiting_polls};
 
 /// In each legal history from an opening state a machine is online exactly while a poll holds its
@@ -28,4 +31,16 @@ pub fn waiting_polls_leave_a_worker()
         → waiting_polls (replay (opening settings rows moment) es) ≤ settings.workers - 1 }
     ensures stays { (s : State) (count : ℕ) (es : List Entry) → Legal s count es
         → LeaveWorker s → LeaveWorker (replay s es) }
+{}
+
+/// In each state of a legal history from an opening state each machine's row has exactly one presence. It
+/// stays so from any state where presences rise by id and each row has one.
+pub fn machines_have_presence()
+    ensures opened { (settings : SettingsFields) (rows : Rows) (moment : ℤ) (count : ℕ)
+        (es : List Entry) (m : Machine) → AreSound rows
+        → Legal (opening settings rows moment) count es
+        → Contains (replay (opening settings rows moment) es).rows.machines m
+        → HasOnePresence (replay (opening settings rows moment) es) m }
+    ensures stays { (s : State) (count : ℕ) (es : List Entry) → Legal s count es
+        → ArePresent s → ArePresent (replay s es) }
 {}
