@@ -7,6 +7,7 @@ mod Growth
 mod Handles
 mod Hiding
 mod LiveMachines
+mod LiveRows
 mod MachinePuts
 mod Numbers
 mod Online

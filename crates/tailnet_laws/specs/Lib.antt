@@ -3,6 +3,7 @@ pub mod Entrances
 pub mod Followed
 pub mod Gone
 pub mod KeyUse
+pub mod LiveRows
 pub mod Numbers
 pub mod Online
 pub mod Presence

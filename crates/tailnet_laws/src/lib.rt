@@ -8,6 +8,7 @@ mod ids;
 mod keys;
 mod maps;
 mod numbering;
+mod peers;
 mod polls;
 
 pub use entrances::machines_enter_by_key_or_admission;
@@ -18,6 +19,7 @@ pub use maps::{
     expired_machines_are_in_no_map, expired_machines_are_no_peers, expired_machines_get_no_map,
 };
 pub use numbering::numbers_run;
+pub use peers::maps_show_live_machines;
 pub use polls::{
     machines_are_online_by_polls, machines_have_presence, waiting_polls_leave_a_worker,
 };

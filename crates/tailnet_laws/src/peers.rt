@@ -1,0 +1,29 @@
+//! Which machines a map shows, and with which prefixes.
+ghost use Rattle.std.specs.Prelude.{◌≡◌, ℕ, List, Option, Some, Contains};
+ghost use Rattle.tail_base.specs.declared.key.MachineKey.{MachineKey};
+ghost use Rattle.net_rows.specs.Sound.{AreSound};
+ghost use Rattle.net_rows.specs.declared.machine.Machine.{Machine};
+ghost use Rattle.tailcfg.specs.declared.node_row.NodeRow.{NodeRow};
+ghost use Rattle.fresh_maps.specs.Responses.{first_response};
+ghost use Rattle.fresh_maps.specs.declared.view.View.{View};
+ghost use Rattle.desk_state.specs.State.{State};
+ghost use Rattle.machine_asks.specs.Drain.{drain};
+ghost use Rattle.machine_asks.specs.OneMap.{IsLiveRow, fresh_for};
+ghost use Rattle.machine_asks.specs.declared.draining.DrainDecision.{DrainDecision};
+ghost use Rattle.tailnet_laws.specs.LiveRows.{ShowsLive};
+
+/// Each peer that a map computed afresh shows is a live machine of the tables, and packets go through it
+/// to its own addresses, its approved routes and, if it is an exit node, the exit routes alone. So it is
+/// with the machine's own node, with the first response of a session, and with the map that a poll's
+/// drain brings its client to.
+pub fn maps_show_live_machines()
+    ensures peers { (s : State) (m : Machine) (peer : NodeRow) → AreSound s.rows
+        → Contains (fresh_for s m).peers peer → ShowsLive s peer }
+    ensures own { (s : State) (m : Machine) → IsLiveRow s m → ShowsLive s (fresh_for s m).node }
+    ensures first { (s : State) (m : Machine) (handle : Option (List ℕ)) (seq : Option ℕ)
+        (peer : NodeRow) → AreSound s.rows
+        → Contains (first_response (fresh_for s m) handle seq).peers peer → ShowsLive s peer }
+    ensures drains { (s : State) (mk : MachineKey) (handle : List ℕ) (d : DrainDecision)
+        (map : View) (peer : NodeRow) → AreSound s.rows → drain s mk handle ≡ Some d
+        → d.session.sent ≡ Some map → Contains map.peers peer → ShowsLive s peer }
+{}
