@@ -1,4 +1,5 @@
 mod Attaches
+mod ClosedRules
 mod Entered
 mod Every
 pub mod Following

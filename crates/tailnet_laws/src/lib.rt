@@ -19,7 +19,7 @@ pub use maps::{
     expired_machines_are_in_no_map, expired_machines_are_no_peers, expired_machines_get_no_map,
 };
 pub use numbering::numbers_run;
-pub use peers::maps_show_live_machines;
+pub use peers::{closed_policies_show_nobody, maps_show_live_machines};
 pub use polls::{
     machines_are_online_by_polls, machines_have_presence, waiting_polls_leave_a_worker,
 };

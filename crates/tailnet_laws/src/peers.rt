@@ -1,9 +1,11 @@
 //! Which machines a map shows, and with which prefixes.
-ghost use Rattle.std.specs.Prelude.{◌≡◌, ℕ, List, Option, Some, Contains};
+ghost use Rattle.std.specs.Prelude.{◌≡◌, ℕ, [], List, Option, Some, false, Contains};
 ghost use Rattle.tail_base.specs.declared.key.MachineKey.{MachineKey};
 ghost use Rattle.net_rows.specs.Sound.{AreSound};
 ghost use Rattle.net_rows.specs.declared.machine.Machine.{Machine};
+ghost use Rattle.policy_rows.specs.declared.policy.Policy.{Policy};
 ghost use Rattle.tailcfg.specs.declared.node_row.NodeRow.{NodeRow};
+ghost use Rattle.peer_view.specs.Seen.{Node, Seen, sees};
 ghost use Rattle.fresh_maps.specs.Responses.{first_response};
 ghost use Rattle.fresh_maps.specs.declared.view.View.{View};
 ghost use Rattle.desk_state.specs.State.{State};
@@ -26,4 +28,15 @@ pub fn maps_show_live_machines()
     ensures drains { (s : State) (mk : MachineKey) (handle : List ℕ) (d : DrainDecision)
         (map : View) (peer : NodeRow) → AreSound s.rows → drain s mk handle ≡ Some d
         → d.session.sent ≡ Some map → Contains map.peers peer → ShowsLive s peer }
+{}
+
+/// Under a policy that has rules, but none of them, no machine sees another one: no map that is computed
+/// afresh has a peer, and its filter lets nothing through.
+pub fn closed_policies_show_nobody()
+    ensures sight { (w : Seen) (policy : Policy) (m p : Node) → w.policy ≡ Some policy
+        → policy.rules ≡ Some [] → sees w m p ≡ false }
+    ensures peers { (s : State) (policy : Policy) (m : Machine) → s.policy ≡ Some policy
+        → policy.rules ≡ Some [] → (fresh_for s m).peers ≡ [] }
+    ensures filter { (s : State) (policy : Policy) (m : Machine) → s.policy ≡ Some policy
+        → policy.rules ≡ Some [] → (fresh_for s m).filter ≡ [] }
 {}
