@@ -1,5 +1,6 @@
 mod Attaches
 mod ClosedRules
+mod Differences
 mod Entered
 mod Every
 pub mod Following

@@ -1,3 +1,4 @@
+pub mod Differences
 pub mod Entering
 pub mod Entrances
 pub mod Followed

@@ -2,6 +2,7 @@
 //! anything: each states a law.
 #![tactic(auto)]
 
+mod deltas;
 mod entrances;
 mod folds;
 mod ids;
@@ -11,6 +12,7 @@ mod numbering;
 mod peers;
 mod polls;
 
+pub use deltas::deltas_name_only_what_differs;
 pub use entrances::machines_enter_by_key_or_admission;
 pub use folds::{clients_fold_fresh_maps, handles_are_given_once, legal_histories_keep_sessions};
 pub use ids::gone_ids_stay_gone;
