@@ -2,6 +2,7 @@ mod Attaches
 mod ClosedRules
 mod Differences
 mod Entered
+mod EntranceRows
 mod Every
 pub mod Following
 mod GoneIds

@@ -1,5 +1,6 @@
 pub mod Differences
 pub mod Entering
+pub mod EntranceRows
 pub mod Entrances
 pub mod Followed
 pub mod Gone
