@@ -12,6 +12,7 @@ mod Hiding
 mod LiveMachines
 mod LiveRows
 mod MachinePuts
+mod MapAnswers
 mod Numbers
 mod Online
 mod OperatorPuts

@@ -21,10 +21,16 @@ use Rattle.fresh_maps.specs.declared.view.View.{View}
 use Rattle.desk_state.specs.State.{State, is_live, live_ids}
 use Rattle.machine_asks.specs.Drain.{drain}
 use Rattle.machine_asks.specs.OneMap.{IsLiveRow, fresh_for, node_in, world_of}
+use Rattle.machine_asks.specs.declared.answer.MachineAnswer.TheVariants.{Map}
 use Rattle.machine_asks.specs.declared.draining.DrainDecision.{DrainDecision}
 use Rattle.machine_asks.proofs.Drains.{sent_fresh}
+use Rattle.tailnet_desk.specs.Step.{step}
+use Rattle.tailnet_desk.specs.declared.entry.Event.{Event}
+use Rattle.tailnet_desk.specs.declared.reply.Answer.TheVariants as answer
+use Rattle.tailnet_desk.specs.declared.reply.Reply.TheVariants.{Done}
 use Rattle.tailnet_laws.specs.LiveRows.{IsServedPrefix, ShowsLive}
 use Rattle.tailnet_laws.proofs.LiveMachines.{listed_live, one_row}
+use Rattle.tailnet_laws.proofs.Replied.{reply_afresh}
 
 -- exit routes behind a test are there where it passes
 exits_found : (b : Bool) (prefix : Block) → Contains (exits_if b) prefix → (b ≡ true) × Contains exit_routes prefix
@@ -92,3 +98,10 @@ drained_shown s mk handle d map row sound is sent inside =
     let both : Some map ≡ Some (fresh_for s from.0) = sym sent ∙ from.2 in
     let same : map ≡ fresh_for s from.0 = cc in
     peer_shown s from.0 row sound (subst (λ (v : View). Contains v.peers row) same inside)
+
+-- what a step replies
+pub replied_shown : (s : State) (e : Event) (map : View) (row : NodeRow) → AreSound (step s e).state.rows → (step s e).reply ≡ Done (answer.Machine (Map map))
+    → Contains map.peers row → ShowsLive (step s e).state row
+replied_shown s e map row sound is inside =
+    let from = reply_afresh s e map is in
+    peer_shown (step s e).state from.0 row sound (subst (λ (v : View). Contains v.peers row) from.1 inside)

@@ -10,7 +10,7 @@ ghost use Rattle.tailnet_laws.specs.Differences.{IsUnnamed, NamesDifferences};
 
 /// Each row that a delta puts, patches or takes out differs between the two maps, and so does each other
 /// part that it gives; a patch gives of its row the fields alone that differ. A peer that is equal in both
-/// maps, or in none, isn't named.
+/// maps, or in neither, isn't named.
 pub fn deltas_name_only_what_differs()
     ensures named { (old new : View) (seq : ℕ) (r : Response) → Contains (delta old new seq) r
         → NamesDifferences old new r }

@@ -11,13 +11,18 @@ ghost use Rattle.fresh_maps.specs.declared.view.View.{View};
 ghost use Rattle.desk_state.specs.State.{State};
 ghost use Rattle.machine_asks.specs.Drain.{drain};
 ghost use Rattle.machine_asks.specs.OneMap.{IsLiveRow, fresh_for};
+ghost use Rattle.machine_asks.specs.declared.answer.MachineAnswer.TheVariants.{Map};
 ghost use Rattle.machine_asks.specs.declared.draining.DrainDecision.{DrainDecision};
+ghost use Rattle.tailnet_desk.specs.Step.{step};
+ghost use Rattle.tailnet_desk.specs.declared.entry.Event.{Event};
+ghost use Rattle.tailnet_desk.specs.declared.reply.Answer.TheVariants as answer;
+ghost use Rattle.tailnet_desk.specs.declared.reply.Reply.TheVariants.{Done};
 ghost use Rattle.tailnet_laws.specs.LiveRows.{ShowsLive};
 
 /// Each peer that a map computed afresh shows is a live machine of the tables, and packets go through it
 /// to its own addresses, its approved routes and, if it is an exit node, the exit routes alone. So it is
-/// with the machine's own node, with the first response of a session, and with the map that a poll's
-/// drain brings its client to.
+/// with the machine's own node, with the first response of a session, with the map that a poll's drain
+/// brings its client to, and with a map that a step replies, which is computed from the state after it.
 pub fn maps_show_live_machines()
     ensures peers { (s : State) (m : Machine) (peer : NodeRow) → AreSound s.rows
         → Contains (fresh_for s m).peers peer → ShowsLive s peer }
@@ -28,6 +33,10 @@ pub fn maps_show_live_machines()
     ensures drains { (s : State) (mk : MachineKey) (handle : List ℕ) (d : DrainDecision)
         (map : View) (peer : NodeRow) → AreSound s.rows → drain s mk handle ≡ Some d
         → d.session.sent ≡ Some map → Contains map.peers peer → ShowsLive s peer }
+    ensures replies { (s : State) (e : Event) (map : View) (peer : NodeRow)
+        → AreSound (step s e).state.rows
+        → (step s e).reply ≡ Done (answer.Machine (Map map)) → Contains map.peers peer
+        → ShowsLive (step s e).state peer }
 {}
 
 /// Under a policy that has rules, but none of them, no machine sees another one: no map that is computed
