@@ -52,7 +52,7 @@ machine_grown s x words =
     outcome_grown s (IsKeyUsed s.rows) (IsKeyed x) (decision s (ask.Machine x) words)
     (answered_puts answer.Machine s.rows (IsKeyUsed s.rows) (IsKeyed x) (machine.decision s x words) (machine_puts s x words))
 
-ask_grown : (s : State) (x : Ask) (words : Option (List ℕ)) → Grown s.rows (IsKeyPut s.rows) (LetsIn s x) (outcome s (decision s x words)).state.rows
+pub ask_grown : (s : State) (x : Ask) (words : Option (List ℕ)) → Grown s.rows (IsKeyPut s.rows) (LetsIn s x) (outcome s (decision s x words)).state.rows
 ask_grown s (ask.Seed text) words =
     outcome_grown s (IsKeyPut s.rows) (λ _. ⊥) (decision s (ask.Seed text) words)
     (answered_puts (λ _. answer.Seeded) s.rows (IsKeyPut s.rows) (λ _. ⊥) (seed s text) (seed_puts s text))

@@ -1,10 +1,19 @@
 -- Which rows machines enter with.
-use Rattle.std.specs.Prelude.{◌≡◌, ◌++◌, ◌∷◌, ℤ, List, Ok, Contains}
+use Rattle.std.specs.Prelude.{◌≡◌, ◌++◌, ◌∷◌, ℕ, List, Ok, Contains}
+use Rattle.std.specs.Cmp.Lexicographic.{slice_cmp}
+use Rattle.std.specs.Ordering.{nat_cmp}
+use Rattle.tail_base.specs.Sorted.{sorted_once}
 use Rattle.tail_base.specs.declared.key.MachineKey.{MachineKey}
 use Rattle.net_rows.specs.declared.key.AuthKey.{AuthKey}
 use Rattle.net_rows.specs.declared.machine.Machine.{Machine}
+use Rattle.net_rows.specs.declared.pending.Pending.{Pending}
+use Rattle.net_rows.specs.declared.user.User.{User}
 use Rattle.tailcfg.specs.declared.register.Register.{Register}
 use Rattle.desk_state.specs.State.{State, at_moment}
+use Rattle.desk_state.specs.Users.{user_named}
+use Rattle.admin_asks.specs.Admit.{timely_entry}
+use Rattle.admin_asks.specs.declared.operator_ask.OperatorAsk.{OperatorAsk}
+use Rattle.admin_asks.specs.declared.operator_ask.OperatorAsk.TheVariants as operator
 use Rattle.machine_asks.specs.ByKey.{all_tags, usable_key}
 use Rattle.machine_asks.specs.declared.ask.MachineAsk.{MachineAsk}
 use Rattle.machine_asks.specs.declared.ask.MachineAsk.TheVariants as machine
@@ -14,7 +23,6 @@ use Rattle.tailnet_desk.specs.declared.ask.Ask.TheVariants as ask
 use Rattle.tailnet_desk.specs.declared.entry.Entry.{Entry}
 use Rattle.tailnet_desk.specs.declared.entry.Event.{Event}
 use Rattle.tailnet_desk.specs.declared.entry.Event.TheVariants as event
-use Rattle.tailnet_laws.specs.Entering.{IsAdmission}
 use Rattle.tailnet_laws.specs.Entrances.{IsDone}
 
 -- The registration hands in a pre-auth key that may be used, and the row is that key's user's, with the key's tags and
@@ -25,21 +33,52 @@ pub record IsOfUsableKey (s : State) (form : Register) (m : Machine) : Type 0 wh
   pub user : m.user ≡ key.user
   pub tags : m.tags ≡ all_tags key form
 
+-- The machine waits under an entry of that text, and the row is the user's of that login, with the tags that the machine
+-- asked for.
+pub record IsOfEntry (s : State) (text login : List ℕ) (m : Machine) : Type 0 where
+  pub entry : Pending
+  pub user : User
+  pub timely : timely_entry s text ≡ Ok entry
+  pub named : user_named s.rows login ≡ Ok user
+  pub whose : entry.machine ≡ m.machine
+  pub owner : m.user ≡ user.id
+  pub tags : m.tags ≡ sorted_once (slice_cmp nat_cmp) entry.tags
+
 -- the machine registers, and its row is by a key
 abbrev pub RegistersWith : State → MachineAsk → Machine → Type 0
 RegistersWith s (machine.Register key form) m = (key ≡ m.machine) × IsOfUsableKey s form m
 RegistersWith s (machine.Update key node told) m = ⊥
 RegistersWith s (machine.OneMap key node told) m = ⊥
 
--- it does, or an operator admits it
-abbrev pub LetsInWith : State → ℤ → Ask → Machine → Type 0
-LetsInWith s moment (ask.Seed text) m = ⊥
-LetsInWith s moment (ask.Machine x) m = RegistersWith (at_moment s moment) x m
-LetsInWith s moment (ask.Operator x) m = IsAdmission s x m.machine
-LetsInWith s moment (ask.Policy x) m = ⊥
+-- an operator admits the machine, and its row is by its entry
+abbrev pub AdmitsWith : State → OperatorAsk → Machine → Type 0
+AdmitsWith s (operator.Admit text login) m = IsOfEntry s text login m
+AdmitsWith s (operator.AddUser name) m = ⊥
+AdmitsWith s operator.Users m = ⊥
+AdmitsWith s (operator.DropUser login) m = ⊥
+AdmitsWith s (operator.AddKey form) m = ⊥
+AdmitsWith s operator.Keys m = ⊥
+AdmitsWith s (operator.ExpireKey id) m = ⊥
+AdmitsWith s operator.Nodes m = ⊥
+AdmitsWith s operator.Waiting m = ⊥
+AdmitsWith s (operator.ExpireNode id expiry) m = ⊥
+AdmitsWith s (operator.Rename id name) m = ⊥
+AdmitsWith s (operator.SetTags id tags) m = ⊥
+AdmitsWith s (operator.SetRoutes id routes) m = ⊥
+AdmitsWith s (operator.DropNode id) m = ⊥
+AdmitsWith s operator.Extras m = ⊥
+AdmitsWith s (operator.SetExtras given) m = ⊥
+AdmitsWith s operator.Sweep m = ⊥
+
+-- one or the other
+abbrev pub LetsInWith : State → Ask → Machine → Type 0
+LetsInWith s (ask.Seed text) m = ⊥
+LetsInWith s (ask.Machine x) m = RegistersWith s x m
+LetsInWith s (ask.Operator x) m = AdmitsWith s x m
+LetsInWith s (ask.Policy x) m = ⊥
 
 abbrev pub EntersWith : State → Event → Machine → Type 0
-EntersWith s (event.Ask x moment words) m = LetsInWith s moment x m
+EntersWith s (event.Ask x moment words) m = LetsInWith (at_moment s moment) x m
 EntersWith s (event.Attach key node handle seq moment words) m = ⊥
 EntersWith s (event.Drain key handle moment) m = ⊥
 EntersWith s (event.Detach key handle moment) m = ⊥

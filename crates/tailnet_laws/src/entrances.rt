@@ -20,9 +20,10 @@ pub fn machines_enter_by_key_or_admission()
         → HasMachine (replay s es).rows mk → IsEntered s es mk }
 {}
 
-/// And then its row is by a pre-auth key that may be used at that moment, of that key's user, with the
-/// key's tags and those that the machine asked for; unless an operator admits the machine.
-pub fn new_machines_have_their_keys_user_and_tags()
+/// And then it enters by a pre-auth key that may be used at that moment, with a row of that key's user,
+/// with the key's tags and those that it asked for; or by an entry under which it waits and whose time
+/// hasn't passed, with a row of the user whom the operator names, with the tags that it asked for.
+pub fn machines_enter_for_a_user()
     ensures step { (s : State) (e : Event) (m : Machine) → (HasMachine s.rows m.machine → ⊥)
         → Contains (step s e).state.rows.machines m → EntersWith s e m }
     ensures history { (s : State) (count : ℕ) (es : List Entry) (mk : MachineKey)

@@ -13,9 +13,7 @@ mod peers;
 mod polls;
 
 pub use deltas::deltas_name_only_what_differs;
-pub use entrances::{
-    machines_enter_by_key_or_admission, new_machines_have_their_keys_user_and_tags,
-};
+pub use entrances::{machines_enter_by_key_or_admission, machines_enter_for_a_user};
 pub use folds::{clients_fold_fresh_maps, handles_are_given_once, legal_histories_keep_sessions};
 pub use ids::gone_ids_stay_gone;
 pub use keys::{registrations_take_keys, single_use_keys_admit_once, used_keys_are_refused};
