@@ -104,7 +104,7 @@ entry_row t text login (Ok d) m none is inside =
     let r = machine_row entry.0.machine (entrant_of_entry t entry.0 user.0.id) place.0 in
     let made = admission t entry.0 r place.0.next in
     let same : made ≡ d = cc (place.2) in
-    let put = subst (λ (x : Decision OperatorAnswer). Contains (rows_after t.rows x.change).machines m) (sym same) inside in
+    let put = subst (λ (x : Decision OperatorAnswer). Contains (rows_after t.rows x.change).machines m) {y = made} (sym same) inside in
     let row : r ≡ m = put_is t.rows r m place.0.next None (Some entry.0) none put in
     record {
       entry = entry.0;

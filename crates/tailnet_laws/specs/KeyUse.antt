@@ -26,8 +26,8 @@ pub record PutsByKey (s : State) (d : Decision MachineAnswer) (key : AuthKey) : 
   pub pending : Option Pending
   pub change : d.change ≡ Some (row_change s.rows machine next (Some key) pending)
 
--- The decision puts the row of the machine of this key by the pre-auth key whose text it hands in, which may be used.
--- The row is that key's user's, with the key's tags and those that the machine asks for.
+-- The decision puts the row of the machine of this key by the pre-auth key that the registration hands in, which may be
+-- used. The row is that key's user's, with the key's tags and those that were asked for.
 pub record PutsByText (s : State) (d : Decision MachineAnswer) (mk : MachineKey) (form : Register) : Type 0 where
   pub key : AuthKey
   pub usable : usable_key s form.auth ≡ Ok key
