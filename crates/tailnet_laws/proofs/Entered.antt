@@ -50,7 +50,7 @@ refused_rows s (Ok d) refusal is = absurd (cc)
 poll_enters : (s : State) (e : Event) (mk : MachineKey) → IsPollEvent e → (HasMachine s.rows mk → ⊥) → HasMachine (step s e).state.rows mk → ⊥
 poll_enters s e mk poll none row = none (subst (λ (t : Rows). HasMachine t mk) (poll_keeps s e poll).rows row)
 
-reply_enters : (s : State) (e : Event) (before after : ℕ) (reply : Reply) (mk : MachineKey) → IsReply s e before after reply
+pub reply_enters : (s : State) (e : Event) (before after : ℕ) (reply : Reply) (mk : MachineKey) → IsReply s e before after reply
     → (HasMachine s.rows mk → ⊥) → HasMachine (state_after s e reply).rows mk → IsEntrance s e mk × IsDone reply
 reply_enters s e before after (Done a) mk is none row = (step_enters s e mk none row, tt)
 reply_enters s e before after (Attached handle seq resumed may_wait) mk is none row = (step_enters s e mk none row, tt)
@@ -69,7 +69,7 @@ reply_enters s (event.Detach key handle moment) before after (Refused r) mk is n
 reply_enters s e before after (Lost loss) mk is none row = absurd (none row)
 
 -- a search by the key tells whether there is a row
-no_machine : (t : Rows) (mk : MachineKey) → machine_of t.machines mk.0 ≡ None → HasMachine t mk → ⊥
+pub no_machine : (t : Rows) (mk : MachineKey) → machine_of t.machines mk.0 ≡ None → HasMachine t mk → ⊥
 no_machine t mk found (m, inside, is) =
     let fails : bytes_eq m.machine.0 mk.0 ≡ false = find_none (λ (r : Machine). bytes_eq r.machine.0 mk.0) t.machines found m inside in
     let passes : bytes_eq m.machine.0 mk.0 ≡ true = bytes_eq-from m.machine.0 mk.0 (ap (λ (k : MachineKey). k.0) is) in

@@ -69,7 +69,7 @@ kept_sound None = open_sound
 kept_sound (Some text) = read_sound text (policy_of_text text) refl
 
 -- its rules are sound
-force_sound : (rows : Rows) (policy : Option Policy) → IsInForce rows policy → AreSoundRules (rules_of policy)
+pub force_sound : (rows : Rows) (policy : Option Policy) → IsInForce rows policy → AreSoundRules (rules_of policy)
 force_sound rows policy e = subst (λ (p : Option Policy). AreSoundRules (rules_of p)) (sym e) (kept_sound rows.policy)
 
 -- ---- fresh maps
@@ -108,13 +108,13 @@ attach_kept s (Ok d) maps either h = either_kept s d maps (either d refl) h
 detach_kept : (s : State) (o : Option ℕ) (maps : List ℕ → Option View) → AreKept s maps → AreKept (detach_turn s o).state maps
 detach_kept s None maps h = h
 detach_kept s (Some id) maps h = record {
-  sessions = record { rise = h.sessions.rise; given = h.sessions.given; apart = h.sessions.apart; order = h.sessions.order; domain = h.sessions.domain };
+  sessions = record { rise = h.sessions.rise; given = h.sessions.given; apart = h.sessions.apart; order = h.sessions.order; domain = h.sessions.domain; unsent = h.sessions.unsent };
   held = record { sent = h.held.sent; coming = h.held.coming };
 }
 
 moment_kept : (s : State) (m : ℤ) (maps : List ℕ → Option View) → AreKept s maps → AreKept (at_moment s m) maps
 moment_kept s m maps h = record {
-  sessions = record { rise = h.sessions.rise; given = h.sessions.given; apart = h.sessions.apart; order = h.sessions.order; domain = h.sessions.domain };
+  sessions = record { rise = h.sessions.rise; given = h.sessions.given; apart = h.sessions.apart; order = h.sessions.order; domain = h.sessions.domain; unsent = h.sessions.unsent };
   held = record { sent = h.held.sent; coming = h.held.coming };
 }
 
@@ -126,14 +126,14 @@ some_if true x y h = (refl, cc)
 some_if false x y h = absurd (cc)
 
 -- whose session is drained, and which
-record Drains (s : State) (mk : MachineKey) (handle : List ℕ) (d : DrainDecision) : Type 0 where
-  machine : Machine
-  session : Session
-  row : machine_of s.rows.machines mk.0 ≡ Some machine
-  live : IsLiveRow s machine
-  found : session_of s.sessions machine.id ≡ Some session
-  under : session.handle ≡ handle
-  is : session_drained s machine session ≡ d
+pub record Drains (s : State) (mk : MachineKey) (handle : List ℕ) (d : DrainDecision) : Type 0 where
+  pub machine : Machine
+  pub session : Session
+  pub row : machine_of s.rows.machines mk.0 ≡ Some machine
+  pub live : IsLiveRow s machine
+  pub found : session_of s.sessions machine.id ≡ Some session
+  pub under : session.handle ≡ handle
+  pub is : session_drained s machine session ≡ d
 
 live_if : (s : State) (o : Option Machine) (m : Machine) → if_live s o ≡ Some m → o ≡ Some m
 live_if s None m h = absurd (cc)
@@ -160,7 +160,7 @@ machine_drains : (s : State) (mk : MachineKey) (handle : List ℕ) (o : Option M
 machine_drains s mk handle None d is h = absurd (cc)
 machine_drains s mk handle (Some m) d is h = session_drains s mk handle m (session_of s.sessions m.id) d is refl h
 
-drains : (s : State) (mk : MachineKey) (handle : List ℕ) (d : DrainDecision) → drain s mk handle ≡ Some d → Drains s mk handle d
+pub drains : (s : State) (mk : MachineKey) (handle : List ℕ) (d : DrainDecision) → drain s mk handle ≡ Some d → Drains s mk handle d
 drains s mk handle d h = machine_drains s mk handle (if_live s (machine_of s.rows.machines mk.0)) d refl h
 
 -- after a drain that sends something its client has the map computed afresh
@@ -229,7 +229,7 @@ maps_after e reply maps handle = fold_all (maps handle) (sent_under handle e (fr
 after_kept : (s : State) (e : Event) (reply : Reply) (maps : List ℕ → Option View) → AreKept (step s e).state maps → AreKept s maps → AreKept (state_after s e reply) maps
 after_kept s e reply maps stepped h = after_any (λ (t : State). AreKept t maps) s e reply stepped (moment_kept s (moment_of e) maps h)
 
-event_followed : (s : State) (e : Event) (before after : ℕ) (reply : Reply) (maps : List ℕ → Option View) → damage s.rows ≡ None → AreSoundRules (rules_of s.policy) → AreKept s maps → IsReply s e before after reply
+pub event_followed : (s : State) (e : Event) (before after : ℕ) (reply : Reply) (maps : List ℕ → Option View) → damage s.rows ≡ None → AreSoundRules (rules_of s.policy) → AreKept s maps → IsReply s e before after reply
     → AreKept (state_after s e reply) (maps_after e reply maps) × IsFreshAt (state_after s e reply) e reply (maps_after e reply maps)
 event_followed s (event.Ask x m words) before after reply maps rows rules h is = (
   after_kept s (event.Ask x m words) reply maps (outcome_kept (at_moment s m) (decision (at_moment s m) x words) maps (moment_kept s m maps h)) h,
@@ -254,7 +254,7 @@ pub record AreRuled (s : State) : Type 0 where
   pub rows : damage s.rows ≡ None
   pub policy : IsInForce s.rows s.policy
 
-after_ruled : (s : State) (e : Event) (reply : Reply) → AreRuled s → IsShortEvent e → AreRuled (state_after s e reply)
+pub after_ruled : (s : State) (e : Event) (reply : Reply) → AreRuled s → IsShortEvent e → AreRuled (state_after s e reply)
 after_ruled s e reply r short = record {
   settings = subst AreSettings (sym (after_settings s e reply)) r.settings;
   rows = (after_better s e reply r.settings r.rows short).0;
@@ -283,6 +283,7 @@ opening_kept settings rows moment = record {
     apart = λ j k x y f g e. absurd (no_session x f);
     order = λ k x map f e. absurd (no_session x f);
     domain = λ k x map f e. absurd (no_session x f);
+    unsent = λ k x f e. absurd (no_session x f);
   };
   held = record { sent = λ k x f. absurd (no_session x f); coming = λ n words above small. refl };
 }

@@ -47,7 +47,7 @@ pending_put t (row.Extras xs) a h = inr h
 pending_put t (row.Policy text) a h = inr h
 
 -- a machine's row after one put
-machines_put : (t : Rows) (x : Row) (a : Machine) → Contains (put t x).machines a → (x ≡ row.Machine a) ⊎ Contains t.machines a
+pub machines_put : (t : Rows) (x : Row) (a : Machine) → Contains (put t x).machines a → (x ≡ row.Machine a) ⊎ Contains t.machines a
 machines_put t (row.User r) a h = inr h
 machines_put t (row.Key r) a h = inr h
 machines_put t (row.Pending r) a h = inr h

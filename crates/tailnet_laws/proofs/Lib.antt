@@ -1,5 +1,8 @@
 mod Attaches
+mod ClosedRules
+mod Differences
 mod Entered
+mod EntranceRows
 mod Every
 pub mod Following
 mod GoneIds
@@ -7,10 +10,14 @@ mod Growth
 mod Handles
 mod Hiding
 mod LiveMachines
+mod LiveRows
 mod MachinePuts
+mod MapAnswers
+mod Numbers
 mod Online
 mod OperatorPuts
 mod PolicyPuts
+mod Presence
 mod Puts
 mod Replied
 pub mod SessionRules
@@ -19,3 +26,4 @@ mod SpentKeys
 mod Steps
 mod Taken
 mod UsedKeys
+mod Workers

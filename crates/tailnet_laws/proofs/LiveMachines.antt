@@ -21,12 +21,15 @@ use Rattle.peer_view.specs.Seen.{Node, sees, visible}
 use Rattle.peer_view.specs.Shown.{shown}
 use Rattle.peer_view.proofs.ListLemmas.{filter_member, filtered_passes, mapped_member}
 use Rattle.fresh_maps.specs.Fresh.{fresh}
+use Rattle.desk_state.specs.Sessions.{session_of}
 use Rattle.desk_state.specs.State.{State, is_ahead, is_live, live_ids}
 use Rattle.desk_state.specs.declared.refusal.Refusal.TheVariants.{NotLive, UnknownMachine}
 use Rattle.desk_state.specs.declared.refusal.Refusal.{Refusal}
 use Rattle.desk_state.proofs.RowLemmas.{machine_found}
 use Rattle.machine_asks.specs.Asking.{asking}
+use Rattle.machine_asks.specs.Attach.{attach, attach_to}
 use Rattle.machine_asks.specs.Decision.{decision}
+use Rattle.machine_asks.specs.Drain.{drain}
 use Rattle.machine_asks.specs.OneMap.{map_decision, node_in, world_of}
 use Rattle.machine_asks.specs.Update.{told_row, updated}
 use Rattle.machine_asks.specs.declared.ask.MachineAsk.TheVariants as ask
@@ -46,7 +49,7 @@ shown_of {A} test f (x ∷ xs) y inside =
     ]
 
 -- a listed id is a live machine's
-listed_live : (s : State) (n : ℕ) → is_listed (live_ids s) n ≡ true → (a : Machine) × Contains s.rows.machines a × (is_live s a ≡ true) × (n ≡ a.id)
+pub listed_live : (s : State) (n : ℕ) → is_listed (live_ids s) n ≡ true → (a : Machine) × Contains s.rows.machines a × (is_live s a ≡ true) × (n ≡ a.id)
 listed_live s n h =
     let found = list_any_found (λ (other : ℕ). other == n) (live_ids s) h in
     let live = shown_of (is_live s) (λ (m : Machine). m.id) s.rows.machines found.0 found.1 in
@@ -127,3 +130,14 @@ map_refused s m told words sound h = ap (λ (r : Result Machine Refusal). r >>= 
 pub update_refused : (s : State) (m : Machine) (told : Update) (words : Option (List ℕ)) → AreSound s.rows → IsExpired s m
     → decision s (ask.Update m.machine m.node told) words ≡ Err NotLive
 update_refused s m told words sound h = ap (λ (r : Result Machine Refusal). r >>= (λ v. Ok (updated s v (told_row v told)))) (asking_refused s m sound h)
+
+pub attach_refused : (s : State) (m : Machine) (handle : List ℕ) (seq : ℕ) (words : Option (List ℕ)) → AreSound s.rows → IsExpired s m
+    → attach s m.machine m.node handle seq words ≡ Err NotLive
+attach_refused s m handle seq words sound h =
+    ap (λ (r : Result Machine Refusal). r >>= (λ v. attach_to s v.id handle seq words (session_of s.sessions v.id))) (asking_refused s m sound h)
+
+pub drain_ended : (s : State) (m : Machine) (handle : List ℕ) → AreSound s.rows → IsExpired s m → drain s m.machine handle ≡ None
+drain_ended s m handle sound h =
+    let found : machine_of s.rows.machines m.machine.0 ≡ Some m = own_row s.rows m _ sound h.row refl in
+    let past : is_live s m ≡ false = not_live s m h.past in
+    rw (found, past) refl

@@ -1,5 +1,5 @@
 -- Which rows machines' asks put, and a seed.
-use Rattle.std.proofs.Common.{◌≡◌, ◌<◌, ℕ, Bool, true, false, not, ◌&&◌, List, Option, Some, None, Ok, inl, inr, refl, nat_lt, length, if◌then◌else◌}
+use Rattle.std.proofs.Common.{◌≡◌, ◌<◌, ℕ, Bool, true, false, not, ◌&&◌, List, [], Option, Some, None, Ok, inl, inr, refl, sym, nat_lt, length, if◌then◌else◌}
 use Rattle.std.specs.Prelude.{Contains}
 use Rattle.std.specs.Str.{bytes_eq}
 use Rattle.std.proofs.lemmas.Bool.{ltb-true}
@@ -10,7 +10,7 @@ use Rattle.net_rows.specs.declared.change.Kind.TheVariants as kind
 use Rattle.net_rows.specs.declared.key.AuthKey.{AuthKey}
 use Rattle.net_rows.specs.declared.machine.Machine.{Machine}
 use Rattle.net_rows.specs.declared.pending.Pending.{Pending}
-use Rattle.net_rows.proofs.Members.{find_member}
+use Rattle.net_rows.proofs.Members.{find_member, first_member}
 use Rattle.tailcfg.specs.declared.register.Register.{Register}
 use Rattle.tailcfg.specs.declared.update.Update.{Update}
 use Rattle.desk_state.specs.Decisions.{changing, only}
@@ -66,23 +66,23 @@ module _ (s : State) (mk : MachineKey) (form : Register) (words : Option (List �
 
   -- a row of the tables is put again
   again : (d : Decision MachineAnswer) (m r : Machine) → d.change ≡ Some (row_replaced s.rows r) → Contains s.rows.machines m → r.id ≡ m.id → r.machine ≡ m.machine → Registers d
-  again d m r some inside id machine = puts_some s.rows (IsKeyUsed s.rows) Entering d (row_replaced s.rows r) some (inr (m, inside, id, machine), tt)
+  again d m r some inside id machine = puts_some s.rows (IsKeyUsed s.rows) Entering d (row_replaced s.rows r) some (inr (m, inside, id, machine), tt) (inl (m, inside, sym id), tt)
 
   logout_puts : (held : Option Machine) → machine_of s.rows.machines mk.0 ≡ held → Every Registers (logout s form.node held)
   logout_puts None found = every_err Registers UnknownMachine
   logout_puts (Some m) found =
       let here = machine_found s.rows.machines mk m found in
       every_if Registers (not (bytes_eq m.node.0 form.node.0)) _ _ (λ _. every_err Registers UnknownMachine) (λ _.
-      every_if Registers m.ephemeral _ _ (λ _. every_ok Registers (machine_removed s m) (puts_some s.rows (IsKeyUsed s.rows) Entering (machine_removed s m) _ refl tt)) (λ _.
+      every_if Registers m.ephemeral _ _ (λ _. every_ok Registers (machine_removed s m) (puts_some s.rows (IsKeyUsed s.rows) Entering (machine_removed s m) _ refl tt tt)) (λ _.
       every_if Registers (not (is_ahead s.now m.expiry)) _ _ (λ _. every_ok Registers (logout_again s m) (quiet (logout_again s m) refl))
       (λ _. every_ok Registers (logout_now s m) (again (logout_now s m) m (expired_row s m) refl here.0 refl refl))))
 
   -- the row and the key are put, unless nothing changes
   admitted_puts : (held : Option Machine) (r : Machine) (next : ℕ) (k : AuthKey) (b : Bool) (pending : Option Pending) (d : Decision MachineAnswer)
-      → d.change ≡ (if b then None else Some (row_change s.rows r next (Some k) pending)) → IsMachinePut s.rows Entering r → IsUsable s k → Registers d
-  admitted_puts held r next k true pending d is put usable = quiet d is
-  admitted_puts held r next k false pending d is put usable =
-      puts_some s.rows (IsKeyUsed s.rows) Entering d (row_change s.rows r next (Some k) pending) is (put, ((k, usable.0, usable.1, refl), tt))
+      → d.change ≡ (if b then None else Some (row_change s.rows r next (Some k) pending)) → IsMachinePut s.rows Entering r → IsUsable s k → Contains d.offline r.id → Registers d
+  admitted_puts held r next k true pending d is put usable off = quiet d is
+  admitted_puts held r next k false pending d is put usable off =
+      puts_some s.rows (IsKeyUsed s.rows) Entering d (row_change s.rows r next (Some k) pending) is (put, ((k, usable.0, usable.1, refl), tt)) (inr off, (tt, tt))
 
   key_puts : 0 < length form.auth → Every Registers (by_key s mk form (machine_of s.rows.machines mk.0))
   key_puts keyed =
@@ -96,7 +96,7 @@ module _ (s : State) (mk : MachineKey) (form : Register) (words : Option (List �
       let pending = pending_of s.rows.pending mk.0 in
       every_ok Registers (admitted_by_key s held r p.next k)
       (admitted_puts held r p.next k (changes_nothing held r k pending) pending (admitted_by_key s held r p.next k) refl
-      (placed_put s mk e form.host held p Entering refl placed (refl, keyed)) usable))))
+      (placed_put s mk e form.host held p Entering refl placed (refl, keyed)) usable (first_member r.id [])))))
 
   anew_puts : (old : Option Pending) → Every Registers (wait_anew s mk form words old)
   anew_puts old =
@@ -104,7 +104,7 @@ module _ (s : State) (mk : MachineKey) (form : Register) (words : Option (List �
       every_or Registers EntropyFault words _ (λ (drawn : List ℕ) _.
       let p = new_entry s mk form drawn in
       every_ok Registers (waiting_entered s.rows p old)
-      (puts_some s.rows (IsKeyUsed s.rows) Entering (waiting_entered s.rows p old) (entry_change s.rows p old) refl (refl, tt))))
+      (puts_some s.rows (IsKeyUsed s.rows) Entering (waiting_entered s.rows p old) (entry_change s.rows p old) refl (refl, tt) (tt, tt))))
 
   wait_puts : (old : Option Pending) → Every Registers (wait_as s mk form words old)
   wait_puts None = anew_puts None
@@ -128,7 +128,7 @@ told_puts s x m u a b inside =
     let change = row_replaced s.rows (told_row m u) in
     either_of (Puts s.rows (IsKeyUsed s.rows) (IsKeyed x)) (same_told m (told_row m u)) (only a) (changing change b)
     (λ _. puts_none s.rows (IsKeyUsed s.rows) (IsKeyed x) (only a) refl)
-    (λ _. puts_some s.rows (IsKeyUsed s.rows) (IsKeyed x) (changing change b) change refl (inr (m, inside, refl, refl), tt))
+    (λ _. puts_some s.rows (IsKeyUsed s.rows) (IsKeyed x) (changing change b) change refl (inr (m, inside, refl, refl), tt) (inl (m, inside, refl), tt))
 
 map_puts : (s : State) (x : MachineAsk) (m : Machine) (told : Option Update) → Contains s.rows.machines m → Puts s.rows (IsKeyUsed s.rows) (IsKeyed x) (map_decision s m told)
 map_puts s x m None inside = puts_none s.rows (IsKeyUsed s.rows) (IsKeyed x) (only (map_for s m)) refl
@@ -153,4 +153,4 @@ seed_puts s text =
     every_if P (is_past_seed s.rows text) _ _ (λ _. every_ok P past (puts_none s.rows (IsKeyPut s.rows) (λ _. ⊥) past refl)) (λ _.
     every_refuse P (not (has_room s.rows kind.User)) (Full scarce.User) _ (λ _.
     every_refuse P (not (has_room s.rows kind.Key)) (Full scarce.Key) _ (λ _.
-    every_ok P made (puts_some s.rows (IsKeyPut s.rows) (λ _. ⊥) made (seed_change s.rows text) refl (refl, (inl refl, tt))))))
+    every_ok P made (puts_some s.rows (IsKeyPut s.rows) (λ _. ⊥) made (seed_change s.rows text) refl (refl, (inl refl, tt)) (tt, (tt, tt))))))

@@ -1,5 +1,5 @@
 -- Which rows operators' asks put.
-use Rattle.std.proofs.Common.{◌≡◌, ℕ, ℤ, Bool, not, List, Option, Some, None, inl, inr, refl, unwrap_or, ◌+◌, ◌==◌, length, if◌then◌else◌}
+use Rattle.std.proofs.Common.{◌≡◌, ℕ, ℤ, Bool, not, List, [], Option, Some, None, inl, inr, refl, sym, unwrap_or, ◌+◌, ◌==◌, length, if◌then◌else◌}
 use Rattle.std.specs.Cmp.Lexicographic.{pointwise, slice_cmp}
 use Rattle.std.specs.Ordering.{nat_cmp}
 use Rattle.std.specs.Prelude.{Contains}
@@ -17,7 +17,7 @@ use Rattle.net_rows.specs.declared.key.AuthKey.{AuthKey}
 use Rattle.net_rows.specs.declared.machine.Machine.{Machine}
 use Rattle.net_rows.specs.declared.pending.Pending.{Pending}
 use Rattle.net_rows.specs.declared.user.User.{User}
-use Rattle.net_rows.proofs.Members.{find_member}
+use Rattle.net_rows.proofs.Members.{find_member, first_member}
 use Rattle.same_maps.specs.Dns.{same_extras}
 use Rattle.desk_state.specs.Changes.{machine_gone}
 use Rattle.desk_state.specs.Decisions.{changing, only}
@@ -62,14 +62,14 @@ module _ (s : State) (x : OperatorAsk) where
       every_refuse Operates (is_login_taken s.rows.users login) NameTaken _ (λ _.
       every_refuse Operates (not (has_room s.rows kind.User)) (Full scarce.User) _ (λ _.
       every_ok Operates (added_user s.rows login)
-      (puts_some s.rows (IsKeyPut s.rows) (IsAdmission s x) (added_user s.rows login) (user_change s.rows (new_user s.rows login)) refl (refl, tt)))))
+      (puts_some s.rows (IsKeyPut s.rows) (IsAdmission s x) (added_user s.rows login) (user_change s.rows (new_user s.rows login)) refl (refl, tt) (tt, tt)))))
 
   drop_user_puts : (login : List ℕ) → Every Operates (drop_user s login)
   drop_user_puts login =
       every_bind Operates (user_named s.rows login) _ (λ (user : User) _.
       every_refuse Operates (has_machine s.rows.machines user.id) UserHasMachines _ (λ _.
       every_ok Operates (changing (user_gone s.rows user) answer.Gone)
-      (puts_some s.rows (IsKeyPut s.rows) (IsAdmission s x) (changing (user_gone s.rows user) answer.Gone) (user_gone s.rows user) refl tt)))
+      (puts_some s.rows (IsKeyPut s.rows) (IsAdmission s x) (changing (user_gone s.rows user) answer.Gone) (user_gone s.rows user) refl tt tt)))
 
   add_key_puts : (form : KeyForm) (words : Option (List ℕ)) → Every Operates (add_key s form words)
   add_key_puts form words =
@@ -79,7 +79,7 @@ module _ (s : State) (x : OperatorAsk) where
       every_or Operates EntropyFault words _ (λ (drawn : List ℕ) _.
       let k = new_key s.rows form user.id drawn in
       every_ok Operates (added_key s.rows k)
-      (puts_some s.rows (IsKeyPut s.rows) (IsAdmission s x) (added_key s.rows k) (key_change s.rows k) refl (inl refl, tt))))))
+      (puts_some s.rows (IsKeyPut s.rows) (IsAdmission s x) (added_key s.rows k) (key_change s.rows k) refl (inl refl, tt) (tt, tt))))))
 
   expire_key_puts : (id : ℕ) → Every Operates (expire_key s id)
   expire_key_puts id =
@@ -88,14 +88,14 @@ module _ (s : State) (x : OperatorAsk) where
       every_ok Operates (expired_key s k)
       (either_of Operates (is_ahead s.now k.expiry) (changing (expiry_change s k) answer.Gone) (only answer.Gone)
       (λ _. puts_some s.rows (IsKeyPut s.rows) (IsAdmission s x) (changing (expiry_change s k) answer.Gone) (expiry_change s k) refl
-      (inr (k, inside, record { id = refl; reusable = refl; used = λ h. h }), tt))
+      (inr (k, inside, record { id = refl; reusable = refl; used = λ h. h }), tt) (tt, tt))
       (λ _. quiet answer.Gone)))
 
   -- a machine's row is put again, or stays as it is
   node_puts : (m r : Machine) (b : Bool) → Contains s.rows.machines m → r.id ≡ m.id → r.machine ≡ m.machine → Operates (if b then same_node s m else changed_node s r)
   node_puts m r b inside id machine =
       either_of Operates b (same_node s m) (changed_node s r) (λ _. quiet (answer.Node (node_line s m)))
-      (λ _. puts_some s.rows (IsKeyPut s.rows) (IsAdmission s x) (changed_node s r) (row_replaced s.rows r) refl (inr (m, inside, id, machine), tt))
+      (λ _. puts_some s.rows (IsKeyPut s.rows) (IsAdmission s x) (changed_node s r) (row_replaced s.rows r) refl (inr (m, inside, id, machine), tt) (inl (m, inside, sym id), tt))
 
   machine_there : (id : ℕ) (m : Machine) → machine_with s.rows.machines id ≡ Some m → Contains s.rows.machines m
   machine_there id m found = (find_member (λ (r : Machine). r.id == id) s.rows.machines m found).0
@@ -135,7 +135,7 @@ module _ (s : State) (x : OperatorAsk) where
   drop_node_puts id =
       every_or Operates UnknownMachine (machine_with s.rows.machines id) _ (λ (m : Machine) _.
       every_ok Operates (changing (machine_gone s.rows m.id) answer.Gone)
-      (puts_some s.rows (IsKeyPut s.rows) (IsAdmission s x) (changing (machine_gone s.rows m.id) answer.Gone) (machine_gone s.rows m.id) refl tt))
+      (puts_some s.rows (IsKeyPut s.rows) (IsAdmission s x) (changing (machine_gone s.rows m.id) answer.Gone) (machine_gone s.rows m.id) refl tt tt))
 
   set_extras_puts : (given : List DnsExtra) → Every Operates (set_extras s given)
   set_extras_puts given =
@@ -143,14 +143,14 @@ module _ (s : State) (x : OperatorAsk) where
       let kept = answer.Extras given in
       every_ok Operates (extras_set s.rows given)
       (either_of Operates (same_extras s.rows.extras given) (only kept) (changing change kept) (λ _. quiet kept)
-      (λ _. puts_some s.rows (IsKeyPut s.rows) (IsAdmission s x) (changing change kept) change refl (tt, tt)))
+      (λ _. puts_some s.rows (IsKeyPut s.rows) (IsAdmission s x) (changing change kept) change refl (tt, tt) (tt, tt)))
 
   sweep_puts : (machines pending : List RowKey) → Operates (sweep_decision s.rows machines pending)
   sweep_puts machines pending =
       let change = sweep_change s.rows machines pending in
       let swept = answer.Swept (length machines) (length pending) in
       either_of Operates (length machines + length pending == 0) (only (answer.Swept 0 0)) (changing change swept) (λ _. quiet (answer.Swept 0 0))
-      (λ _. puts_some s.rows (IsKeyPut s.rows) (IsAdmission s x) (changing change swept) change refl tt)
+      (λ _. puts_some s.rows (IsKeyPut s.rows) (IsAdmission s x) (changing change swept) change refl tt tt)
 
 -- a timely entry is the one of its text
 entry_named : (s : State) (text : List ℕ) → Every (λ (p : Pending). pending_with s.rows.pending text ≡ Some p) (timely_entry s text)
@@ -172,7 +172,7 @@ admit_puts s text login =
     let r = machine_row p.machine e place in
     every_ok P (admission s p r place.next)
     (puts_some s.rows (IsKeyPut s.rows) (IsEntryOf s text) (admission s p r place.next) (row_change s.rows r place.next None (Some p)) refl
-    (placed_put s p.machine e p.host (machine_of s.rows.machines p.machine.0) place (IsEntryOf s text) refl placed (p, found, refl), tt)))))))
+    (placed_put s p.machine e p.host (machine_of s.rows.machines p.machine.0) place (IsEntryOf s text) refl placed (p, found, refl), tt) (inr (first_member r.id []), tt)))))))
 
 pub operator_puts : (s : State) (x : OperatorAsk) (words : Option (List ℕ)) → Every (Puts s.rows (IsKeyPut s.rows) (IsAdmission s x)) (decision s x words)
 operator_puts s (ask.AddUser name) words = add_user_puts s (ask.AddUser name) name

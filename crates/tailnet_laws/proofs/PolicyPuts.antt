@@ -29,7 +29,7 @@ module _ (s : State) where
   saved_puts : (text : List ℕ) (p : Policy) → Saves (saved s.rows text p)
   saved_puts text p =
       either_of Saves (is_kept s.rows.policy text) (only answer.Saved) (kept_anew s.rows text p) (λ _. quiet answer.Saved)
-      (λ _. puts_some s.rows (IsKeyPut s.rows) NoneEnters (kept_anew s.rows text p) (text_change s.rows text) refl (tt, tt))
+      (λ _. puts_some s.rows (IsKeyPut s.rows) NoneEnters (kept_anew s.rows text p) (text_change s.rows text) refl (tt, tt) (tt, tt))
 
   pub policy_puts : (x : PolicyAsk) → Every Saves (policy_decision s x)
   policy_puts ask.Policy = every_ok Saves (only (answer.PolicyText s.rows.policy)) (quiet (answer.PolicyText s.rows.policy))

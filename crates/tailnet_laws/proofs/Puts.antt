@@ -2,7 +2,8 @@
 use Rattle.std.proofs.Common.{◌≡◌, ◌⊎◌, inl, inr, ℕ, true, false, not, ◌&&◌, List, [], ◌∷◌, Option, Some, None, Ok, refl, sym, ap, ◌∙◌, subst}
 use Rattle.std.specs.Prelude.{Contains}
 use Rattle.tail_base.specs.declared.key.MachineKey.{MachineKey}
-use Rattle.net_rows.specs.Rows.{machine_of}
+use Rattle.net_rows.specs.Rows.{machine_of, take_all_out}
+use Rattle.net_rows.specs.Shelf.{HasRow}
 use Rattle.net_rows.specs.declared.change.Change.{Change}
 use Rattle.net_rows.specs.declared.change.Row.{Row}
 use Rattle.net_rows.specs.declared.change.Row.TheVariants as row
@@ -50,18 +51,36 @@ abbrev pub ArePut : Rows → (AuthKey → Type 0) → (MachineKey → Type 0) �
 ArePut t keys enters [] = Unit {0}
 ArePut t keys enters (x ∷ xs) = IsPut t keys enters x × ArePut t keys enters xs
 
+-- a machine's row that is put stands where one stood, or its machine is offline from then on
+abbrev pub HasPlace : Rows → List ℕ → Row → Type 0
+HasPlace t offline (row.User u) = Unit {0}
+HasPlace t offline (row.Key k) = Unit {0}
+HasPlace t offline (row.Pending p) = Unit {0}
+HasPlace t offline (row.Machine m) = HasRow (λ (r : Machine). r.id) t.machines m.id ⊎ Contains offline m.id
+HasPlace t offline (row.Extras xs) = Unit {0}
+HasPlace t offline (row.Policy text) = Unit {0}
+
+abbrev pub HavePlaces : Rows → List ℕ → List Row → Type 0
+HavePlaces t offline [] = Unit {0}
+HavePlaces t offline (x ∷ xs) = HasPlace t offline x × HavePlaces t offline xs
+
+-- so it is with the rows of a change
+abbrev pub ArePlaced : Rows → List ℕ → Change → Type 0
+ArePlaced t offline c = HavePlaces (take_all_out t c.gone) offline c.puts
+
 -- the change of the decision, if any, puts such rows
 abbrev pub Puts : {A : Type 0} → Rows → (AuthKey → Type 0) → (MachineKey → Type 0) → Decision A → Type 0
-Puts t keys enters d = (c : Change) → d.change ≡ Some c → ArePut t keys enters c.puts
+Puts t keys enters d = (c : Change) → d.change ≡ Some c → ArePut t keys enters c.puts × ArePlaced t d.offline c
 
 pub puts_none : {A : Type 0} (t : Rows) (keys : AuthKey → Type 0) (enters : MachineKey → Type 0) (d : Decision A) → d.change ≡ None → Puts t keys enters d
 puts_none t keys enters d none c is = let clash : None ≡ Some c = sym none ∙ is in absurd (cc)
 
-pub puts_some : {A : Type 0} (t : Rows) (keys : AuthKey → Type 0) (enters : MachineKey → Type 0) (d : Decision A) (c : Change) → d.change ≡ Some c → ArePut t keys enters c.puts → Puts t keys enters d
-puts_some t keys enters d c some h x is =
+pub puts_some : {A : Type 0} (t : Rows) (keys : AuthKey → Type 0) (enters : MachineKey → Type 0) (d : Decision A) (c : Change)
+    → d.change ≡ Some c → ArePut t keys enters c.puts → ArePlaced t d.offline c → Puts t keys enters d
+puts_some t keys enters d c some h placed x is =
     let both : Some c ≡ Some x = sym some ∙ is in
     let same : c ≡ x = cc in
-    subst (λ (y : Change). ArePut t keys enters y.puts) same h
+    subst (λ (y : Change). ArePut t keys enters y.puts × ArePlaced t d.offline y) same (h, placed)
 
 abbrev key_of_bytes : List ℕ → MachineKey
 key_of_bytes bytes = record { 0 = bytes }

@@ -58,7 +58,7 @@ put_found : {T : Type 0} (b : Bool) (x : T) (o : Option T) (y : T) → cond b (S
 put_found true x o y h = let e : x ≡ y = cc in inl (e, refl)
 put_found false x o y h = inr (h, refl)
 
-session_put : (xs : List Session) (x : Session) (k : ℕ) (y : Session) → session_of (put_row (λ (r : Session). r.id) xs x) k ≡ Some y
+pub session_put : (xs : List Session) (x : Session) (k : ℕ) (y : Session) → session_of (put_row (λ (r : Session). r.id) xs x) k ≡ Some y
     → ((x ≡ y) × (x.id ≡ k)) ⊎ ((session_of xs k ≡ Some y) × ((x.id == k) ≡ false))
 session_put xs x k y h =
     let found = put_found (x.id == k) x (session_of xs k) y (sym (row_at-put_row (λ (r : Session). r.id) xs x k) ∙ h) in
@@ -67,7 +67,7 @@ session_put xs x k y h =
       | inr other ↦ inr other
     ]
 
-session_id : (xs : List Session) (k : ℕ) (x : Session) → session_of xs k ≡ Some x → x.id ≡ k
+pub session_id : (xs : List Session) (k : ℕ) (x : Session) → session_of xs k ≡ Some x → x.id ≡ k
 session_id xs k x h = eqb-true x.id k (find_member (λ (r : Session). r.id == k) xs x h).1
 
 left_found : {T : Type 0} (b : Bool) (o : Option T) (y : T) → cond b None o ≡ Some y → o ≡ Some y
@@ -75,7 +75,7 @@ left_found true o y h = absurd (cc)
 left_found false o y h = h
 
 -- some of the sessions, in their order
-abbrev IsLeft : List Session → List Session → Type 0
+abbrev pub IsLeft : List Session → List Session → Type 0
 IsLeft xs ys = (IsAscending (λ (r : Session). r.id) xs → IsAscending (λ (r : Session). r.id) ys) × ((k : ℕ) (x : Session) → session_of ys k ≡ Some x → session_of xs k ≡ Some x)
 
 all_left : (xs : List Session) → IsLeft xs xs
@@ -109,7 +109,7 @@ change_left : (xs : List Session) (change : Option Change) → IsLeft xs (left_a
 change_left xs None = all_left xs
 change_left xs (Some c) = forgotten_left xs c.gone
 
-settled_left : (xs : List Session) (change : Option Change) (ended offline : List ℕ) → IsLeft xs (sessions_after (λ (r : Session). r.id) xs change ended offline)
+pub settled_left : (xs : List Session) (change : Option Change) (ended offline : List ℕ) → IsLeft xs (sessions_after (λ (r : Session). r.id) xs change ended offline)
 settled_left xs change ended offline =
     let ys = left_after (λ (r : Session). r.id) xs change in
     let zs = without_all (λ (r : Session). r.id) ys ended in
@@ -128,6 +128,7 @@ settled_kept s change policy ended offline maps h =
         apart = λ j k x y f g e. h.sessions.apart j k x y (left.1 j x f) (left.1 k y g) e;
         order = λ k x map f e. h.sessions.order k x map (left.1 k x f) e;
         domain = λ k x map f e. h.sessions.domain k x map (left.1 k x f) e;
+        unsent = λ k x f e. h.sessions.unsent k x (left.1 k x f) e;
       };
       held = record { sent = λ k x f. h.held.sent k x (left.1 k x f); coming = h.held.coming };
     }
@@ -147,7 +148,7 @@ same_kept s maps others same h = record {
 -- a session that goes on
 pub taken_kept : (s : State) (x : Session) (maps : List ℕ → Option View) → AreKept s maps → AreKept (attached_state s (session_taken_up s x)) maps
 taken_kept s x maps h = record {
-  sessions = record { rise = h.sessions.rise; given = h.sessions.given; apart = h.sessions.apart; order = h.sessions.order; domain = h.sessions.domain };
+  sessions = record { rise = h.sessions.rise; given = h.sessions.given; apart = h.sessions.apart; order = h.sessions.order; domain = h.sessions.domain; unsent = h.sessions.unsent };
   held = record { sent = h.held.sent; coming = h.held.coming };
 }
 
@@ -208,6 +209,10 @@ module _ (s : State) (id : ℕ) (words : List ℕ) (small : s.next_session < 2 ^
       domain = λ k x map f e. elim (session_put s.sessions begun k x f) [
         | inl new ↦ absurd (nothing_sent x map new.0 e)
         | inr old ↦ h.sessions.domain k x map old.0 e
+      ];
+      unsent = λ k x f e. elim (session_put s.sessions begun k x f) [
+        | inl new ↦ ap (λ (z : Session). z.seq) (sym new.0)
+        | inr old ↦ h.sessions.unsent k x old.0 e
       ];
     };
     held = record { sent = begun_sent; coming = λ n w above less. h.held.coming n w (omega arith) less };
@@ -297,6 +302,12 @@ module _ (s : State) (k : ℕ) (x : Session) (map : View) (maps : List ℕ → O
             subst (λ (v : View). v.domain ≡ s.settings.base_domain) same domain
         | inr old ↦ h.sessions.domain j y m old.0 e
       ];
+      unsent = λ j y f e. elim (session_put s.sessions drained j y f) [
+        | inl new ↦
+            let is : Some map ≡ None = ap (λ (z : Session). z.sent) new.0 ∙ e in
+            absurd (cc)
+        | inr old ↦ h.sessions.unsent j y old.0 e
+      ];
     };
     held = record { sent = drained_sent; coming = drained_coming };
   }
@@ -305,7 +316,7 @@ module _ (s : State) (k : ℕ) (x : Session) (map : View) (maps : List ℕ → O
 
 module _ (s : State) (h : AreSoundSessions s) where
   -- the one of a handle
-  one_session : (k : ℕ) (x y : Session) → session_of s.sessions k ≡ Some x → Contains s.sessions y → y.handle ≡ x.handle → y ≡ x
+  pub one_session : (k : ℕ) (x y : Session) → session_of s.sessions k ≡ Some x → Contains s.sessions y → y.handle ≡ x.handle → y ≡ x
   one_session k x y f inside e =
       let there : session_of s.sessions y.id ≡ Some y = row_at_is (λ (r : Session). r.id) s.sessions y h.rise inside in
       let same : y.id ≡ k = h.apart y.id k y x there f e in

@@ -63,7 +63,7 @@ spent_lasts id t enters u grown rises h = record {
 
 -- the key that a registration takes is one that it may use
 taken_usable : (s : State) (x : MachineAsk) (words : Option (List ℕ)) (id : ℕ) (h : TakesKey s x words id) → IsKeyUsed s.rows (record h.key { used = true })
-taken_usable s x words id h = (machine_puts s x words h.result h.decided (row_change s.rows h.puts.machine h.puts.next (Some h.key) h.puts.pending) h.puts.change).1.0
+taken_usable s x words id h = (machine_puts s x words h.result h.decided (row_change s.rows h.puts.machine h.puts.next (Some h.key) h.puts.pending) h.puts.change).0.1.0
 
 -- a spent key is taken no more
 spent_untaken : (s : State) (x : MachineAsk) (words : Option (List ℕ)) (id : ℕ) → IsSpent s.rows id → TakesKey s x words id → ⊥

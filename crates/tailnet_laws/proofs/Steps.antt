@@ -39,10 +39,10 @@ use Rattle.tailnet_laws.proofs.Puts.{IsKeyPut, IsKeyUsed, Puts, used_is_put}
 outcome_grown : (s : State) (keys : AuthKey → Type 0) (enters : MachineKey → Type 0) (r : Result (Decision Answer) Refusal)
     → Every (Puts s.rows keys enters) r → Grown s.rows keys enters (outcome s r).state.rows
 outcome_grown s keys enters (Err e) h = same_grown s.rows keys enters
-outcome_grown s keys enters (Ok d) h = rows_grown s.rows keys enters d.change (h d refl)
+outcome_grown s keys enters (Ok d) h = rows_grown s.rows keys enters d.change (λ c is. (h d refl c is).0)
 
 -- the answer doesn't matter
-answered_puts : {A B : Type 0} (f : A → B) (t : Rows) (keys : AuthKey → Type 0) (enters : MachineKey → Type 0) (r : Result (Decision A) Refusal)
+pub answered_puts : {A B : Type 0} (f : A → B) (t : Rows) (keys : AuthKey → Type 0) (enters : MachineKey → Type 0) (r : Result (Decision A) Refusal)
     → Every (Puts t keys enters) r → Every (Puts t keys enters) (r >>= λ d. Ok (answered f d))
 answered_puts f t keys enters r h =
     every_bind (Puts t keys enters) r (λ d. Ok (answered f d)) (λ d is. every_ok (Puts t keys enters) (answered f d) (h d is))
@@ -52,7 +52,7 @@ machine_grown s x words =
     outcome_grown s (IsKeyUsed s.rows) (IsKeyed x) (decision s (ask.Machine x) words)
     (answered_puts answer.Machine s.rows (IsKeyUsed s.rows) (IsKeyed x) (machine.decision s x words) (machine_puts s x words))
 
-ask_grown : (s : State) (x : Ask) (words : Option (List ℕ)) → Grown s.rows (IsKeyPut s.rows) (LetsIn s x) (outcome s (decision s x words)).state.rows
+pub ask_grown : (s : State) (x : Ask) (words : Option (List ℕ)) → Grown s.rows (IsKeyPut s.rows) (LetsIn s x) (outcome s (decision s x words)).state.rows
 ask_grown s (ask.Seed text) words =
     outcome_grown s (IsKeyPut s.rows) (λ _. ⊥) (decision s (ask.Seed text) words)
     (answered_puts (λ _. answer.Seeded) s.rows (IsKeyPut s.rows) (λ _. ⊥) (seed s text) (seed_puts s text))

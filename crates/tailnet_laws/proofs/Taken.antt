@@ -52,7 +52,7 @@ by_key_then s mk form words d keyed h =
     first_of_two (nat_lt 0 (length form.auth)) (by_key s mk form None) _ d given
     (past_refusal (is_taken s.rows.machines mk form.node) NodeKeyTaken _ d (past_refusal (is_logout s form.expiry) UnknownMachine _ d h))
 
-by_key_puts : (s : State) (mk : MachineKey) (form : Register) (d : Decision MachineAnswer) → by_key s mk form None ≡ Ok d → PutsByText s d mk form.auth
+by_key_puts : (s : State) (mk : MachineKey) (form : Register) (d : Decision MachineAnswer) → by_key s mk form None ≡ Ok d → PutsByText s d mk form
 by_key_puts s mk form d h =
     let key = bind_parts (usable_key s form.auth) _ d h in
     let tags = bind_parts (tags_granted s key.0.user form.tags) _ d key.2 in
@@ -70,13 +70,15 @@ by_key_puts s mk form d h =
         change = ap (λ (x : Decision MachineAnswer). x.change) (sym same);
       };
       whose = refl;
+      user = refl;
+      tags = refl;
     }
 
 pub registration_takes : (s : State) (mk : MachineKey) (form : Register) (words : Option (List ℕ)) (d : Decision MachineAnswer) → (HasMachine s.rows mk → ⊥)
-    → decision s (ask.Register mk form) words ≡ Ok d → HasMachine (rows_after s.rows d.change) mk → PutsByText s d mk form.auth
+    → decision s (ask.Register mk form) words ≡ Ok d → HasMachine (rows_after s.rows d.change) mk → PutsByText s d mk form
 registration_takes s mk form words d none is row =
     let enters = IsKeyed (ask.Register mk form) in
-    let grown = rows_grown s.rows (IsKeyUsed s.rows) enters d.change (machine_puts s (ask.Register mk form) words d is) in
+    let grown = rows_grown s.rows (IsKeyUsed s.rows) enters d.change (λ c e. (machine_puts s (ask.Register mk form) words d is c e).0) in
     let keyed = grown_enters s.rows (IsKeyUsed s.rows) enters (rows_after s.rows d.change) mk grown none row in
     let held = none_held s.rows mk (machine_of s.rows.machines mk.0) refl none in
     let steps : register_as s mk form words None ≡ Ok d = sym (ap (λ (m : Option Machine). register_as s mk form words m) held) ∙ is in

@@ -4,10 +4,11 @@ use Rattle.tail_base.specs.declared.key.MachineKey.{MachineKey}
 use Rattle.net_rows.specs.declared.key.AuthKey.{AuthKey}
 use Rattle.net_rows.specs.declared.machine.Machine.{Machine}
 use Rattle.net_rows.specs.declared.pending.Pending.{Pending}
+use Rattle.tailcfg.specs.declared.register.Register.{Register}
 use Rattle.desk_state.specs.State.{State, at_moment}
 use Rattle.desk_state.specs.declared.decision.Decision.{Decision}
 use Rattle.desk_state.specs.Rows.{row_change}
-use Rattle.machine_asks.specs.ByKey.{usable_key}
+use Rattle.machine_asks.specs.ByKey.{all_tags, usable_key}
 use Rattle.machine_asks.specs.Decision.{decision}
 use Rattle.machine_asks.specs.declared.answer.MachineAnswer.{MachineAnswer}
 use Rattle.machine_asks.specs.declared.ask.MachineAsk.{MachineAsk}
@@ -25,12 +26,15 @@ pub record PutsByKey (s : State) (d : Decision MachineAnswer) (key : AuthKey) : 
   pub pending : Option Pending
   pub change : d.change ≡ Some (row_change s.rows machine next (Some key) pending)
 
--- The decision puts the row of the machine of this key by the pre-auth key of this text, which may be used.
-pub record PutsByText (s : State) (d : Decision MachineAnswer) (mk : MachineKey) (text : List ℕ) : Type 0 where
+-- The decision puts the row of the machine of this key by the pre-auth key that the registration hands in, which may be
+-- used. The row is that key's user's, with the key's tags and those that were asked for.
+pub record PutsByText (s : State) (d : Decision MachineAnswer) (mk : MachineKey) (form : Register) : Type 0 where
   pub key : AuthKey
-  pub usable : usable_key s text ≡ Ok key
+  pub usable : usable_key s form.auth ≡ Ok key
   pub puts : PutsByKey s d key
   pub whose : puts.machine.machine ≡ mk
+  pub user : puts.machine.user ≡ key.user
+  pub tags : puts.machine.tags ≡ all_tags key form
 
 -- What is decided puts a machine's row by the key of this id, which isn't reusable.
 pub record TakesKey (s : State) (x : MachineAsk) (words : Option (List ℕ)) (id : ℕ) : Type 0 where

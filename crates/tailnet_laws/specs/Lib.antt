@@ -1,8 +1,14 @@
+pub mod Differences
 pub mod Entering
+pub mod EntranceRows
 pub mod Entrances
 pub mod Followed
 pub mod Gone
 pub mod KeyUse
+pub mod LiveRows
+pub mod Numbers
 pub mod Online
+pub mod Presence
 pub mod Sessions
 pub mod Shown
+pub mod Workers

@@ -20,8 +20,8 @@ pub record IsGiven (next : ℕ) (handle : List ℕ) : Type 0 where
   pub small : number < 2 ^ 63
   pub is : handle ≡ session_handle number words
 
--- Sessions rise by the ids of their machines, each has a handle that was given, no two have the same, and the map that
--- was sent is in order and of the settings' domain.
+-- Sessions rise by the ids of their machines, each has a handle that was given, no two have the same, the map that was
+-- sent is in order and of the settings' domain, and where none was sent the last number is 0.
 pub record AreSoundSessions (s : State) : Type 0 where
   pub rise : IsAscending (λ (x : Session). x.id) s.sessions
   pub given : (k : ℕ) (x : Session) → session_of s.sessions k ≡ Some x → IsGiven s.next_session x.handle
@@ -30,6 +30,7 @@ pub record AreSoundSessions (s : State) : Type 0 where
   pub order : (k : ℕ) (x : Session) (map : View) → session_of s.sessions k ≡ Some x → x.sent ≡ Some map → IsInOrder map
   pub domain : (k : ℕ) (x : Session) (map : View) → session_of s.sessions k ≡ Some x → x.sent ≡ Some map
       → map.domain ≡ s.settings.base_domain
+  pub unsent : (k : ℕ) (x : Session) → session_of s.sessions k ≡ Some x → x.sent ≡ None → x.seq ≡ 0
 
 -- the reply begins a session under this handle
 abbrev pub IsBegunUnder : List ℕ → Reply → Type 0

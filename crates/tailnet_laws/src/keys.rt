@@ -31,12 +31,13 @@ pub fn used_keys_are_refused()
         → (by_key s mk x held ≡ Err KeyUsed) ⊎ (by_key s mk x held ≡ Err KeyExpired) }
 {}
 
-/// A registration that gives its machine a row puts it by a pre-auth key that may be used.
+/// A registration that gives its machine a row puts it by a pre-auth key that may be used, and the row is
+/// that key's user's, with the key's tags and those that the machine asked for.
 pub fn registrations_take_keys()
     ensures taken { (s : State) (mk : MachineKey) (x : form.Register) (words : Option (List ℕ))
         (d : Decision MachineAnswer) → (HasMachine s.rows mk → ⊥)
         → decision s (Register mk x) words ≡ Ok d
-        → HasMachine (rows_after s.rows d.change) mk → PutsByText s d mk x.auth }
+        → HasMachine (rows_after s.rows d.change) mk → PutsByText s d mk x }
 {}
 
 /// No two entries of a legal history admit machines by the single-use key of one id.

@@ -1,5 +1,5 @@
 //! Who is in a map.
-ghost use Rattle.std.specs.Prelude.{◌≡◌, ◌≢◌, ℕ, List, Option, Some, Ok, Err, Contains};
+ghost use Rattle.std.specs.Prelude.{◌≡◌, ◌≢◌, ℕ, List, Option, Some, None, Ok, Err, Contains};
 ghost use Rattle.tail_base.specs.declared.key.MachineKey as key;
 ghost use Rattle.net_rows.specs.Sound.{AreSound};
 ghost use Rattle.net_rows.specs.declared.machine.Machine.{Machine};
@@ -11,6 +11,7 @@ ghost use Rattle.fresh_maps.specs.declared.view.View.{View};
 ghost use Rattle.desk_state.specs.State.{State, at_moment};
 ghost use Rattle.desk_state.specs.declared.decision.Decision.{Decision};
 ghost use Rattle.desk_state.specs.declared.refusal.Refusal.TheVariants.{NotLive};
+ghost use Rattle.machine_asks.specs.Attach.{attach};
 ghost use Rattle.machine_asks.specs.Decision.{decision};
 ghost use Rattle.machine_asks.specs.Drain.{drain};
 ghost use Rattle.machine_asks.specs.OneMap.{world_of};
@@ -45,7 +46,8 @@ pub fn expired_machines_are_no_peers()
         → IsExpired s m → Contains (fresh (world_of s) viewer).peers peer → peer.id ≢ m.id }
 {}
 
-/// And it is told that it isn't live, when it asks for its map or tells of itself.
+/// And it is told that it isn't live, when it asks for its map, tells of itself or begins to poll; where
+/// it polls already, no drain brings it anything, and its poll ends.
 pub fn expired_machines_get_no_map()
     ensures map { (s : State) (m : Machine) (told : Option update.Update)
         (words : Option (List ℕ)) → AreSound s.rows → IsExpired s m
@@ -53,4 +55,9 @@ pub fn expired_machines_get_no_map()
     ensures update { (s : State) (m : Machine) (told : update.Update)
         (words : Option (List ℕ)) → AreSound s.rows → IsExpired s m
         → decision s (Update m.machine m.node told) words ≡ Err NotLive }
+    ensures attach { (s : State) (m : Machine) (handle : List ℕ) (seq : ℕ)
+        (words : Option (List ℕ)) → AreSound s.rows → IsExpired s m
+        → attach s m.machine m.node handle seq words ≡ Err NotLive }
+    ensures drain { (s : State) (m : Machine) (handle : List ℕ) → AreSound s.rows → IsExpired s m
+        → drain s m.machine handle ≡ None }
 {}
