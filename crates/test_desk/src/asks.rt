@@ -70,7 +70,7 @@ fn endpoints_of(alloc: Global, text: &str) -> Result<Items<Endpoint>, Fail>
     ensures short { IfOk result (λ endpoints. length endpoints ≤ 1) }
 {
     let mut endpoints = Items::new(alloc);
-    if let Ok(endpoint) = Endpoint::read(text.as_bytes()) {
+    if let Some(endpoint) = Endpoint::read(text.as_bytes()) {
         endpoints.push(endpoint)?;
     }
     Ok(endpoints)
