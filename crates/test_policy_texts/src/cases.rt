@@ -28,7 +28,6 @@ const KEYS: &str = r#"{"acls":[],"ACLs":[]} => P3 acls
 {"groups":[],"zz":0} => P3 zz
 {"x\nok":1} => P3 x\nok
 {"\u001b[2J\"\\é":1} => P3 \u001b[2J\"\\é
-{"grants":[]} => P4 grants
 {"ipsets":[]} => P4 ipsets
 {"postures":[]} => P4 postures
 {"defaultSrcPosture":[]} => P4 defaultSrcPosture
@@ -188,7 +187,8 @@ pub(crate) fn comes_to(alloc: Global, text: &[u8], want: &str) -> bool {
     }
 }
 
-fn is_case(alloc: Global, line: &str) -> bool {
+/// Whether the text of a line results in what stands behind it.
+pub(crate) fn is_case(alloc: Global, line: &str) -> bool {
     match line.split_once(" => ") {
         Some((text, want)) => comes_to(alloc, text.as_bytes(), want),
         None => false,

@@ -5,6 +5,12 @@
 #[cfg(test)]
 mod cases;
 #[cfg(test)]
+mod grant_cases;
+#[cfg(test)]
+mod grant_rules;
+#[cfg(test)]
+mod grant_sums;
+#[cfg(test)]
 mod hujson;
 #[cfg(test)]
 mod internet;

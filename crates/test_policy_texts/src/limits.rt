@@ -38,6 +38,28 @@ const OBJECTS: &[(&str, &str, usize, &str)] = &[
 const LISTS: &[(&str, &str, &str, usize, &str)] = &[
     ("acls", "{\"acls\":[", "]}", 512, "P5 acls[0]"),
     ("tests", "{\"tests\":[", "]}", 256, "P5 tests[0]"),
+    ("grants", "{\"grants\":[", "]}", 256, "P5 grants[0]"),
+    (
+        "grants[0].src",
+        "{\"grants\":[{\"src\":[",
+        "],\"dst\":[],\"ip\":[]}]}",
+        256,
+        "P5 grants[0].src[0]",
+    ),
+    (
+        "grants[0].dst",
+        "{\"grants\":[{\"src\":[],\"dst\":[",
+        "],\"ip\":[]}]}",
+        256,
+        "P5 grants[0].dst[0]",
+    ),
+    (
+        "grants[0].ip",
+        "{\"grants\":[{\"src\":[],\"dst\":[],\"ip\":[",
+        "]}]}",
+        256,
+        "P5 grants[0].ip[0]",
+    ),
     (
         "groups.group:a",
         "{\"groups\":{\"group:a\":[",
