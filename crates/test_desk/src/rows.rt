@@ -221,7 +221,7 @@ const TWO_WORKERS: &str = r#": workers = 2
 #[test]
 fn polls_on_a_desk(rt: HostRuntime) -> Result<(), Fail> {
     let rows = [
-        ("router-offline, unaffected-viewer", ROUTER_OFFLINE),
+        ("router-offline", ROUTER_OFFLINE),
         ("expiry-seen", EXPIRY_SEEN),
         ("disco-patch", DISCO_PATCH),
         ("peer-presence", PEER_PRESENCE),
