@@ -5,7 +5,7 @@ mod Entered
 mod EntranceRows
 mod Every
 pub mod Following
-mod GoneIds
+pub mod GoneIds
 mod Growth
 mod Handles
 mod Hiding
