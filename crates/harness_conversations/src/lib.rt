@@ -1,7 +1,8 @@
-//! Conversations as lines of a text (`harness_pipe` says how they are written), and a policy, for tests.
+//! Conversations as lines of a text (`harness_pipe` says how they are written), and policies, for tests.
 #![tactic(auto)]
 
 mod extras;
+mod grants;
 mod lives;
 mod office;
 mod policies;
@@ -11,8 +12,9 @@ mod routes;
 mod worked;
 
 pub use extras::{FAULTY_RECORDS, RECORDS};
+pub use grants::{GRANTS, KEPT_GRANTS};
 pub use lives::LIVES;
-pub use office::OFFICE;
+pub use office::{OFFICE, OFFICE_GRANTS};
 pub use policies::{KEPT, SAVES, TAGS, TESTS};
 pub use polls::FAULTED_POLLS;
 pub use refusals::{FAULTY_BODIES, REFUSALS};

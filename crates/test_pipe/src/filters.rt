@@ -1,7 +1,7 @@
 //! Maps under policies: whom a machine sees, and its packet filter.
 //!
-//! To the marks of `talks` come three. `| RULES` saves a policy with these rules, over the tailnet of `SETUP`, which stands
-//! behind its conversation's beginning; `& RULES` has the routers of `ROUTERS` in it, too. `? N PEERS FILTER` asks for the
+//! To the marks of `talks` come four. `| RULES` saves a policy with these rules, over the tailnet of `SETUP`, which stands
+//! behind its conversation's beginning; `& RULES` has the routers of `ROUTERS` in it, too; `$ GRANTS` saves one with these grants. `? N PEERS FILTER` asks for the
 //! map of machine N: its peers, each a digit, or `-` for none, and its filter, where `@` and `#` stand for the beginning of
 //! an address, and `~` for all ports. Behind a digit stand the routes that the map has at the machine: `a` for 10.1.0.0/16,
 //! `b` for 10.2.0.0/16, `x` for both exit routes.
@@ -37,6 +37,10 @@ const SETUP: &str = r#"> POST /api/v1/user Bearer/secret {"name":"bob"}
 /// A policy with groups, hosts, tags, and these rules.
 const BEFORE_RULES: &str =
     r#"> PUT /api/v1/policy Bearer/secret {"groups":{"group:g":["bob@","eve@"]},"hosts":{"lab":"100.64.0.4/31"},"tagOwners":{"tag:web":[]},"acls":["#;
+
+/// The same with grants in place of the rules.
+const BEFORE_GRANTS: &str =
+    r#"> PUT /api/v1/policy Bearer/secret {"groups":{"group:g":["bob@","eve@"]},"hosts":{"lab":"100.64.0.4/31"},"tagOwners":{"tag:web":[]},"grants":["#;
 
 /// The same with approvers of routes and of exit nodes.
 const BEFORE_ROUTED_RULES: &str =
@@ -242,6 +246,14 @@ const FILTERS: &str = r##"= * -> *:*
 ? 1 - []
 ? 3 4 [{"DstPorts":[{"IP":"@3","Ports":{"First":22,"Last":22}},{"IP":"#3","Ports":{"First":22,"Last":22}}],"IPProto":[1,6,17,58],"SrcIPs":["@4","#4"]}]
 ? 4 3 [{"DstPorts":[{"IP":"@4","Ports":{"First":22,"Last":22}},{"IP":"#4","Ports":{"First":22,"Last":22}}],"IPProto":[1,6,17,58],"SrcIPs":["@3","#3"]}]
+= grants: seed@ -> bob@ tag:web by tcp:22 80-90
+$ {"src":["seed@"],"dst":["bob@","tag:web"],"ip":["tcp:22","80-90"]}
+? 1 34 []
+? 3 1 [{"DstPorts":[{"IP":"@3","Ports":{"First":22,"Last":22}},{"IP":"#3","Ports":{"First":22,"Last":22}}],"IPProto":[6],"SrcIPs":["@1","#1"]},{"DstPorts":[{"IP":"@3","Ports":{"First":80,"Last":90}},{"IP":"#3","Ports":{"First":80,"Last":90}}],"IPProto":[1,6,17,58],"SrcIPs":["@1","#1"]}]
+= grants: autogroup:member -> 100.64.0.1 autogroup:self by tcp:22 icmp:*
+$ {"src":["autogroup:member"],"dst":["100.64.0.1","autogroup:self"],"ip":["tcp:22","icmp:*"]}
+? 1 4 [{"DstPorts":[{"IP":"@1","Ports":{"First":22,"Last":22}}],"IPProto":[6],"SrcIPs":["@1","@4","#1","#4"]},{"DstPorts":[{"IP":"@1","Ports":{"First":22,"Last":22}},{"IP":"#1","Ports":{"First":22,"Last":22}}],"IPProto":[6],"SrcIPs":["@1","#1"]},{"DstPorts":[{"IP":"@1",~}],"IPProto":[1],"SrcIPs":["@1","@4","#1","#4"]},{"DstPorts":[{"IP":"@1",~},{"IP":"#1",~}],"IPProto":[1],"SrcIPs":["@1","#1"]}]
+? 4 1 [{"DstPorts":[{"IP":"@4","Ports":{"First":22,"Last":22}},{"IP":"#4","Ports":{"First":22,"Last":22}}],"IPProto":[6],"SrcIPs":["@4","#4"]},{"DstPorts":[{"IP":"@4",~},{"IP":"#4",~}],"IPProto":[1],"SrcIPs":["@4","#4"]}]
 = refused-saves-leave-all
 | {"action":"accept","src":["bob@"],"dst":["seed@:22"]}
 > PUT /api/v1/policy Bearer/secret {"acls":[{"action":"accept","src":["autogroup:self"],"dst":["*:*"]}]}
@@ -490,6 +502,7 @@ fn add_line(alloc: Global, out: &mut String, line: &str) -> Result<(), NoMemory>
     let (mark, rest) = cut(line);
     match mark {
         "|" => add_rules(out, BEFORE_RULES, rest),
+        "$" => add_rules(out, BEFORE_GRANTS, rest),
         "&" => add_routed_rules(out, rest),
         "?" => add_map(alloc, out, rest),
         _ => add_plain(out, line),

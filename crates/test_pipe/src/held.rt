@@ -1,7 +1,7 @@
 //! Tables of conversations, each of which `pipe` holds, byte for byte.
 use harness_conversations::{
-    FAULTED_POLLS, FAULTY_BODIES, FAULTY_RECORDS, FIRST_ROUTER, KEPT, LIVES, POLLS, RECORDS,
-    REFUSALS, ROUTE_BODIES, ROUTE_ROWS, SAVES, TAGS, TESTS, WORKED,
+    FAULTED_POLLS, FAULTY_BODIES, FAULTY_RECORDS, FIRST_ROUTER, GRANTS, KEPT, KEPT_GRANTS, LIVES,
+    POLLS, RECORDS, REFUSALS, ROUTE_BODIES, ROUTE_ROWS, SAVES, TAGS, TESTS, WORKED,
 };
 use harness_pipe::first_not_held;
 use std::alloc::Global;
@@ -10,7 +10,7 @@ use std::test::Fail;
 use tail_base::NoMemory;
 
 /// All tables that stand as they are: each conversation of them has a name.
-const TABLES: [&str; 15] = [
+const TABLES: [&str; 17] = [
     WORKED,
     LIVES,
     POLLS,
@@ -21,6 +21,8 @@ const TABLES: [&str; 15] = [
     TAGS,
     TESTS,
     KEPT,
+    GRANTS,
+    KEPT_GRANTS,
     ROUTE_ROWS,
     FIRST_ROUTER,
     ROUTE_BODIES,

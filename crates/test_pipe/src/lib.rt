@@ -10,6 +10,8 @@ mod faults;
 #[cfg(test)]
 mod filters;
 #[cfg(test)]
+mod granted_alike;
+#[cfg(test)]
 mod held;
 #[cfg(test)]
 mod limits;

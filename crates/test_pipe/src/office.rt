@@ -1,8 +1,9 @@
 //! The policy of an office over forty machines of six users, two routers and an exit node.
+use crate::granted_alike::are_granted_alike;
 use crate::requests::add_head;
 use exit_status::Status;
-use harness_conversations::OFFICE;
-use harness_pipe::{CALM, SETTINGS, piped};
+use harness_conversations::{OFFICE, OFFICE_GRANTS};
+use harness_pipe::{CALM, PipeRun, SETTINGS, piped};
 use std::alloc::Global;
 use std::test::Fail;
 use tail_base::NoMemory;
@@ -92,19 +93,22 @@ fn add_map(alloc: Global, input: &mut Vec<u8>, number: u32, polls: bool) -> Resu
     )
 }
 
-/// The office's beginning: its users, its policy, its machines, the policy once more, tested over them, a map of each, and a poll of each.
-/// The operator approves none of the routes.
-fn office(alloc: Global) -> Result<Vec<u8>, NoMemory> {
+/// The office's beginning: its users, its policy, its machines, the policy once more, tested over them, a map of each, and
+/// a poll of each if they poll. The operator approves none of the routes.
+fn office(alloc: Global, policy: &str, machines: u32, polls: bool) -> Result<Vec<u8>, NoMemory> {
     let mut input = Vec::new(alloc);
     add_users(alloc, &mut input)?;
-    add_asked(alloc, &mut input, "PUT /api/v1/policy", OFFICE)?;
-    for number in 1..=40 {
+    add_asked(alloc, &mut input, "PUT /api/v1/policy", policy)?;
+    for number in 1..=machines {
         add_machine(alloc, &mut input, number)?;
     }
-    add_asked(alloc, &mut input, "PUT /api/v1/policy", OFFICE)?;
-    for polls in [false, true] {
-        for number in 1..=40 {
-            add_map(alloc, &mut input, number, polls)?;
+    add_asked(alloc, &mut input, "PUT /api/v1/policy", policy)?;
+    for number in 1..=machines {
+        add_map(alloc, &mut input, number, false)?;
+    }
+    if polls {
+        for number in 1..=machines {
+            add_map(alloc, &mut input, number, true)?;
         }
     }
     for target in [
@@ -148,16 +152,31 @@ fn are_counted(output: &[u8]) -> bool {
         .all(|(text, count)| count_of(output, text) == *count)
 }
 
+/// The run of an office with this policy and so many machines, which poll or don't.
+fn run_of(alloc: Global, policy: &str, machines: u32, polls: bool) -> Result<PipeRun, NoMemory> {
+    let input = office(alloc, policy, machines, polls)?;
+    piped(alloc, SETTINGS, &input, &CALM)
+}
+
 /// Whether an office is answered so.
-fn is_served(alloc: Global) -> Result<bool, NoMemory> {
-    let input = office(alloc)?;
-    let ran = piped(alloc, SETTINGS, &input, &CALM)?;
+fn is_served(ran: &PipeRun) -> bool {
     let output = ran.output.bytes();
-    Ok(ran.status == Status::Ok && are_counted(output) && output.ends_with(LAST))
+    ran.status == Status::Ok && are_counted(output) && output.ends_with(LAST)
 }
 
 #[test]
 fn an_office_is_served(rt: HostRuntime) -> Result<(), Fail> {
-    assert!(rt; is_served(rt.alloc())?);
+    let ran = run_of(rt.alloc(), OFFICE, 40, true)?;
+    assert!(rt; is_served(&ran));
+    Ok(())
+}
+
+/// By the maps of all machines, the policy in rules and the one in grants let the same through.
+#[test]
+fn an_office_in_grants_is_granted_the_same(rt: HostRuntime) -> Result<(), Fail> {
+    let rules = run_of(rt.alloc(), OFFICE, 12, false)?;
+    let grants = run_of(rt.alloc(), OFFICE_GRANTS, 12, false)?;
+    assert!(rt; grants.status == Status::Ok);
+    assert!(rt; are_granted_alike(rt.alloc(), rules.output.bytes(), grants.output.bytes(), 12)?);
     Ok(())
 }

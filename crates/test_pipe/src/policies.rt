@@ -55,13 +55,20 @@ fn a_policy_has_a_limit(rt: HostRuntime) -> Result<(), Fail> {
 #[test]
 fn kept_policies_are_opened(rt: HostRuntime) -> Result<(), Fail> {
     assert!(rt; is_shown(rt.alloc(), "{\"tagOwners\":{\"tag:a\":[]}}")?);
+    assert!(rt;
+        is_shown(
+            rt.alloc(),
+            "{\"grants\":[{\"src\":[\"*\"],\"dst\":[\"*\"],\"ip\":[\"22\"]}]}"
+        )?
+    );
     Ok(())
 }
 
-const FAULTY: [&str; 4] = [
+const FAULTY: [&str; 5] = [
     "[,]",
     "",
     "{\"acls\":[{}]}",
+    "{\"grants\":[{}]}",
     "{\"autoApprovers\":{\"exitNode\":[\"*\"]}}",
 ];
 
