@@ -13,7 +13,7 @@ use tailnet_desk::Ask;
 /// path, who sends it (`operator`, or a machine's key) and its body; `%x` stands for 64 times `x`.
 ///
 /// Each of them changes rows, some of them several at once, and no table is left out.
-pub const ASKS: &str = r#"seed k1
+const ASKS: &str = r#"seed k1
 POST /machine/register mkey:%1 {"Auth":{"AuthKey":"k1"},"Hostinfo":{"Hostname":"one"},"NodeKey":"nodekey:%a"}
 POST /machine/register mkey:%2 {"Hostinfo":{"Hostname":"two"},"NodeKey":"nodekey:%b"}
 POST /api/v1/user operator {"name":"ann"}
@@ -26,6 +26,21 @@ PUT /api/v1/dns operator [{"Name":"nas.tail.example","Value":"192.168.5.9"},{"Na
 PUT /api/v1/dns operator [{"Name":"web.tail.example","Value":"192.168.5.8"}]
 DELETE /api/v1/node/2 operator
 "#;
+
+/// An ask behind the others that changes rows whatever was done of them.
+pub const LAST_CHANGE: &str = r#"POST /api/v1/user operator {"name":"bob"}"#;
+
+/// An ask that changes no row.
+pub const QUESTION: &str = "GET /api/v1/node operator";
+
+/// The lines of the asks.
+pub fn script(alloc: Global) -> Result<Vec<&'static str>, NoMemory> {
+    let mut lines = Vec::new(alloc);
+    for line in ASKS.lines() {
+        lines.push(line)?;
+    }
+    Ok(lines)
+}
 
 /// The line is no ask, or out of memory.
 #[derive(Clone, Copy, Drop)]

@@ -1,17 +1,15 @@
 //! The asks at a desk.
 ghost use Rattle.tailnet_desk.specs.Asks.{IsShort};
 
-use crate::asks::{ASKS, ask_of};
-use crate::shown::text_of;
+use crate::asks::ask_of;
 use desk_front::Front;
 use net_addr::Moment;
-use net_rows::Tables;
-use row_keeper::{Keeper, MemoryKeeper};
+use row_keeper::Keeper;
 use server_settings::FileSettings;
 use settings::Settings;
 use std::alloc::Global;
 use std::test::Fail;
-use tail_base::{Items, NoMemory};
+use tail_base::NoMemory;
 use tail_words::read_settings;
 use tailnet_desk::{Ask, Desk, Loss, OpenFault, Reply};
 
@@ -54,9 +52,11 @@ pub(crate) fn opened<K: Keeper>(
 }
 
 /// What a desk replies to an ask.
-#[derive(Clone, Copy, Drop)]
-enum Answered {
+#[derive(Clone, Copy, Debug, PartialEq, Eq, Drop)]
+pub enum ReplyKind {
     Done,
+    /// A rule refuses it.
+    Refused,
     /// The keeper fails.
     Lost,
     /// No ask of the list has such a reply.
@@ -64,21 +64,21 @@ enum Answered {
 }
 
 /// Which of these a reply is.
-fn answered_by(reply: &Reply) -> Answered {
+fn answered_by(reply: &Reply) -> ReplyKind {
     match reply {
-        Reply::Done(_) => Answered::Done,
-        Reply::Lost(Loss::KeeperFault) => Answered::Lost,
-        Reply::Refused(_)
-        | Reply::Lost(Loss::NoMemory)
+        Reply::Done(_) => ReplyKind::Done,
+        Reply::Refused(_) => ReplyKind::Refused,
+        Reply::Lost(Loss::KeeperFault) => ReplyKind::Lost,
+        Reply::Lost(Loss::NoMemory)
         | Reply::Attached { .. }
         | Reply::Frames(_)
         | Reply::Ended
-        | Reply::Detached => Answered::Otherwise,
+        | Reply::Detached => ReplyKind::Otherwise,
     }
 }
 
 /// What the desk replies to an ask.
-fn answer_to<K: Keeper>(alloc: Global, desk: &mut Desk<K>, ask: &Ask) -> Answered
+fn answer_to<K: Keeper>(alloc: Global, desk: &mut Desk<K>, ask: &Ask) -> ReplyKind
     requires short { IsShort ask.now }
 {
     let reply = desk.ask(alloc, ask, moment(), Some(WORDS));
@@ -86,81 +86,36 @@ fn answer_to<K: Keeper>(alloc: Global, desk: &mut Desk<K>, ask: &Ask) -> Answere
 }
 
 /// What the desk replies to a line.
-fn answer<K: Keeper>(alloc: Global, front: &Front, desk: &mut Desk<K>, line: &str) -> Answered {
+fn answer<K: Keeper>(alloc: Global, front: &Front, desk: &mut Desk<K>, line: &str) -> ReplyKind {
     match ask_of(alloc, front, line) {
         Ok(ask) => answer_to(alloc, desk, &ask),
-        Err(_) => Answered::Otherwise,
+        Err(_) => ReplyKind::Otherwise,
     }
 }
 
-/// How many of these asks the desk does, one behind the other, until its keeper fails. None if one of them
-/// isn't done and the keeper doesn't fail.
-pub(crate) fn count_done<K: Keeper>(
+/// How a row of asks goes on where the keeper fails.
+#[derive(Clone, Copy, Debug, PartialEq, Eq, Drop)]
+pub enum Manner {
+    /// The first fault is the end: the program stopped there.
+    ToTheFirstFault,
+    ToTheLastAsk,
+}
+
+/// What the desk replies to these lines, one behind the other.
+pub(crate) fn answers<K: Keeper>(
     alloc: Global,
     front: &Front,
     desk: &mut Desk<K>,
-    asks: &str,
-) -> Option<usize> {
-    let mut done = 0usize;
-    for line in asks.lines() {
-        match answer(alloc, front, desk, line) {
-            Answered::Done => done = done.saturating_add(1),
-            Answered::Lost => return Some(done),
-            Answered::Otherwise => return None,
+    asks: &[&str],
+    manner: Manner,
+) -> Result<Vec<ReplyKind>, NoMemory> {
+    let mut answers = Vec::new(alloc);
+    for line in asks {
+        let answer = answer(alloc, front, desk, line);
+        answers.push(answer)?;
+        if answer == ReplyKind::Lost && manner == Manner::ToTheFirstFault {
+            return Ok(answers);
         }
     }
-    Some(done)
-}
-
-/// Adds the tables as a text.
-fn add_text<K: Keeper>(
-    alloc: Global,
-    texts: &mut Vec<String>,
-    desk: &Desk<K>,
-) -> Result<(), NoMemory> {
-    let text = text_of(alloc, desk.tables())?;
-    Ok(texts.push(text)?)
-}
-
-/// Does all asks, and adds the tables before them and behind each of them.
-fn add_texts<K: Keeper>(
-    alloc: Global,
-    front: &Front,
-    texts: &mut Vec<String>,
-    desk: &mut Desk<K>,
-) -> Result<(), NoMemory> {
-    add_text(alloc, texts, desk)?;
-    for line in ASKS.lines() {
-        answer(alloc, front, desk, line);
-        add_text(alloc, texts, desk)?;
-    }
-    Ok(())
-}
-
-/// The tables of this desk, before the asks and behind each of them. It is then closed.
-fn texts_at<K: Keeper>(alloc: Global, front: &Front, mut desk: Desk<K>) -> (Vec<String>, K) {
-    let mut texts = Vec::new(alloc);
-    // (a list that is too short lacks a text that is looked for)
-    let _added = add_texts(alloc, front, &mut texts, &mut desk);
-    (texts, desk.close())
-}
-
-/// The same over a keeper.
-fn texts_over<K: Keeper>(
-    alloc: Global,
-    front: &Front,
-    settings: Settings,
-    keeper: K,
-) -> Vec<String> {
-    match opened(alloc, settings, keeper) {
-        Ok(desk) => texts_at(alloc, front, desk).0,
-        Err(_) => Vec::new(alloc),
-    }
-}
-
-/// The tables as texts, before the asks and behind each of them, as a desk in memory has them.
-pub fn texts_in_memory(alloc: Global, front: &Front) -> Result<Vec<String>, Fail> {
-    let settings = settings_of(alloc)?;
-    let keeper = MemoryKeeper::new(Tables::empty(alloc), Items::new(alloc));
-    Ok(texts_over(alloc, front, settings, keeper))
+    Ok(answers)
 }

@@ -6,6 +6,6 @@ mod desks;
 mod runs;
 mod shown;
 
-pub use asks::ASKS;
-pub use desks::{front_of, settings_of, texts_in_memory};
-pub use runs::{DeskRun, Ending, asked};
+pub use asks::{LAST_CHANGE, QUESTION, script};
+pub use desks::{Manner, ReplyKind, front_of, settings_of};
+pub use runs::{DeskRun, Reached, asked, asked_in_memory};

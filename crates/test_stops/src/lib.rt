@@ -1,11 +1,5 @@
-//! Tests of a desk over a database whose disks stop at a call: what a new start finds there.
+//! Tests of a desk over a database whose disks stop at a call: what a new start finds there, and how it goes on.
 #![tactic(auto)]
 
 #[cfg(test)]
-mod disks;
-#[cfg(test)]
-mod file;
-#[cfg(test)]
-mod log;
-#[cfg(test)]
-mod stops;
+mod stopped;
