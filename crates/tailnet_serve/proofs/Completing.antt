@@ -1,5 +1,5 @@
 -- A run in whose way nothing stands ends well, and so does each of its connections at which nothing failed.
-use Rattle.std.proofs.Common.{◌≡◌, ◌⊎◌, ◌||◌, ℕ, Bool, Option, None, List, [], ◌∷◌, inl, inr, refl, sym, subst, true, false}
+use Rattle.std.proofs.Common.{◌≡◌, ◌⊎◌, ◌||◌, ◌+◌, ℕ, Bool, Option, None, List, [], ◌∷◌, inl, inr, refl, sym, subst, true, false}
 use Rattle.std.specs.List.{AllByRecursion}
 use Rattle.std.proofs.lemmas.Bool.{or_parts}
 use Rattle.io_edge.specs.Edge.{Rose}
@@ -61,7 +61,7 @@ shifts_well given limits told start history place [] each fed = tt
 shifts_well given limits told start history place (w ∷ ws) each fed =
     let parts = or_parts (is_any_starved w.visits) (any_starved ws) fed in (
       visits_well given limits.more limits.requests w.drawing w.drawing_after w.visits each.0.served parts.0,
-      shifts_well given limits told start history _ ws each.1 parts.1,
+      shifts_well given limits told start history (place + 1) ws each.1 parts.1,
     )
 
 pub serves_well : ServesWell

@@ -10,7 +10,7 @@ use row_keeper::Keeper;
 use std::alloc::Global;
 use std::test::Fail;
 use tail_base::{MachineKey, NoMemory, Text};
-use tailnet_desk::{Ask, Desk, Drained, Reply};
+use tailnet_desk::{Ask, Desk, Reply};
 
 /// The random words of each draw.
 const WORDS: [u64; 4] = [1, 2, 3, 4];
@@ -67,10 +67,20 @@ fn drain<K: Keeper>(
     let machine = machine_key(machine)?;
     let handle = Text::from_str(alloc, handle)?;
     let drained = desk.drain(alloc, &machine, &handle, moment);
-    if let Drained::Frames(responses) = &drained {
-        followers.follow(alloc, &machine, responses.as_slice())?;
-    }
-    Ok(tell(alloc, told, drained.into_reply())?)
+    let followed = followers.follow(alloc, &machine, &drained);
+    let replied = tell(alloc, told, drained.into_reply());
+    followed?;
+    Ok(replied?)
+}
+
+/// Whether a machine's client has folded the map of a reply, which is dropped here.
+fn is_folded(
+    alloc: Global,
+    followers: &Followers,
+    machine: &MachineKey,
+    reply: Reply,
+) -> Result<bool, NoMemory> {
+    followers.have(alloc, machine, &reply)
 }
 
 /// Whether a machine's client has folded the map that the desk computes afresh: the machine's keys.
@@ -85,9 +95,14 @@ fn compare<K: Keeper>(
     let (machine, _) = cut(line);
     let machine = machine_key(machine)?;
     let asked = mapping(line)?;
-    let reply = desk.ask(alloc, &asked, moment, None);
-    let is_same = followers.have(alloc, &machine, &reply)?;
-    Ok(told.push_str(if is_same { "has it\n" } else { "has another\n" })?)
+    let is_same = is_folded(
+        alloc,
+        followers,
+        &machine,
+        desk.ask(alloc, &asked, moment, None),
+    )?;
+    let line = if is_same { "has it\n" } else { "has another\n" };
+    Ok(told.push_str(line)?)
 }
 
 /// A poll ends: the machine's key and the handle.

@@ -6,7 +6,7 @@ use std::alloc::Global;
 use std::mem;
 use tail_base::{MachineKey, NoMemory};
 use tailcfg::Response;
-use tailnet_desk::{Answer, Reply};
+use tailnet_desk::{Answer, Drained, Reply};
 
 /// The client of a machine, and the map that it has.
 #[derive(Drop)]
@@ -45,24 +45,35 @@ impl Followers {
         }
     }
 
+    /// The place of a machine's client, who has no map yet if there was none.
+    fn place_of(&mut self, machine: &MachineKey) -> Result<usize, NoMemory> {
+        for (place, follower) in self.all.iter().enumerate() {
+            if follower.machine == *machine {
+                return Ok(place);
+            }
+        }
+        self.all.push(Follower {
+            machine: *machine,
+            view: None,
+        })?;
+        Ok(self.all.len() - 1)
+    }
+
     /// The client of a machine takes what its session was sent.
     pub(crate) fn follow(
         &mut self,
         alloc: Global,
         machine: &MachineKey,
-        responses: &[Response],
+        drained: &Drained,
     ) -> Result<(), NoMemory> {
-        if !self.all.iter().any(|follower| follower.machine == *machine) {
-            self.all.push(Follower {
-                machine: *machine,
-                view: None,
-            })?;
-        }
-        for follower in self.all.iter_mut() {
-            if follower.machine == *machine {
-                for response in responses {
-                    follower.take(alloc, response)?;
-                }
+        let responses = match drained {
+            Drained::Frames(responses) => responses.as_slice(),
+            Drained::Ended | Drained::NoMemory => &[],
+        };
+        let place = self.place_of(machine)?;
+        if let Some(follower) = self.all.get_mut(place) {
+            for response in responses {
+                follower.take(alloc, response)?;
             }
         }
         Ok(())

@@ -17,8 +17,9 @@ fn loads<O: Opener>(alloc: Global, opener: &mut O, name: &str) -> bool {
     }
 }
 
-fn loads_memory(rt: &HostRuntime) -> bool {
-    loads(rt.alloc(), &mut HostOpener::new(*rt), ":memory:")
+/// Whether the host's opener loads the tables of this name.
+fn loads_named(rt: &HostRuntime, name: &str) -> bool {
+    loads(rt.alloc(), &mut HostOpener::new(*rt), name)
 }
 
 /// Names that differ from `:memory:` in a letter's case, or in what stands behind it.
@@ -26,7 +27,7 @@ const NEAR: [&str; 2] = [":MEMORY:", ":memory: "];
 
 /// Whether what is loaded by this name is kept in a file, which then goes.
 fn is_kept(rt: &HostRuntime, name: &str) -> Result<bool, Fail> {
-    let is_loaded = loads(rt.alloc(), &mut HostOpener::new(*rt), name);
+    let is_loaded = loads_named(rt, name);
     let is_empty = fs::read(rt, name)?.is_empty();
     fs::remove_file(rt, name)?;
     Ok(is_loaded && !is_empty)
@@ -36,7 +37,7 @@ fn is_kept(rt: &HostRuntime, name: &str) -> Result<bool, Fail> {
 /// nothing, and any other is a file's.
 #[test]
 fn one_name_alone_is_memory(rt: HostRuntime) -> Result<(), Fail> {
-    assert!(rt; !loads(rt.alloc(), &mut HostOpener::new(rt), ""));
+    assert!(rt; !loads_named(&rt, ""));
     for name in NEAR {
         assert!(rt; is_kept(&rt, name)?, "{name}");
     }
@@ -45,6 +46,6 @@ fn one_name_alone_is_memory(rt: HostRuntime) -> Result<(), Fail> {
 
 #[test]
 fn memory_is_opened(rt: HostRuntime) -> Result<(), Fail> {
-    assert!(rt; loads_memory(&rt));
+    assert!(rt; loads_named(&rt, ":memory:"));
     Ok(())
 }

@@ -1,5 +1,5 @@
 use denote.Param.Send.{sendable}
-use Rattle.test_store.proofs.generic.loads_memory.Goals as goal
+use Rattle.test_store.proofs.generic.loads_named.Goals as goal
 use Rattle.keeper_sqlite.proofs.Sent.{host_send}
 
 pub loads-requires-send-O-Keeper : goal.loads-requires-send-O-Keeper
