@@ -64,7 +64,7 @@ pub(crate) struct GatedSource<R> {
     failed: u64,
 }
 
-impl<R: Wait + Clock> GatedSource<R> {
+impl<R: Drop> GatedSource<R> {
     /// A source of these bytes.
     pub(crate) fn new(
         alloc: Global,
