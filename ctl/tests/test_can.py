@@ -33,7 +33,7 @@ def random_policies(count):
     talk = Talk(draw, Tailnet({}, 0), {})
     policies = [json.loads(talk.rules()) for _ in range(count)]
     for policy in policies[::3]:
-        policy["acls"].append({"action": "accept", "src": ["ann@", "group:dev", "tag:web"], "dst": ["*:22,443"]})
+        policy.setdefault("acls", []).append({"action": "accept", "src": ["ann@", "group:dev", "tag:web"], "dst": ["*:22,443"]})
     return [json.dumps(policy) for policy in policies]
 
 
