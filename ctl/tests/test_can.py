@@ -27,14 +27,26 @@ PIECES = [b'"', b"{", b"}", b"[", b"]", b",", b":", b"//", b"/*", b"*/", b"\n", 
 CALLED = {"machine-5": "100.64.0.5", "seed": "seed@"}
 
 
+def is_read(text):
+    """Whether the model takes a policy: of its random ones some have a fault."""
+    with contextlib.suppress(PolicyFault):
+        read_policy(text.encode())
+        return True
+    return False
+
+
 def random_policies(count):
-    """Texts of random policies, as the model's conversations have them; each third lets more through."""
-    draw = random.Random(4)
+    """Texts of random policies without a fault, as the model's conversations have them; each third lets more through."""
+    draw, texts = random.Random(4), []
     talk = Talk(draw, Tailnet({}, 0), {})
-    policies = [json.loads(talk.rules()) for _ in range(count)]
-    for policy in policies[::3]:
-        policy["acls"].append({"action": "accept", "src": ["ann@", "group:dev", "tag:web"], "dst": ["*:22,443"]})
-    return [json.dumps(policy) for policy in policies]
+    while len(texts) < count:
+        policy = json.loads(talk.rules())
+        if len(texts) % 3 == 0:
+            policy.setdefault("acls", []).append({"action": "accept", "src": ["ann@", "group:dev", "tag:web"], "dst": ["*:22,443"]})
+        text = json.dumps(policy)
+        if is_read(text):
+            texts.append(text)
+    return texts
 
 
 def machines_of(nodes):

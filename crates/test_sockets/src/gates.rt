@@ -64,7 +64,7 @@ pub(crate) struct GatedSource<R> {
     failed: u64,
 }
 
-impl<R: Wait + Clock> GatedSource<R> {
+impl<R: Drop> GatedSource<R> {
     /// A source of these bytes.
     pub(crate) fn new(
         alloc: Global,
@@ -136,13 +136,6 @@ impl<R> OpeningSink<R> {
             failed: 0,
         }
     }
-
-    fn fail(&mut self) -> Failed
-        ensures failed { self.new.failed ≡ min (self.old.failed + 1) (2 ^ 64 - 1) }
-    {
-        self.failed = self.failed.saturating_add(1);
-        Failed
-    }
 }
 
 impl<R: Wait + Clock> Sink for OpeningSink<R> {
@@ -154,10 +147,12 @@ impl<R: Wait + Clock> Sink for OpeningSink<R> {
 
     fn write(&mut self, from: &[u8]) -> Result<usize, Failed> {
         if comes_now(&mut self.plan.write) {
-            return Err(self.fail());
+            self.failed = self.failed.saturating_add(1);
+            return Err(Failed);
         }
         let Ok(n) = self.bytes.write(from) else {
-            return Err(self.fail());
+            self.failed = self.failed.saturating_add(1);
+            return Err(Failed);
         };
         if comes_now(&mut self.plan.opens) {
             self.gate.open();
@@ -167,7 +162,8 @@ impl<R: Wait + Clock> Sink for OpeningSink<R> {
 
     fn check(&mut self) -> Result<(), Failed> {
         if comes_now(&mut self.plan.check) {
-            return Err(self.fail());
+            self.failed = self.failed.saturating_add(1);
+            return Err(Failed);
         }
         Ok(())
     }
