@@ -35,9 +35,10 @@ pub fn a_filter_admits_what_is_granted()
         ≡ (serves m y && grants policy (end_at sites x) (end_at sites y) proto port) }
 {}
 
-/// Without a policy, or under one without `acls`, a machine's filter lets everybody in to what the
-/// machine serves; to its two addresses, if it serves no routes and is no exit node. It asks that the
-/// machine has an address of each family, which each live machine has in tables that keep their rules.
+/// Without a policy, or under one with neither `acls` nor `grants`, a machine's filter lets everybody in
+/// to what the machine serves; to its two addresses, if it serves no routes and is no exit node. It asks
+/// that the machine has an address of each family, which each live machine has in tables that keep their
+/// rules.
 pub fn a_filter_without_rules_is_open()
     ensures without_policy { (sites : List Site) (m : Site) → HasBothFamilies m
         → filter_of None sites m ≡ unrestricted m }

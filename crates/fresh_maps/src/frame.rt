@@ -115,6 +115,7 @@ fn frame_of(
     room.extend_from_slice(&[0, 0, 0, 0])?;
     let mut frame = append_text(alloc, room, response, texts)?;
     let Ok(length) = u32::try_from(frame.len() - 4) else {
+        // This doesn't come: a tailnet's limits keep the text of a map far below 2^32 bytes.
         return Err(NoMemory);
     };
     put_length(&mut frame, length);

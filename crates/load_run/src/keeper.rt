@@ -28,6 +28,10 @@ impl SureKeeper {
 impl Keeper for SureKeeper {
     ghost told = { λ k. ⟦<MemoryKeeper as Keeper>⟧.told k.keeper };
 
+    ghost is_clean = { λ k. ⟦<MemoryKeeper as Keeper>⟧.is_clean k.keeper };
+
+    ghost may_leave = { λ k found. ⟦<MemoryKeeper as Keeper>⟧.may_leave k.keeper found };
+
     ghost faults = { λ k. 0 };
 
     ghost calls = { λ k. ⟦<MemoryKeeper as Keeper>⟧.calls k.keeper };

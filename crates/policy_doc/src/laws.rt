@@ -6,7 +6,7 @@ ghost use Rattle.policy_rows.specs.declared.fault.PolicyFault.{PolicyFault};
 ghost use Rattle.policy_rows.specs.declared.names.Names.{Names};
 ghost use Rattle.policy_rows.specs.declared.policy.Policy.{Policy};
 ghost use Rattle.policy_rows.specs.declared.rule.Rule.{Rule};
-ghost use Rattle.policy_doc.specs.declared.limits.TheConstants.{ENTRY_LIMIT, RULE_LIMIT};
+ghost use Rattle.policy_doc.specs.declared.limits.TheConstants.{ENTRY_LIMIT, LIST_LIMIT, RULE_LIMIT};
 ghost use Rattle.policy_doc.specs.Document.{policy_of_text, rules_section};
 ghost use Rattle.policy_doc.specs.FirstFault.{IsFirstFault, IsFirstFaultyGrant};
 ghost use Rattle.policy_doc.specs.Grants.{grants_at};
@@ -50,4 +50,12 @@ pub fn texts_without_grants_read_as_before()
         → section (codes "grants") ms ≡ None }
     ensures rules { (names : Names) (acls : Option Data) → rules_section names acls None
         ≡ optional (list_of RULE_LIMIT (rule_at names) (codes "acls")) acls }
+{}
+
+/// How much a policy may hold: rules of `acls` and `grants` together, groups, tags, entries of `grants`,
+/// routes and tests, and elements of a list of an entry.
+pub fn the_numbers_are_these()
+    ensures rules { RULE_LIMIT ≡ 512 }
+    ensures entries { ENTRY_LIMIT ≡ 256 }
+    ensures list { LIST_LIMIT ≡ 256 }
 {}

@@ -21,6 +21,6 @@ mod walk;
 pub use document::read_policy;
 pub use laws::{
     first_faults_count, first_faulty_grants_count, policies_are_sound,
-    texts_without_grants_read_as_before,
+    texts_without_grants_read_as_before, the_numbers_are_these,
 };
 pub use limits::{ENTRY_LIMIT, LIST_LIMIT, RULE_LIMIT};

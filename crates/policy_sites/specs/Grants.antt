@@ -20,7 +20,7 @@ open_dest = record { to = sel.All; ports = record { first = 0; last = 65535 } �
 abbrev pub open_rule : Rule
 open_rule = record { protos = None; sources = sel.All ∷ []; dests = open_dest ∷ [] }
 
--- a policy's rules; one without `acls` lets everything through
+-- a policy's rules; one with neither `acls` nor `grants` lets everything through
 abbrev pub rules_or_open : Option (List Rule) → List Rule
 rules_or_open None = open_rule ∷ []
 rules_or_open (Some rules) = rules

@@ -1,29 +1,14 @@
 //! The ends that a test speaks of.
 ghost use Rattle.std.specs.Prelude.{◌≡◌, ◌++◌, [], IfOk, OnOk, flat_map};
-ghost use Rattle.std.specs.Option.{option_copied};
-ghost use Rattle.std.specs.List.{find};
 ghost use Rattle.policy_sites.specs.Ends.{end_at, holder_of};
-ghost use Rattle.policy_sites.specs.Sites.{site_has};
 ghost use Rattle.policy_tests.specs.Trials.{core_of};
 ghost use Rattle.policy_tests.specs.TestEnds.{machine_end, phantom, tag_phantom, user_ends, user_phantom};
 
 use net_addr::Addr;
 use policy_rows::{Group, Selector, members_of};
-use policy_sites::{End, Holder, Site};
+use policy_sites::{End, Holder, Site, end_at, holder_of};
 use std::alloc::Global;
 use tail_base::{Duplicate, Items, Login, NoMemory, Tag, Text};
-
-fn holder_of(alloc: Global, site: &Site) -> Result<Holder, NoMemory>
-    ensures value { IfOk result (λ holder. holder ≡ holder_of site.now) }
-{
-    let login = site.login.copy(alloc)?;
-    let tags = site.tags.copy(alloc)?;
-    Ok(Holder {
-        user: site.user,
-        login,
-        tags,
-    })
-}
 
 fn machine_end(alloc: Global, site: &Site, addr: Addr) -> Result<End, NoMemory>
     ensures value { IfOk result (λ end. end ≡ machine_end site.now addr) }
@@ -63,31 +48,6 @@ fn tag_phantom(alloc: Global, tag: &Tag) -> Result<End, NoMemory>
     let mut tags = Items::new(alloc);
     tags.push(tag.copy(alloc)?)?;
     Ok(phantom(Text::new(alloc), tags))
-}
-
-fn site_has(site: &Site, addr: &Addr) -> bool
-    ensures value { result ≡ site_has addr.now site.now }
-{
-    site.v4 == *addr || site.v6 == *addr
-}
-
-/// The machine that has the address.
-fn site_at<'a>(sites: &'a [Site], addr: &Addr) -> Option<&'a Site>
-    ensures value { option_copied result ≡ find (site_has addr.now) sites.now }
-{
-    sites.iter().find(|site| site_has(site, addr))
-}
-
-fn end_at(alloc: Global, sites: &[Site], addr: Addr) -> Result<End, NoMemory>
-    ensures value { IfOk result (λ end. end ≡ end_at sites.now addr) }
-{
-    match site_at(sites, &addr) {
-        Some(site) => machine_end(alloc, site, addr),
-        None => Ok(End {
-            addr: Some(addr),
-            holder: None,
-        }),
-    }
 }
 
 /// Adds the user's phantom.

@@ -1,5 +1,5 @@
 //! Where tables are kept.
-ghost use Rattle.std.specs.Prelude.{◌≡◌, ◌≤◌, ℕ, Option, None, IfOk, IfErr, IfSome, OnOk, OnErr, IsErrOf};
+ghost use Rattle.std.specs.Prelude.{◌≡◌, ◌≤◌, ◌⊎◌, ℕ, Bool, Option, Some, None, IfOk, IfErr, IfSome, IsTrue, OnOk, OnErr, IsErrOf};
 ghost use Rattle.std.specs.Option.{option_map};
 ghost use Rattle.io_edge.specs.Edge.{Rose, IsWhereTold, StillTells};
 ghost use Rattle.net_rows.specs.declared.rows.Rows.{Rows};
@@ -30,6 +30,13 @@ pub trait Keeper: Drop {
     /// showing them, as where a disk lied.
     ghost told: { Self → Option Rows };
 
+    /// Whether what it keeps in has returned all that was written, as far as it could see.
+    ghost is_clean: { Self → Bool };
+
+    /// What an open after a crash at this moment may find: the rows, or None where no rows that keep their
+    /// rules are found. Nothing, where a crash loses all.
+    ghost may_leave: { Self → Option Rows → Type 0 };
+
     /// How often a call has failed.
     ghost faults: { Self → ℕ };
 
@@ -43,6 +50,10 @@ pub trait Keeper: Drop {
         ensures whole { IfErr result
             (λ e. (kind : Kind) (id : ℕ) → e ≡ LoadFault.Damaged kind id → told self.new ≡ None) }
         ensures same { StillTells (told self.old) (told self.new) }
+        ensures clean { IsTrue (is_clean self.new) → IsTrue (is_clean self.old) }
+        ensures crash { IsTrue (is_clean self.new) → IfSome (told self.old) (λ rows.
+            (found : Option Rows) → may_leave self.new found
+            → may_leave self.old found ⊎ (found ≡ Some rows)) }
         ensures later { faults self.old ≤ faults self.new }
         ensures called { calls self.new ≡ one_more (calls self.old) }
         ensures cause { IsErrOf result LoadFault.Failed
@@ -55,6 +66,13 @@ pub trait Keeper: Drop {
             (StillTells (option_map (λ rows. after rows change.now) (told self.old))
             (told self.new)) }
         ensures err { OnErr result (StillTells (told self.old) (told self.new)) }
+        ensures clean { IsTrue (is_clean self.new) → IsTrue (is_clean self.old) }
+        ensures crash { IsTrue (is_clean self.new) → IfSome (told self.old) (λ rows.
+            (found : Option Rows) → may_leave self.new found
+            → may_leave self.old found ⊎ (found ≡ Some (after rows change.now))) }
+        ensures durable { IsTrue (is_clean self.new) → IfSome (told self.old) (λ rows.
+            OnOk result ((found : Option Rows) → may_leave self.new found
+            → found ≡ Some (after rows change.now))) }
         ensures later { faults self.old ≤ faults self.new }
         ensures called { calls self.new ≡ one_more (calls self.old) }
         ensures cause { IsErrOf result EdgeFault.Failed

@@ -1,5 +1,5 @@
 //! A keeper in memory.
-ghost use Rattle.std.specs.Prelude.{◌≡◌, Some, None, IfOk, OnOk, OnErr};
+ghost use Rattle.std.specs.Prelude.{◌≡◌, Some, None, true, IfOk, OnOk, OnErr};
 ghost use Rattle.net_rows.specs.Rows.{after};
 ghost use Rattle.net_rows.specs.Damage.{damage};
 
@@ -45,6 +45,11 @@ impl MemoryKeeper {
 
 impl Keeper for MemoryKeeper {
     ghost told = { λ k. Some k.tables.rows };
+
+    ghost is_clean = { λ _. true };
+
+    // A crash loses all.
+    ghost may_leave = { λ _ _. ⊥ };
 
     ghost faults = { λ k. k.faults.count };
 

@@ -98,6 +98,7 @@ pub fn response_text(alloc: Global, response: &Response) -> Result<Text, NoMemor
     let bytes = append_response(alloc, Vec::new(alloc), &ResponseParts::of(response))?;
     match String::from_utf8(bytes) {
         Ok(text) => Ok(Text::from_string(text)),
+        // This doesn't come: each text of a response is UTF-8, and so is what stands around them.
         Err(_) => Err(NoMemory),
     }
 }
