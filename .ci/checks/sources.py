@@ -157,7 +157,8 @@ def test_fault(repository, line):
     sources = repository.crates[crate].sources if crate in repository.crates else {}
     if f"fn {test}(" not in sources.get(f"src/{module}.rt", ""):
         return f"there is no test {crate}::{module}::{test}"
-    tables = [*sources.values(), *repository.crates["harness_conversations"].sources.values()]
+    harnesses = [repository.crates[name] for name in ("harness_conversations", "harness_refusals")]
+    tables = [*sources.values(), *(text for harness in harnesses for text in harness.sources.values())]
     if row and not any(f"= {row}\n" in text or f'("{row}", ' in text for text in tables):
         return f"there is no row {row}"
     return None

@@ -1,22 +1,18 @@
 //! Conversations as lines of a text (`harness_pipe` says how they are written), and policies, for tests.
 #![tactic(auto)]
 
-mod extras;
 mod grants;
 mod lives;
 mod office;
 mod policies;
 mod polls;
-mod refusals;
 mod routes;
 mod worked;
 
-pub use extras::{FAULTY_RECORDS, RECORDS};
 pub use grants::{GRANTS, KEPT_GRANTS};
 pub use lives::LIVES;
 pub use office::{OFFICE, OFFICE_GRANTS};
 pub use policies::{KEPT, SAVES, TAGS, TESTS};
 pub use polls::FAULTED_POLLS;
-pub use refusals::{FAULTY_BODIES, REFUSALS};
 pub use routes::{FIRST_ROUTER, ROUTE_BODIES, ROUTE_ROWS};
 pub use worked::{POLLS, WORKED};

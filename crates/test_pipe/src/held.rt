@@ -1,9 +1,10 @@
 //! Tables of conversations, each of which `pipe` holds, byte for byte.
 use harness_conversations::{
-    FAULTED_POLLS, FAULTY_BODIES, FAULTY_RECORDS, FIRST_ROUTER, GRANTS, KEPT, KEPT_GRANTS, LIVES,
-    POLLS, RECORDS, REFUSALS, ROUTE_BODIES, ROUTE_ROWS, SAVES, TAGS, TESTS, WORKED,
+    FAULTED_POLLS, FIRST_ROUTER, GRANTS, KEPT, KEPT_GRANTS, LIVES, POLLS, ROUTE_BODIES, ROUTE_ROWS,
+    SAVES, TAGS, TESTS, WORKED,
 };
 use harness_pipe::first_not_held;
+use harness_refusals::{FAULTY_BODIES, FAULTY_RECORDS, RECORDS, REFUSALS};
 use std::alloc::Global;
 use std::process::Abort;
 use std::test::Fail;

@@ -8,8 +8,6 @@ mod extras;
 #[cfg(test)]
 mod faults;
 #[cfg(test)]
-mod filters;
-#[cfg(test)]
 mod granted_alike;
 #[cfg(test)]
 mod held;

@@ -1,12 +1,11 @@
 //! Maps under policies: whom a machine sees, and its packet filter.
 //!
-//! To the marks of `talks` come four. `| RULES` saves a policy with these rules, over the tailnet of `SETUP`, which stands
-//! behind its conversation's beginning; `& RULES` has the routers of `ROUTERS` in it, too; `$ GRANTS` saves one with these grants. `? N PEERS FILTER` asks for the
-//! map of machine N: its peers, each a digit, or `-` for none, and its filter, where `@` and `#` stand for the beginning of
-//! an address, and `~` for all ports. Behind a digit stand the routes that the map has at the machine: `a` for 10.1.0.0/16,
-//! `b` for 10.2.0.0/16, `x` for both exit routes.
-use crate::held::assert_held;
-use harness_pipe::cut;
+//! To the marks of `harness_pipe` come four. `| RULES` saves a policy with these rules, over the tailnet of `SETUP`, which
+//! stands behind its conversation's beginning; `& RULES` has the routers of `ROUTERS` in it, too; `$ GRANTS` saves one with
+//! these grants. `? N PEERS FILTER` asks for the map of machine N: its peers, each a digit, or `-` for none, and its filter,
+//! where `@` and `#` stand for the beginning of an address, and `~` for all ports. Behind a digit stand the routes that the
+//! map has at the machine: `a` for 10.1.0.0/16, `b` for 10.2.0.0/16, `x` for both exit routes.
+use harness_pipe::{cut, first_not_held};
 use std::alloc::Global;
 use std::test::Fail;
 use tail_base::NoMemory;
@@ -521,13 +520,15 @@ fn written(alloc: Global, table: &str) -> Result<String, NoMemory> {
 #[test]
 fn maps_are_those_of_the_policy_in_force(rt: HostRuntime) -> Result<(), Fail> {
     let talks = written(rt.alloc(), FILTERS)?;
-    assert_held(&rt, rt.alloc(), talks.as_str())?;
+    let name = first_not_held(rt.alloc(), talks.as_str())?;
+    assert_eq!(rt; name, None);
     Ok(())
 }
 
 #[test]
 fn maps_have_routes_at_one_router(rt: HostRuntime) -> Result<(), Fail> {
     let talks = written(rt.alloc(), ROUTED)?;
-    assert_held(&rt, rt.alloc(), talks.as_str())?;
+    let name = first_not_held(rt.alloc(), talks.as_str())?;
+    assert_eq!(rt; name, None);
     Ok(())
 }
