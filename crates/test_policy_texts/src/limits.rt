@@ -82,6 +82,34 @@ const LISTS: &[(&str, &str, &str, usize, &str)] = &[
         "P5 autoApprovers.exitNode[0]",
     ),
     (
+        "acls[0].dst",
+        "{\"acls\":[{\"action\":\"accept\",\"src\":[],\"dst\":[",
+        "]}]}",
+        256,
+        "P5 acls[0].dst[0]",
+    ),
+    (
+        "autoApprovers.routes.10.0.0.0/8",
+        "{\"autoApprovers\":{\"routes\":{\"10.0.0.0/8\":[",
+        "]}}}",
+        256,
+        "P5 autoApprovers.routes.10.0.0.0/8[0]",
+    ),
+    (
+        "tagOwners.tag:a",
+        "{\"tagOwners\":{\"tag:a\":[",
+        "]}}",
+        256,
+        "P5 tagOwners.tag:a[0]",
+    ),
+    (
+        "tests[0].accept",
+        "{\"tests\":[{\"src\":\"a@\",\"accept\":[",
+        "]}]}",
+        256,
+        "P5 tests[0].accept[0]",
+    ),
+    (
         "tests[0].deny",
         "{\"tests\":[{\"src\":\"a@\",\"deny\":[",
         "]}]}",
@@ -100,6 +128,13 @@ fn object_comes_to(
 ) -> Result<bool, Fail> {
     let front = format!(in alloc; "{{\"{key}\":{{")?;
     let text = members(alloc, front.as_str(), begins, count, "}}")?;
+    Ok(comes_to(alloc, text.as_bytes(), want))
+}
+
+/// What so many members in the routes of approvers result in.
+fn routes_come_to(alloc: Global, count: usize, want: &str) -> Result<bool, Fail> {
+    let front = "{\"autoApprovers\":{\"routes\":{";
+    let text = members(alloc, front, "r", count, "}}}")?;
     Ok(comes_to(alloc, text.as_bytes(), want))
 }
 
@@ -133,6 +168,13 @@ fn limits_of_objects_before_members(rt: HostRuntime) -> Result<(), Fail> {
             "{key}"
         );
     }
+    Ok(())
+}
+
+#[test]
+fn limit_of_approvers_routes(rt: HostRuntime) -> Result<(), Fail> {
+    assert!(rt; routes_come_to(rt.alloc(), 256, "P18 autoApprovers.routes.r0")?);
+    assert!(rt; routes_come_to(rt.alloc(), 257, "P19 autoApprovers.routes")?);
     Ok(())
 }
 

@@ -1,6 +1,6 @@
 //! Runs over a database in a file, one behind the other.
 use exit_status::Status;
-use harness_serve::{FIRST, top_over};
+use harness_serve::{has_bytes, requests_of, top_over};
 use io_edge::{
     MemoryClock, MemoryEntropy, MemoryFiles, MemorySink, MemorySource, NamedBytes, NoLink,
 };
@@ -101,20 +101,32 @@ fn answers<R: Threads + Wait + Sync>(
     }
 }
 
-/// A registration, and then the list of machines.
+/// Two machines register, the second by a key that may be used once, and a third is refused.
+const REGISTRATIONS: &str = r#"> POST /machine/register mkey:%1 {"Auth":{"AuthKey":"k1"},"Hostinfo":{"Hostname":"Alice's MacBook Pro!"},"NodeKey":"nodekey:%a"}
+> POST /api/v1/preauthkey Bearer/secret {"user":"seed@","reusable":false}
+> POST /machine/register mkey:%2 {"Auth":{"AuthKey":"tnkey-2-0000000000000001000000000000000200000000000000030000000000000004"},"NodeKey":"nodekey:%b"}
+> POST /machine/register mkey:%2 {"Auth":{"AuthKey":"tnkey-2-0000000000000001000000000000000200000000000000030000000000000004"},"NodeKey":"nodekey:%b"}
+> POST /machine/register mkey:%3 {"Auth":{"AuthKey":"tnkey-2-0000000000000001000000000000000200000000000000030000000000000004"},"NodeKey":"nodekey:%c"}"#;
+
+/// What the third is answered.
+const REFUSED: &[u8] = b"{\"error\":\"KeyUsed\"}HTTP/1.1 200 OK\r\n";
+
+/// The registrations, and then the list of machines.
 fn registered_and_listed(alloc: Global) -> Result<Vec<u8>, NoMemory> {
-    let mut both = Vec::from_slice(alloc, FIRST)?;
+    let mut both = requests_of(alloc, REGISTRATIONS)?;
     both.extend_from_slice(NODES)?;
     Ok(both)
 }
 
-/// Whether a second run lists what the first one registered.
+/// Whether a second run lists what the first one registered, in the same bytes.
 fn is_listed_again<R: Threads + Wait + Sync>(threads: &R, rt: HostRuntime) -> Result<bool, Fail> {
     let both = registered_and_listed(rt.alloc())?;
     let first = answers(threads, rt, &both)?;
     let second = answers(threads, rt, NODES)?;
     Ok(
-        second.bytes().ends_with(b",\"user\":\"seed@\"}]}")
+        has_bytes(first.bytes(), REFUSED)
+            && has_bytes(second.bytes(), b"\"name\":\"alices-macbook-pro\"")
+            && has_bytes(second.bytes(), b"\"id\":2,")
             && first.bytes().ends_with(second.bytes()),
     )
 }

@@ -22,18 +22,33 @@ const LISTING: &str = "> GET /api/v1/node Bearer/secret";
 /// The second frame.
 const FRAME: &[u8] = b"{\"PacketFilter\":[],\"Seq\":2}";
 
-/// The client has left when its poll has waited once; and the write of a frame fails.
-const PLANS: [SinkPlan; 2] = [
-    SinkPlan {
-        opens: 5,
-        write: 0,
-        check: 1,
-    },
-    SinkPlan {
-        opens: 5,
-        write: 6,
-        check: 0,
-    },
+/// The client has left when its poll has waited once; the write of a frame fails; and the write of the head does. With each,
+/// whether the first frame is written.
+const PLANS: [(SinkPlan, bool); 3] = [
+    (
+        SinkPlan {
+            opens: 5,
+            write: 0,
+            check: 1,
+        },
+        true,
+    ),
+    (
+        SinkPlan {
+            opens: 5,
+            write: 6,
+            check: 0,
+        },
+        true,
+    ),
+    (
+        SinkPlan {
+            opens: 3,
+            write: 4,
+            check: 0,
+        },
+        false,
+    ),
 ];
 
 /// Nothing fails, and no gate opens.
@@ -91,11 +106,13 @@ fn three_doors<R: Wait + Clock + Drop>(
     Ok(ReadyDoors::new(alloc, ready))
 }
 
-/// Whether a server whose poll's sink fails so shows the machine offline then, and sends its poll nothing more.
+/// Whether a server whose poll's sink fails so shows the machine offline then, and sends its poll nothing more than the first
+/// frame, if that.
 fn is_offline_then<R: Threads + Wait + Clock + Copy + Send + Sync + Drop>(
     rt: R,
     alloc: Global,
     plan: SinkPlan,
+    is_begun: bool,
 ) -> Result<bool, Fail> {
     let gates = Gates {
         polled: Arc::new(alloc, Gate::new(rt))?,
@@ -107,7 +124,7 @@ fn is_offline_then<R: Threads + Wait + Clock + Copy + Send + Sync + Drop>(
     let status = run_over(&rt, alloc, &mut given, &mut doors, &pause);
     Ok(
         status == Status::Ok
-            && has_bytes(doors.written_at(0), b"\"Seq\":1")
+            && has_bytes(doors.written_at(0), b"\"Seq\":1") == is_begun
             && !has_bytes(doors.written_at(0), FRAME)
             && has_bytes(doors.written_at(2), b"\"online\":false"),
     )
@@ -115,8 +132,8 @@ fn is_offline_then<R: Threads + Wait + Clock + Copy + Send + Sync + Drop>(
 
 #[test]
 fn a_machine_whose_client_left_is_offline(rt: HostRuntime) -> Result<(), Fail> {
-    for (row, plan) in PLANS.iter().enumerate() {
-        assert!(rt; is_offline_then(rt, rt.alloc(), *plan)?, "row {row}");
+    for (row, (plan, is_begun)) in PLANS.iter().enumerate() {
+        assert!(rt; is_offline_then(rt, rt.alloc(), *plan, *is_begun)?, "row {row}");
     }
     Ok(())
 }
