@@ -1,6 +1,7 @@
 pub mod Asks
 pub mod Carried
 pub mod Chains
+pub mod Crashes
 pub mod History
 pub mod Opening
 pub mod Seated

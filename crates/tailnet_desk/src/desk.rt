@@ -6,12 +6,16 @@ ghost use Rattle.net_rows.specs.Held.{Suffices};
 ghost use Rattle.net_rows.specs.Rows.{after};
 ghost use Rattle.settings.specs.Settings.{AreSettings};
 ghost use Rattle.row_keeper.specs.Before.{ToldBefore};
+ghost use Rattle.row_keeper.specs.Calls.{one_more};
 ghost use Rattle.std.specs.Option.{option_or};
 ghost use Rattle.desk_state.specs.Decisions.{rows_after};
 ghost use Rattle.tailnet_desk.specs.Asks.{IsShort};
 ghost use Rattle.tailnet_desk.specs.Carried.{Carried, Kept, reply_of};
+ghost use Rattle.tailnet_desk.specs.Crashes.{IfDone, LeavesAlso, LeavesOnly};
+ghost use Rattle.tailnet_desk.specs.History.{ChangesRows};
 ghost use Rattle.tailnet_desk.specs.Opening.{opening, unread_policy};
 ghost use Rattle.tailnet_desk.specs.Seated.{IsInForce, keeping_of, point_of};
+ghost use Rattle.tailnet_desk.specs.Step.{step};
 ghost use Rattle.tailnet_desk.specs.Turns.{IsTurn};
 ghost use Rattle.tailnet_desk.specs.declared.entry.Event.TheVariants as event;
 
@@ -158,7 +162,13 @@ impl<K: Keeper> Desk<K> {
         ensures read { IfOk result (λ d. unread_policy d.state.rows ≡ None) }
         ensures still { IfOk result (λ d. StillTells (K.told keeper) (K.told d.keeper)) }
         ensures later { IfOk result (λ d. K.faults keeper ≤ K.faults d.keeper) }
+        ensures called { IfOk result (λ d. K.calls d.keeper ≡ one_more (K.calls keeper)) }
+        ensures crash { IfOk result (λ d. IfSome (K.told keeper) (λ rows.
+            LeavesAlso K.told K.is_clean K.may_leave keeper rows d.keeper)) }
         ensures kept { IfErr result (λ e. StillTells (K.told keeper) (K.told e.1)) }
+        ensures err_called { IfErr result (λ e. K.calls e.1 ≡ one_more (K.calls keeper)) }
+        ensures err_crash { IfErr result (λ e. IfSome (K.told keeper) (λ rows.
+            LeavesAlso K.told K.is_clean K.may_leave keeper rows e.1)) }
         ensures err_later { IfErr result (λ e. K.faults keeper ≤ K.faults e.1) }
         ensures fault { IfErr result (λ e. e.0 ≡ OpenFault.KeeperFault
             → Rose (K.faults keeper) (K.faults e.1)) }
@@ -199,6 +209,10 @@ impl<K: Keeper> Desk<K> {
         ensures later { K.faults self.old.keeper ≤ K.faults self.new.keeper }
         ensures told { IsWhereTold self.new.state.rows (K.told self.new.keeper) }
         ensures before { ToldBefore (K.told self.old.keeper) (K.told self.new.keeper) }
+        ensures crash { LeavesAlso K.told K.is_clean K.may_leave self.old.keeper
+            (rows_after self.old.state.rows change) self.new.keeper }
+        ensures durable { OnOk result (IfSome change (λ _. LeavesOnly K.told K.is_clean K.may_leave
+            self.old.keeper (rows_after self.old.state.rows change) self.new.keeper)) }
     {
         let room = make_room(
             &mut self.tables,
@@ -249,6 +263,11 @@ impl<K: Keeper> Desk<K> {
         ensures later { K.faults self.old.keeper ≤ K.faults self.new.keeper }
         ensures told { IsWhereTold self.new.state.rows (K.told self.new.keeper) }
         ensures before { ToldBefore (K.told self.old.keeper) (K.told self.new.keeper) }
+        ensures crash { LeavesAlso K.told K.is_clean K.may_leave self.old.keeper
+            (rows_after self.old.state.rows decision.change) self.new.keeper }
+        ensures durable { IfDone result (IfSome decision.change (λ _.
+            LeavesOnly K.told K.is_clean K.may_leave self.old.keeper
+            (rows_after self.old.state.rows decision.change) self.new.keeper)) }
     {
         self.expanded_at = unless_decided(self.expanded_at, &decision);
         let Decision {
@@ -263,7 +282,7 @@ impl<K: Keeper> Desk<K> {
     }
 
     /// What decisions look at.
-    pub(crate) fn snapshot(&self) -> Snapshot<'_>
+    pub fn snapshot(&self) -> Snapshot<'_>
         ensures value { result ≡ self.now.state }
     {
         Snapshot {
@@ -317,6 +336,11 @@ impl<K: Keeper> Desk<K> {
         requires short { IsShort ask.now }
         ensures turn { IsTurn (point_of K.told K.faults K.calls self.old)
             (event.Ask ask.now moment words) result (point_of K.told K.faults K.calls self.new) }
+        ensures crash { LeavesAlso K.told K.is_clean K.may_leave self.old.keeper
+            (step self.old.state (event.Ask ask.now moment words)).state.rows self.new.keeper }
+        ensures durable { IfDone result (ChangesRows self.old.state (event.Ask ask.now moment words)
+            → LeavesOnly K.told K.is_clean K.may_leave self.old.keeper self.new.state.rows
+            self.new.keeper) }
     {
         self.time = self.time.or_later(moment);
         let at = self.snapshot();
@@ -330,6 +354,9 @@ impl<K: Keeper> Desk<K> {
 
     /// One event: its reply is the machine's, or out of memory, or a fault of the keeper. The lists and
     /// texts of the ask are within the limits of rows.
+    ///
+    /// A crash from then on leaves what it might have left before, or the rows of the step; where the ask
+    /// was carried out and changed rows, these alone.
     pub fn ask(
         &mut self,
         alloc: Global,
@@ -340,6 +367,11 @@ impl<K: Keeper> Desk<K> {
         requires short { IsShort ask.now }
         ensures turn { IsTurn (point_of K.told K.faults K.calls self.old)
             (event.Ask ask.now moment words) result (point_of K.told K.faults K.calls self.new) }
+        ensures crash { LeavesAlso K.told K.is_clean K.may_leave self.old.keeper
+            (step self.old.state (event.Ask ask.now moment words)).state.rows self.new.keeper }
+        ensures durable { IfDone result (ChangesRows self.old.state (event.Ask ask.now moment words)
+            → LeavesOnly K.told K.is_clean K.may_leave self.old.keeper self.new.state.rows
+            self.new.keeper) }
     {
         self.expand_for(alloc, ask, moment);
         self.asked(alloc, ask, moment, words)

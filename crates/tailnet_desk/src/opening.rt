@@ -92,6 +92,9 @@ fn load_tables<K: Keeper>(alloc: Global, keeper: &mut K) -> Result<Tables, OpenF
     ensures rows { IfOk result (λ tables. IsWhereTold tables.rows (K.told keeper.new)) }
     ensures still { StillTells (K.told keeper.old) (K.told keeper.new) }
     ensures later { K.faults keeper.old ≤ K.faults keeper.new }
+    ensures called { K.calls keeper.new ≡ one_more (K.calls keeper.old) }
+    ensures crash { IfSome (K.told keeper.old) (λ rows.
+        LeavesAlso K.told K.is_clean K.may_leave keeper.old rows keeper.new) }
     ensures fault { IfErr result (λ e. e ≡ OpenFault.KeeperFault
         → Rose (K.faults keeper.old) (K.faults keeper.new)) }
     ensures damaged { IfErr result (λ e. (kind : _) (id : ℕ) → e ≡ OpenFault.Damaged kind id
@@ -118,6 +121,9 @@ pub(crate) fn load_beginning<K: Keeper>(
     ensures read { IfOk result (λ made. unread_policy made.0.rows ≡ None) }
     ensures still { StillTells (K.told keeper.old) (K.told keeper.new) }
     ensures later { K.faults keeper.old ≤ K.faults keeper.new }
+    ensures called { K.calls keeper.new ≡ one_more (K.calls keeper.old) }
+    ensures crash { IfSome (K.told keeper.old) (λ rows.
+        LeavesAlso K.told K.is_clean K.may_leave keeper.old rows keeper.new) }
     ensures fault { IfErr result (λ e. e ≡ OpenFault.KeeperFault
         → Rose (K.faults keeper.old) (K.faults keeper.new)) }
     ensures damaged { IfErr result (λ e. (kind : _) (id : ℕ) → e ≡ OpenFault.Damaged kind id
