@@ -42,7 +42,8 @@ pub trait Door {
         ensures number { number self.new ≡ number self.old }
         ensures cause { Counted (faults self.old) (faults self.new) (is_err result) };
 
-    /// Takes a connection back. It takes no memory.
+    /// Takes a connection back. It takes no memory, and never fails: whether a door fails is told when it
+    /// is asked for the next.
     fn finish(&mut self, input: Self::In, output: Self::Out)
         requires room { HasRoom (coming self.old) (finished self.old) (number self.old) }
         ensures finished { finished self.new
@@ -55,7 +56,7 @@ pub trait Door {
             }) }
         ensures coming { coming self.new ≡ coming self.old }
         ensures number { number self.new ≡ number self.old }
-        ensures later { faults self.old ≤ faults self.new };
+        ensures faults { faults self.new ≡ faults self.old };
 }
 
 /// Opens doors at an address, and closes them.

@@ -20,7 +20,7 @@ returns-in-Ok-Some g c =
         _,
         refl,
         work_once c.args.front.now c.args.limits.now c.serve_seat-closed.result _ _ _ _ _ _ c.serve_seat-closed.ensures.serves refl refl some fresh.0 fresh.1
-            given.coming given.finished took.finished (given.number ∙ took.number) (omega (arith, given.later, took.cause.later)),
+            given.coming given.finished took.finished (given.number ∙ took.number) (omega (arith, given.faults, took.cause.later)),
       );
     }
 
