@@ -1,5 +1,5 @@
 //! An opener in memory.
-ghost use Rattle.std.specs.Prelude.{◌≡◌, ◌∷◌, ◌++◌, [], Some, IfOk, OnOk, OnErr};
+ghost use Rattle.std.specs.Prelude.{◌≡◌, ◌∷◌, ◌++◌, [], Some, true, IfOk, OnOk, OnErr};
 
 use crate::keeper::Keeper;
 use crate::memory_keeper::MemoryKeeper;
@@ -82,6 +82,11 @@ impl Opener for MemoryOpener {
     type Keeper = MemoryKeeper;
 
     ghost told = { λ o. Some o.tables.rows };
+
+    ghost is_clean = { λ _. true };
+
+    // A crash loses all.
+    ghost may_leave = { λ _ _. ⊥ };
 
     ghost asked = { λ o. Some o.asked };
 
