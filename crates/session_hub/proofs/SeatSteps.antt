@@ -7,7 +7,7 @@ use native.Mathlib.Decide.{ℕ_discrete}
 use prog.Atomic.{either}
 use lib.ListN.{get_elem?}
 use Rattle.atomic_table.specs.Table.{Me, Step, step, Act, keeps, Allows, Splits, Joins, Valid, stepped, carried_after}
-use Rattle.atomic_table.proofs.Lists.{at_set, at_snoc, at_longer, set_again, set_else, exchanged}
+use Rattle.atomic_table.proofs.Lists.{at_set, at_snoc, at_longer, set_else, exchanged}
 use Rattle.session_hub.specs.declared.known.Line.{Line}
 use Rattle.session_hub.specs.declared.known.Stage.TheVariants.{Idle}
 use Rattle.session_hub.specs.declared.known.Portion.{Portion}
@@ -15,8 +15,8 @@ use Rattle.session_hub.specs.declared.known.Known.{Known}
 use Rattle.tailnet_desk.specs.Seated.{Point}
 use Rattle.session_hub.specs.Lines.{AreLegal, StartsWith, equals, lines_by, longer, times}
 use Rattle.session_hub.specs.Rule.{Fits, FitsPortion, FitsStage, HubHolds, IsHome, below, holds_ticket}
-use Rattle.session_hub.specs.Plays.{Compares, DrawsName, HasPortion, Merges, gone, idle, merged, newcomer}
-use Rattle.session_hub.proofs.Counting.{total_one, total_set, total_snoc, same_else, below_one, below_suc, times-append}
+use Rattle.session_hub.specs.Plays.{Compares, DrawsName, HasPortion, Merges, first_name, gone, idle, merged, newcomer, other_names, remaining}
+use Rattle.session_hub.proofs.Counting.{total_one, total_set, total_snoc, same_else, below_no, below_one, below_suc, times-append}
 use Rattle.session_hub.proofs.Histories.{front_none, begins, own_longer}
 use Rattle.session_hub.proofs.Changes.{changed}
 use Rattle.session_hub.proofs.TurnSteps.{set_index, no_portion_fits, home_same, unchanged}
@@ -57,17 +57,19 @@ longer_lengths a b = go (nat_lt (length a) (length b)) refl
     go false e = (grind (arith, nat_tests), grind (arith, nat_tests))
 
 module _ {D : Type 0} (reaches : D → List Line → D → Type 0) (start : D) where
-  pub names : (id slots : ℕ) (me : Me (Option D) (Known D)) (old : ℕ) → me.0.stage ≡ Idle → me.0.names ≡ [] → old < 2 ^ 63
+  pub names : (id slots : ℕ) (me : Me (Option D) (Known D)) (old : ℕ) → me.0.stage ≡ Idle → old < 2 ^ 63
       → Allows (HubHolds reaches start) slots id me 2 (λ n. either (n == old) (old + 1) n) (DrawsName (step slots 2 old (old + 1) none) me)
-  names id slots me old is_idle unnamed small s k len here fits =
+  names id slots me old is_idle small s k len here fits =
       let n : ℕ = slice_index s.words 2 in
       let n_is : n ≡ k.seats = ap (λ (ws : List ℕ). slice_index ws 2) k.words in
       exchanged n old (old + 1)
       (λ m. (w : Known D) × (a : Act (Option D)) × Valid s.homes me.1 a × HubHolds reaches start (stepped s 2 m id me.1 w a) × DrawsName (step slots 2 old (old + 1) none) me n (w, carried_after me.1 a))
       (λ e.
       let f = k.fits id me.0 here in
-      let w : Known D = idle me.0.start me.0.seen (n ∷ []) in
-      let seats_is : k.seats ≡ old = sym n_is ∙ e in (
+      let w : Known D = idle me.0.start me.0.seen (n ∷ me.0.names) in
+      let seats_is : k.seats ≡ old = sym n_is ∙ e in
+      let free : times n me.0.names ≡ 0 =
+      let a = total_one (λ (z : Known D). times n z.names) s.views id me.0 here in let b = k.names n in let d = below_no n k.seats (omega arith) in omega arith in (
         w,
         keeps,
         tt,
@@ -80,26 +82,35 @@ module _ {D : Type 0} (reaches : D → List Line → D → Type 0) (start : D) w
               seen = f.seen;
               own = λ x p. dite (ℕ_discrete x n)
                   (λ eq. let none : lines_by x k.history ≡ [] = k.named x (omega arith) in front_none x me.0.seen f.seen.0 (ap (lines_by x) (sym f.seen.1) ∙ none) ∙ sym none)
-                  (λ ne. absurd (let z = same_else x n ne in omega arith));
+                  (λ ne. f.own x (let z = same_else x n ne in omega arith));
               stage = tt;
-              left = no_portion_fits k.history (n ∷ []);
-              right = no_portion_fits k.history (n ∷ []);
+              left = no_portion_fits k.history (n ∷ me.0.names);
+              right = no_portion_fits k.history (n ∷ me.0.names);
             })
             (λ t. let a : holds_ticket t me.0.stage ≡ 0 = ap (holds_ticket t) is_idle in omega arith)
-            (λ x. let a : times x me.0.names ≡ 0 = ap (times x) unnamed in let b = below_suc x old in let c : below x k.seats ≡ below x old = ap (below x) seats_is in let d : equals x n ≡ equals x old = ap (equals x) e in omega arith)
-            (let a : length me.0.names ≡ 0 = ap length unnamed in omega arith)
+            (λ x. let b = below_suc x old in let c : below x k.seats ≡ below x old = ap (below x) seats_is in let d : equals x n ≡ equals x old = ap (equals x) e in omega arith)
+            (omega arith)
             (k.homes.0, k.homes.1, home_same reaches start k.history s.views id me.0 w here (λ t turn. absurd cc) k.homes.0 k.homes.2),
-        ((λ _. refl), (λ ne. absurd (ne e))),
+        ((λ _. (refl, free)), (λ ne. absurd (ne e))),
       ))
       (λ ne. (me.0, keeps, tt, unchanged reaches start s k id me.0 2 here, ((λ e. absurd (ne e)), (λ _. refl))))
+
+  -- both names of a list's first and of its others
+  parted : (n : ℕ) (ns : List ℕ) → times n (other_names ns) + times n (first_name ns) ≡ times n ns
+  parted n [] = refl
+  parted n (x ∷ xs) = omega arith
+
+  parted_length : (ns : List ℕ) → length (other_names ns) + length (first_name ns) ≡ length ns
+  parted_length [] = refl
+  parted_length (x ∷ xs) = omega arith
 
   home_longer : (log : List Line) (views : List (Known D)) (w : Known D) (h : mathlib.Core.Option.Option (Option D)) → IsHome reaches start log views h → IsHome reaches start log (views ++ w ∷ []) h
   home_longer log views w none (j, u, t, there, is) = (j, u, t, at_longer views (w ∷ []) j u there, is)
   home_longer log views w (some None) h = h
   home_longer log views w (some (Some d)) h = h
 
-  pub splits : (id : ℕ) (v : Known D) → Splits (HubHolds reaches start) id v v (newcomer v)
-  splits id v s k here = subst (λ (z : List (Known D)). HubHolds reaches start (record { words = s.words; homes = s.homes; views = z ++ newcomer v ∷ [] })) (sym (set_again s.views id v here)) (record {
+  pub splits : (id : ℕ) (v : Known D) → v.stage ≡ Idle → Splits (HubHolds reaches start) id v (remaining v) (newcomer v)
+  splits id v is_idle s k here = record {
     history = k.history;
     ticket = k.ticket;
     seats = k.seats;
@@ -108,21 +119,54 @@ module _ {D : Type 0} (reaches : D → List Line → D → Type 0) (start : D) w
     ticket_small = k.ticket_small;
     seats_small = k.seats_small;
     named = k.named;
-    fits = λ j u e. ⊎_elim (λ was. k.fits j u was) (λ (is : newcomer v ≡ u). subst (Fits start k.history) is newcomer_fits) (at_snoc s.views (newcomer v) u j e);
-    tickets = λ t. let a = total_snoc (λ (x : Known D). holds_ticket t x.stage) s.views (newcomer v) in let b = k.tickets t in omega arith;
-    names = λ n. let a = total_snoc (λ (x : Known D). times n x.names) s.views (newcomer v) in let b = k.names n in omega arith;
-    whole = let a = total_snoc (λ (x : Known D). length x.names) s.views (newcomer v) in let b = k.whole in omega arith;
-    homes = (k.homes.0, k.homes.1, home_longer k.history s.views (newcomer v) k.homes.0 k.homes.2);
-  })
+    fits = λ j u e. ⊎_elim
+        (λ (was : get_elem? (set s.views id (remaining v)) j ≡ some u). ⊎_elim
+        (λ (r : (j ≡ id) × (remaining v ≡ u)). subst (Fits start k.history) r.1 remaining_fits)
+        (λ (r : (j ≢ id) × (get_elem? s.views j ≡ some u)). k.fits j u r.1)
+        (at_set s.views id j (remaining v) u was))
+        (λ (is : newcomer v ≡ u). subst (Fits start k.history) is newcomer_fits)
+        (at_snoc (set s.views id (remaining v)) (newcomer v) u j e);
+    tickets = λ t.
+        let a = total_snoc (λ (x : Known D). holds_ticket t x.stage) (set s.views id (remaining v)) (newcomer v) in
+        let b = total_set (λ (x : Known D). holds_ticket t x.stage) s.views id v (remaining v) here in
+        let c = k.tickets t in let d : holds_ticket t v.stage ≡ 0 = ap (holds_ticket t) is_idle in omega arith;
+    names = λ n.
+        let a = total_snoc (λ (x : Known D). times n x.names) (set s.views id (remaining v)) (newcomer v) in
+        let b = total_set (λ (x : Known D). times n x.names) s.views id v (remaining v) here in
+        let c = k.names n in let d = parted n v.names in omega arith;
+    whole =
+        let a = total_snoc (λ (x : Known D). length x.names) (set s.views id (remaining v)) (newcomer v) in
+        let b = total_set (λ (x : Known D). length x.names) s.views id v (remaining v) here in
+        let c = k.whole in let d = parted_length v.names in omega arith;
+    homes = (
+      k.homes.0,
+      k.homes.1,
+      home_longer k.history (set s.views id (remaining v)) (newcomer v) k.homes.0
+          (home_same reaches start k.history s.views id v (remaining v) here (λ t turn. absurd cc) k.homes.0 k.homes.2),
+    );
+  }
     where
-      newcomer_fits : Fits start k.history (newcomer v)
-      newcomer_fits = let f = k.fits id v here in record {
+      f : Fits start k.history v
+      f = k.fits id v here
+
+      remaining_fits : Fits start k.history (remaining v)
+      remaining_fits = record {
         started = f.started;
         seen = f.seen;
-        own = λ n p. absurd (omega arith);
+        own = λ n p. f.own n (let d = parted n v.names in omega arith);
         stage = tt;
-        left = no_portion_fits k.history [];
-        right = no_portion_fits k.history [];
+        left = no_portion_fits k.history (other_names v.names);
+        right = no_portion_fits k.history (other_names v.names);
+      }
+
+      newcomer_fits : Fits start k.history (newcomer v)
+      newcomer_fits = record {
+        started = f.started;
+        seen = f.seen;
+        own = λ n p. f.own n (let d = parted n v.names in omega arith);
+        stage = tt;
+        left = no_portion_fits k.history (first_name v.names);
+        right = no_portion_fits k.history (first_name v.names);
       }
 
   pub joins : (id other : ℕ) (v w : Known D) → v.stage ≡ Idle → w.stage ≡ Idle → Joins (HubHolds reaches start) id v other w (merged v w) gone

@@ -22,6 +22,14 @@ no_portion = record { names = []; seen = [] }
 abbrev pub HasPortion : List Line → Portion → Type 0
 HasPortion seen p = (length p.seen ≤ length seen → StartsWith seen p.seen) × ((n : ℕ) → 0 < times n p.names → lines_by n seen ≡ lines_by n p.seen)
 
+abbrev pub first_name : List ℕ → List ℕ
+first_name [] = []
+first_name (n ∷ ns) = n ∷ []
+
+abbrev pub other_names : List ℕ → List ℕ
+other_names [] = []
+other_names (n ∷ ns) = ns
+
 module _ {D : Type 0} where
   abbrev pub idle : Option D → List Line → List ℕ → Known D
   idle start seen names = record { start = start; seen = seen; names = names; stage = Idle; left = no_portion; right = no_portion }
@@ -70,13 +78,19 @@ module _ {D : Type 0} where
   abbrev pub EntersLine : Line → Step (Option D) → Me (Option D) (Known D) → ℕ → Me (Option D) (Known D) → Type 0
   EntersLine line s me n after = after ≡ (idle me.0.start (me.0.seen ++ line ∷ []) me.0.names, [])
 
-  -- it has drawn the name, or the word was another
+  -- it has drawn a name more, which was none of its own, or the word was another
   abbrev pub DrawsName : Step (Option D) → Me (Option D) (Known D) → ℕ → Me (Option D) (Known D) → Type 0
-  DrawsName s me n after = (n ≡ s.first → after ≡ (idle me.0.start me.0.seen (n ∷ []), me.1)) × (n ≢ s.first → after ≡ me)
+  DrawsName s me n after =
+      (n ≡ s.first → (after ≡ (idle me.0.start me.0.seen (n ∷ me.0.names), me.1)) × (times n me.0.names ≡ 0))
+      × (n ≢ s.first → after ≡ me)
 
-  -- a seat that has seen as much, without a name
+  -- a seat that has seen as much, with the name that was drawn last
   abbrev pub newcomer : Known D → Known D
-  newcomer v = idle v.start v.seen []
+  newcomer v = idle v.start v.seen (first_name v.names)
+
+  -- the seat that drew it, without it
+  abbrev pub remaining : Known D → Known D
+  remaining v = idle v.start v.seen (other_names v.names)
 
   -- both names, the longer of both histories, and what each had before
   abbrev pub merged : Known D → Known D → Known D

@@ -36,11 +36,12 @@ pub record IsSeatTurn (old new : SeatView) (event : Event) (reply : Reply) : Typ
   pub named : 0 < times old.name old.names
   pub others : (n : ℕ) → 0 < times n old.names → lines_by n between ≡ []
 
--- A seat of the same hub that has seen as much, with a name of its own.
+-- A seat of the same hub that has seen as much, with a name of its own, for which the other doesn't answer.
 pub record IsSplit (old given : SeatView) : Type 0 where
   pub hub : given.hub ≡ old.hub
   pub seen : given.seen ≡ old.seen
   pub names : given.names ≡ given.name ∷ []
+  pub apart : times given.name old.names ≡ 0
 
 -- The seat has seen the longer of both histories, which begins with both and has no line more under the names of
 -- either. No name was that of both.

@@ -66,7 +66,7 @@ impl<D, E: Entered> Play<Option<D>, Known<D>> for EnterLine<E> {
     ghost then = { EntersLine E.line };
 }
 
-/// A new seat draws its name.
+/// A seat draws the name of a new one.
 pub struct DrawName;
 
 impl<D> Play<Option<D>, Known<D>> for DrawName {
@@ -75,13 +75,13 @@ impl<D> Play<Option<D>, Known<D>> for DrawName {
     ghost then = { DrawsName };
 }
 
-/// A new seat gets what another has seen.
+/// A new seat gets what another has seen, and the name that it drew last.
 pub struct Copy;
 
 impl<D> Split<Known<D>> for Copy {
-    ghost use Rattle.session_hub.specs.Plays.{newcomer};
+    ghost use Rattle.session_hub.specs.Plays.{newcomer, remaining};
 
-    ghost left = { λ v. v };
+    ghost left = { remaining };
 
     ghost right = { newcomer };
 }

@@ -187,8 +187,8 @@ impl<K: Keeper> Seat<K> {
         ensures same { self.new ≡ self.old }
         ensures split { IsSplit self.old result }
     {
-        let mut place = hub.copy_place(&mut self.place);
-        let name = hub.draw_name(rt, &mut place);
+        let name = hub.draw_name(rt, &mut self.place);
+        let place = hub.copy_place(&mut self.place);
         Seat {
             place,
             name,

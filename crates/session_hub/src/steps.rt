@@ -1,7 +1,7 @@
 //! The steps of which turns, splits and joins are made.
 ghost use Rattle.std.specs.Prelude.{◌≡◌, ◌<◌, [], ◌∷◌, ◌++◌, length};
-ghost use Rattle.session_hub.specs.Lines.{Replays};
-ghost use Rattle.session_hub.specs.Plays.{HasDesk, MayEnter, Merges, idle, newcomer, with_stage};
+ghost use Rattle.session_hub.specs.Lines.{Replays, times};
+ghost use Rattle.session_hub.specs.Plays.{HasDesk, MayEnter, Merges, idle, newcomer, remaining, with_stage};
 ghost use Rattle.session_hub.specs.declared.known.Stage.TheVariants.{Idle, Waits};
 ghost use Rattle.tailnet_desk.specs.Seated.{point_of};
 
@@ -125,13 +125,17 @@ impl<K: Keeper> Hub<K> {
         }
     }
 
-    /// Gives a new seat its name. Once the names are used up it doesn't return.
+    /// Draws a name for a new seat, which the seat at this place takes for now. Once the names are used up
+    /// it doesn't return.
     pub(crate) fn draw_name<R: Wait>(&self, rt: &R, place: &mut Place<K>) -> u64
         requires table { place.old.table_id ≡ self.now.table }
-        requires idle { (place.old.me.0.stage ≡ Idle) × (place.old.me.0.names ≡ []) }
+        requires idle { place.old.me.0.stage ≡ Idle }
         ensures same { (place.new.table_id ≡ place.old.table_id) × (place.new.id ≡ place.old.id) }
-        ensures named { place.new.me
-            ≡ (idle place.old.me.0.start place.old.me.0.seen (result ∷ []), place.old.me.1) }
+        ensures named { place.new.me ≡ (
+          idle place.old.me.0.start place.old.me.0.seen (result ∷ place.old.me.0.names),
+          place.old.me.1,
+        ) }
+        ensures apart { times result place.old.me.0.names ≡ 0 }
     {
         let shared = &self.table.shared;
         for _ in rt.forever() {
@@ -147,10 +151,12 @@ impl<K: Keeper> Hub<K> {
         unreachable!()
     }
 
-    /// A place that has seen as much, with no name.
+    /// A place that has seen as much, with the name that was drawn last.
     pub(crate) fn copy_place(&self, place: &mut Place<K>) -> Place<K>
         requires table { place.old.table_id ≡ self.now.table }
-        ensures same { (place.new.table_id ≡ place.old.table_id) × (place.new.me ≡ place.old.me) }
+        requires idle { place.old.me.0.stage ≡ Idle }
+        ensures same { (place.new.table_id ≡ place.old.table_id)
+            × (place.new.me ≡ (remaining place.old.me.0, place.old.me.1)) }
         ensures given { (result.table_id ≡ place.old.table_id)
             × (result.me ≡ (newcomer place.old.me.0, [])) }
     {

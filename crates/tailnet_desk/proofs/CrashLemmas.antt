@@ -9,14 +9,13 @@ use Rattle.desk_state.specs.Decisions.{rows_after}
 use Rattle.desk_state.specs.State.{State, at_moment}
 use Rattle.desk_state.specs.declared.decision.Decision.{Decision}
 use Rattle.tailnet_desk.specs.Carried.{Carried}
-use Rattle.tailnet_desk.specs.Crashes.{IfDone, LeavesAlso, LeavesOnly}
-use Rattle.tailnet_desk.specs.History.{ChangesRows}
+use Rattle.tailnet_desk.specs.Crashes.{IfDone, IsSafeTurn, LeavesAlso, LeavesOnly, left_behind}
 use Rattle.tailnet_desk.specs.Seated.{Keeping, Seated}
-use Rattle.tailnet_desk.specs.Step.{decision, outcome, settled, step}
+use Rattle.tailnet_desk.specs.Step.{decision, outcome, step}
 use Rattle.tailnet_desk.specs.declared.ask.Ask.{Ask}
+use Rattle.tailnet_desk.specs.declared.entry.Event.{Event}
 use Rattle.tailnet_desk.specs.declared.entry.Event.TheVariants as event
 use Rattle.tailnet_desk.specs.declared.reply.Answer.{Answer}
-use Rattle.tailnet_desk.specs.declared.reply.Loss.TheVariants.{NoMemory, KeeperFault}
 use Rattle.tailnet_desk.specs.declared.reply.Reply.{Reply}
 use Rattle.tailnet_desk.specs.declared.reply.Reply.TheVariants.{Done, Attached, Frames, Ended, Detached, Refused, Lost}
 
@@ -80,46 +79,71 @@ rows_are : (s : State) (x : Ask) (m : ℤ) (words : Option (List ℕ)) (d : Deci
     → (step s (event.Ask x m words)).state.rows ≡ rows_after s.rows d.change
 rows_are s x m words d is = ap (λ r. (outcome (at_moment s m) r).state.rows) is
 
--- an ask whose decision is carried out or not, at a desk whose time was brought forward before
-pub carried_leaves : {K : Type 0} (told : K → Option Rows) (is_clean : K → Bool) (may_leave : K → Option Rows → Type 0) (was q : Seated K) (mid : State) (keeper : K)
-    (x : Ask) (m : ℤ) (words : Option (List ℕ)) (d : Decision Answer)
-    → mid ≡ at_moment was.state m → keeper ≡ was.keeper → decision mid x words ≡ Ok d
-    → LeavesAlso told is_clean may_leave keeper (rows_after mid.rows d.change) q.keeper
-    → LeavesAlso told is_clean may_leave was.keeper (step was.state (event.Ask x m words)).state.rows q.keeper
-carried_leaves told is_clean may_leave was q mid keeper x m words d mid_is keeper_is is leaves =
-    let is' : decision (at_moment was.state m) x words ≡ Ok d = subst (λ s. decision s x words ≡ Ok d) mid_is is in
-    let at_state : LeavesAlso told is_clean may_leave keeper (rows_after was.state.rows d.change) q.keeper =
-    subst (λ (s : State). LeavesAlso told is_clean may_leave keeper (rows_after s.rows d.change) q.keeper) mid_is leaves in
-    let at_keeper : LeavesAlso told is_clean may_leave was.keeper (rows_after was.state.rows d.change) q.keeper =
-    subst (λ k. LeavesAlso told is_clean may_leave k (rows_after was.state.rows d.change) q.keeper) keeper_is at_state in
-    subst (λ rows. LeavesAlso told is_clean may_leave was.keeper rows q.keeper) (sym (rows_are was.state x m words d is')) at_keeper
-
 -- a change that differs is there
 lasts_changed : (change : Option Change) (rows : Rows) (holds : Rows → Type 0) → IfSome change (λ c. holds (rows_after rows change))
     → rows_after rows change ≢ rows → holds (rows_after rows change)
 lasts_changed None rows holds h differs = absurd (differs refl)
 lasts_changed (Some c) rows holds h differs = h
 
-pub carried_lasts : {K : Type 0} (told : K → Option Rows) (is_clean : K → Bool) (may_leave : K → Option Rows → Type 0) (was q : Seated K) (mid : State) (keeper : K)
+-- what is carried out or lost behind a decision
+decided_safe : {K : Type 0} (told : K → Option Rows) (is_clean : K → Bool) (may_leave : K → Option Rows → Type 0) (was q : Seated K)
+    (x : Ask) (m : ℤ) (words : Option (List ℕ)) (d : Decision Answer) (reply : Reply) (k l : Keeping)
+    → decision (at_moment was.state m) x words ≡ Ok d → Carried (at_moment was.state m) d reply q.state k l
+    → LeavesAlso told is_clean may_leave was.keeper (rows_after was.state.rows d.change) q.keeper
+    → IfDone reply (IfSome d.change (λ c. LeavesOnly told is_clean may_leave was.keeper (rows_after was.state.rows d.change) q.keeper))
+    → IsSafeTurn told is_clean may_leave was (event.Ask x m words) reply q
+decided_safe told is_clean may_leave was q x m words d (Done answer) k l is c also lasts =
+    let stepped = sym (rows_are was.state x m words d is) in
+    let also' = subst (λ rows. LeavesAlso told is_clean may_leave was.keeper rows q.keeper) stepped also in
+    record {
+      clean = also'.clean;
+      crash = λ clean tells found may. (
+        also'.crash clean tells found may,
+        (λ changes. subst (λ rows. found ≡ Some rows) stepped
+          (lasts_changed d.change was.state.rows (λ rows. LeavesOnly told is_clean may_leave was.keeper rows q.keeper) lasts
+            (λ same. changes (rows_are was.state x m words d is ∙ same)) clean tells found may)),
+      );
+    }
+decided_safe told is_clean may_leave was q x m words d (Attached handle seq resumed may_wait) k l is c also lasts = absurd c
+decided_safe told is_clean may_leave was q x m words d (Frames responses) k l is c also lasts = absurd c
+decided_safe told is_clean may_leave was q x m words d Ended k l is c also lasts = absurd c
+decided_safe told is_clean may_leave was q x m words d Detached k l is c also lasts = absurd c
+decided_safe told is_clean may_leave was q x m words d (Refused r) k l is c also lasts = absurd c
+decided_safe told is_clean may_leave was q x m words d (Lost loss) k l is c also lasts =
+    let also' = subst (λ rows. LeavesAlso told is_clean may_leave was.keeper rows q.keeper) (sym (rows_are was.state x m words d is)) also in
+    record { clean = also'.clean; crash = also'.crash }
+
+-- the same at a desk whose time was brought forward before
+pub carried_safe : {K : Type 0} (told : K → Option Rows) (is_clean : K → Bool) (may_leave : K → Option Rows → Type 0) (was q : Seated K) (mid : State) (keeper : K)
     (x : Ask) (m : ℤ) (words : Option (List ℕ)) (d : Decision Answer) (reply : Reply) (k l : Keeping)
     → mid ≡ at_moment was.state m → keeper ≡ was.keeper → decision mid x words ≡ Ok d → Carried mid d reply q.state k l
+    → LeavesAlso told is_clean may_leave keeper (rows_after mid.rows d.change) q.keeper
     → IfDone reply (IfSome d.change (λ c. LeavesOnly told is_clean may_leave keeper (rows_after mid.rows d.change) q.keeper))
-    → IfDone reply (ChangesRows was.state (event.Ask x m words) → LeavesOnly told is_clean may_leave was.keeper q.state.rows q.keeper)
-carried_lasts told is_clean may_leave was q mid keeper x m words d (Done answer) k l mid_is keeper_is is c lasts changes =
+    → IsSafeTurn told is_clean may_leave was (event.Ask x m words) reply q
+carried_safe told is_clean may_leave was q mid keeper x m words d reply k l mid_is keeper_is is c also lasts =
     let is' : decision (at_moment was.state m) x words ≡ Ok d = subst (λ s. decision s x words ≡ Ok d) mid_is is in
-    let c' : q.state ≡ settled (at_moment was.state m) d.change d.policy d.ended d.offline =
-    subst (λ s. q.state ≡ settled s d.change d.policy d.ended d.offline) mid_is c.1 in
-    let at_state : IfSome d.change (λ c. LeavesOnly told is_clean may_leave keeper (rows_after was.state.rows d.change) q.keeper) =
-    subst (λ (s : State). IfSome d.change (λ c. LeavesOnly told is_clean may_leave keeper (rows_after s.rows d.change) q.keeper)) mid_is lasts in
-    let at_keeper : IfSome d.change (λ c. LeavesOnly told is_clean may_leave was.keeper (rows_after was.state.rows d.change) q.keeper) =
-    subst (λ y. IfSome d.change (λ c. LeavesOnly told is_clean may_leave y (rows_after was.state.rows d.change) q.keeper)) keeper_is at_state in
-    subst (λ rows. LeavesOnly told is_clean may_leave was.keeper rows q.keeper) (sym (ap (λ (s : State). s.rows) c'))
-    (lasts_changed d.change was.state.rows (λ rows. LeavesOnly told is_clean may_leave was.keeper rows q.keeper) at_keeper
-      (λ same. changes (rows_are was.state x m words d is' ∙ same)))
-carried_lasts told is_clean may_leave was q mid keeper x m words d (Attached handle seq resumed may_wait) k l mid_is keeper_is is c lasts = tt
-carried_lasts told is_clean may_leave was q mid keeper x m words d (Frames responses) k l mid_is keeper_is is c lasts = tt
-carried_lasts told is_clean may_leave was q mid keeper x m words d Ended k l mid_is keeper_is is c lasts = tt
-carried_lasts told is_clean may_leave was q mid keeper x m words d Detached k l mid_is keeper_is is c lasts = tt
-carried_lasts told is_clean may_leave was q mid keeper x m words d (Refused r) k l mid_is keeper_is is c lasts = tt
-carried_lasts told is_clean may_leave was q mid keeper x m words d (Lost NoMemory) k l mid_is keeper_is is c lasts = tt
-carried_lasts told is_clean may_leave was q mid keeper x m words d (Lost KeeperFault) k l mid_is keeper_is is c lasts = tt
+    let c' : Carried (at_moment was.state m) d reply q.state k l = subst (λ s. Carried s d reply q.state k l) mid_is c in
+    let also' : LeavesAlso told is_clean may_leave was.keeper (rows_after was.state.rows d.change) q.keeper =
+    subst (λ y. LeavesAlso told is_clean may_leave y (rows_after was.state.rows d.change) q.keeper) keeper_is
+    (subst (λ (s : State). LeavesAlso told is_clean may_leave keeper (rows_after s.rows d.change) q.keeper) mid_is also) in
+    let lasts' : IfDone reply (IfSome d.change (λ c. LeavesOnly told is_clean may_leave was.keeper (rows_after was.state.rows d.change) q.keeper)) =
+    subst (λ y. IfDone reply (IfSome d.change (λ c. LeavesOnly told is_clean may_leave y (rows_after was.state.rows d.change) q.keeper))) keeper_is
+    (subst (λ (s : State). IfDone reply (IfSome d.change (λ c. LeavesOnly told is_clean may_leave keeper (rows_after s.rows d.change) q.keeper))) mid_is lasts) in
+    decided_safe told is_clean may_leave was q x m words d reply k l is' c' also' lasts'
+
+-- a keeper that stays as it was, where nothing was carried out
+pub kept_safe : {K : Type 0} (told : K → Option Rows) (is_clean : K → Bool) (may_leave : K → Option Rows → Type 0) (p : Seated K) (e : Event) (reply : Reply) (q : Seated K)
+    → IfDone reply ⊥ → q.keeper ≡ p.keeper → IsSafeTurn told is_clean may_leave p e reply q
+kept_safe told is_clean may_leave p e reply q undone same = record {
+  clean = subst (λ k. IsTrue (is_clean k)) same;
+  crash = λ clean tells found may. left reply undone found (subst (λ k. may_leave k found) same may);
+}
+  where
+    left : (r : Reply) → IfDone r ⊥ → (found : Option Rows) → may_leave p.keeper found → left_behind p.state e r (may_leave p.keeper) found
+    left (Done answer) undone found may = absurd undone
+    left (Attached handle seq resumed may_wait) undone found may = may
+    left (Frames responses) undone found may = may
+    left Ended undone found may = may
+    left Detached undone found may = may
+    left (Refused r) undone found may = may
+    left (Lost loss) undone found may = inl may

@@ -1,15 +1,49 @@
 -- What an open after a crash may find, from a call to the next.
-use Rattle.std.specs.Prelude.{◌≡◌, ◌⊎◌, Bool, Option, Some, IsSome, IsTrue, ⊤}
+use Rattle.std.specs.Prelude.{◌≡◌, ◌⊎◌, Bool, List, [], ◌∷◌, Option, Some, IsSome, IsTrue, ⊤}
 use Rattle.net_rows.specs.declared.rows.Rows.{Rows}
+use Rattle.desk_state.specs.State.{State}
+use Rattle.tailnet_desk.specs.History.{ChangesRows, state_after}
+use Rattle.tailnet_desk.specs.Seated.{Seated}
+use Rattle.tailnet_desk.specs.Step.{step}
+use Rattle.tailnet_desk.specs.declared.entry.Entry.{Entry}
+use Rattle.tailnet_desk.specs.declared.entry.Event.{Event}
 use Rattle.tailnet_desk.specs.declared.reply.Reply.{Reply}
 use Rattle.tailnet_desk.specs.declared.reply.Reply.TheVariants.{Done, Attached, Frames, Ended, Detached, Refused, Lost}
 
--- A keeper that tells its rows becomes another: a crash then leaves what it might have left before, or these rows. A disk
--- that is clean now was clean before; where it isn't, nothing is said.
+-- what might be found before, or these rows
+abbrev pub OrThese : Rows → (Option Rows → Type 0) → Option Rows → Type 0
+OrThese rows before found = before found ⊎ (found ≡ Some rows)
+
+-- What may be found behind a call, by what might be found before it. Where an ask was carried out: the rows of the step
+-- alone, if it changed rows. Where it was lost: these, or what might be found before it. A refusal and a poll leave that.
+abbrev pub left_behind : State → Event → Reply → (Option Rows → Type 0) → Option Rows → Type 0
+left_behind s e (Done answer) before found =
+    OrThese (step s e).state.rows before found × (ChangesRows s e → found ≡ Some (step s e).state.rows)
+left_behind s e (Attached handle seq resumed may_wait) before found = before found
+left_behind s e (Frames responses) before found = before found
+left_behind s e Ended before found = before found
+left_behind s e Detached before found = before found
+left_behind s e (Refused refusal) before found = before found
+left_behind s e (Lost loss) before found = OrThese (step s e).state.rows before found
+
+-- what may be found behind a history
+abbrev pub left_by_history : State → List Entry → (Option Rows → Type 0) → Option Rows → Type 0
+left_by_history s [] before found = before found
+left_by_history s (e ∷ es) before found = left_by_history (state_after s e.event e.reply) es (left_behind s e.event e.reply before) found
+
+-- A call of a desk whose keeper told rows, and whose disk is clean behind it: it was clean before, and a crash leaves no
+-- more than that.
+pub record IsSafeTurn {K : Type 0} (told : K → Option Rows) (is_clean : K → Bool) (may_leave : K → Option Rows → Type 0)
+    (p : Seated K) (e : Event) (reply : Reply) (q : Seated K) : Type 0 where
+  pub clean : IsTrue (is_clean q.keeper) → IsTrue (is_clean p.keeper)
+  pub crash : IsTrue (is_clean q.keeper) → IsSome (told p.keeper) → (found : Option Rows)
+      → may_leave q.keeper found → left_behind p.state e reply (may_leave p.keeper) found
+
+-- A keeper that tells its rows becomes another: a crash then leaves what it might have left before, or these rows.
 pub record LeavesAlso {K : Type 0} (told : K → Option Rows) (is_clean : K → Bool) (may_leave : K → Option Rows → Type 0)
     (k : K) (rows : Rows) (l : K) : Type 0 where
   pub clean : IsTrue (is_clean l) → IsTrue (is_clean k)
-  pub crash : IsTrue (is_clean l) → IsSome (told k) → (found : Option Rows) → may_leave l found → may_leave k found ⊎ (found ≡ Some rows)
+  pub crash : IsTrue (is_clean l) → IsSome (told k) → (found : Option Rows) → may_leave l found → OrThese rows (may_leave k) found
 
 -- the same, and then a crash leaves these rows alone
 abbrev pub LeavesOnly : {K : Type 0} → (K → Option Rows) → (K → Bool) → (K → Option Rows → Type 0) → K → Rows → K → Type 0

@@ -11,11 +11,9 @@ ghost use Rattle.std.specs.Option.{option_or};
 ghost use Rattle.desk_state.specs.Decisions.{rows_after};
 ghost use Rattle.tailnet_desk.specs.Asks.{IsShort};
 ghost use Rattle.tailnet_desk.specs.Carried.{Carried, Kept, reply_of};
-ghost use Rattle.tailnet_desk.specs.Crashes.{IfDone, LeavesAlso, LeavesOnly};
-ghost use Rattle.tailnet_desk.specs.History.{ChangesRows};
+ghost use Rattle.tailnet_desk.specs.Crashes.{IfDone, IsSafeTurn, LeavesAlso, LeavesOnly};
 ghost use Rattle.tailnet_desk.specs.Opening.{opening, unread_policy};
 ghost use Rattle.tailnet_desk.specs.Seated.{IsInForce, keeping_of, point_of};
-ghost use Rattle.tailnet_desk.specs.Step.{step};
 ghost use Rattle.tailnet_desk.specs.Turns.{IsTurn};
 ghost use Rattle.tailnet_desk.specs.declared.entry.Event.TheVariants as event;
 
@@ -336,11 +334,8 @@ impl<K: Keeper> Desk<K> {
         requires short { IsShort ask.now }
         ensures turn { IsTurn (point_of K.told K.faults K.calls self.old)
             (event.Ask ask.now moment words) result (point_of K.told K.faults K.calls self.new) }
-        ensures crash { LeavesAlso K.told K.is_clean K.may_leave self.old.keeper
-            (step self.old.state (event.Ask ask.now moment words)).state.rows self.new.keeper }
-        ensures durable { IfDone result (ChangesRows self.old.state (event.Ask ask.now moment words)
-            → LeavesOnly K.told K.is_clean K.may_leave self.old.keeper self.new.state.rows
-            self.new.keeper) }
+        ensures safe { IsSafeTurn K.told K.is_clean K.may_leave self.old
+            (event.Ask ask.now moment words) result self.new }
     {
         self.time = self.time.or_later(moment);
         let at = self.snapshot();
@@ -355,8 +350,8 @@ impl<K: Keeper> Desk<K> {
     /// One event: its reply is the machine's, or out of memory, or a fault of the keeper. The lists and
     /// texts of the ask are within the limits of rows.
     ///
-    /// A crash from then on leaves what it might have left before, or the rows of the step; where the ask
-    /// was carried out and changed rows, these alone.
+    /// A crash then leaves the rows of the step alone where the ask was carried out and changed rows; where
+    /// it was lost, these or what it might have left before.
     pub fn ask(
         &mut self,
         alloc: Global,
@@ -367,11 +362,8 @@ impl<K: Keeper> Desk<K> {
         requires short { IsShort ask.now }
         ensures turn { IsTurn (point_of K.told K.faults K.calls self.old)
             (event.Ask ask.now moment words) result (point_of K.told K.faults K.calls self.new) }
-        ensures crash { LeavesAlso K.told K.is_clean K.may_leave self.old.keeper
-            (step self.old.state (event.Ask ask.now moment words)).state.rows self.new.keeper }
-        ensures durable { IfDone result (ChangesRows self.old.state (event.Ask ask.now moment words)
-            → LeavesOnly K.told K.is_clean K.may_leave self.old.keeper self.new.state.rows
-            self.new.keeper) }
+        ensures safe { IsSafeTurn K.told K.is_clean K.may_leave self.old
+            (event.Ask ask.now moment words) result self.new }
     {
         self.expand_for(alloc, ask, moment);
         self.asked(alloc, ask, moment, words)

@@ -4,6 +4,7 @@ use Rattle.settings.specs.Settings.{AreSettings}
 use Rattle.desk_state.specs.State.{State}
 use Rattle.tailnet_desk.specs.Seated.{Seated}
 use Rattle.tailnet_desk.specs.Step.{decision}
+use Rattle.tailnet_desk.proofs.CrashLemmas.{carried_safe}
 use Rattle.tailnet_desk.proofs.Decisions.{decision_in_force, decision_sound}
 use Rattle.tailnet_desk.proofs.TurnLemmas.{at_later, carried_at, each_holds, each_of, state_with}
 use Rattle.tailnet_desk.proofs.desk.Desk.asked.Goals as goal
@@ -40,4 +41,7 @@ returns-in-Ok g c =
           c.args.ask.now c.args.moment c.args.words c.in-Ok.decision c.carry.result later (ap (λ (d : Seated _). d.keeper) c.self.view_is) c.requires.short
           is (decision_sound s c.args.ask.now c.args.words settings_hold tables_hold c.requires.short)
           c.carry.ensures.carried c.carry.ensures.later c.carry.ensures.told c.carry.ensures.before;
+      safe = carried_safe g.K.Keeper.told g.K.Keeper.is_clean g.K.Keeper.may_leave c.args.self.now c.carry.new.self s desk.keeper
+          c.args.ask.now c.args.moment c.args.words c.in-Ok.decision c.carry.result _ _ later (ap (λ (d : Seated _). d.keeper) c.self.view_is)
+          is c.carry.ensures.carried c.carry.ensures.crash c.carry.ensures.durable;
     }
