@@ -100,7 +100,7 @@ decided_safe told is_clean may_leave was q x m words d (Done answer) k l is c al
       crash = λ clean tells found may. (
         also'.crash clean tells found may,
         (λ changes. subst (λ rows. found ≡ Some rows) stepped
-          (lasts_changed d.change was.state.rows (λ rows. LeavesOnly told is_clean may_leave was.keeper rows q.keeper) lasts
+            (lasts_changed d.change was.state.rows (λ rows. LeavesOnly told is_clean may_leave was.keeper rows q.keeper) lasts
             (λ same. changes (rows_are was.state x m words d is ∙ same)) clean tells found may)),
       );
     }

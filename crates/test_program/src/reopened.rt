@@ -102,7 +102,8 @@ fn answers<R: Threads + Wait + Sync>(
 }
 
 /// Two machines register, the second by a key that may be used once, and a third is refused.
-const REGISTRATIONS: &str = r#"> POST /machine/register mkey:%1 {"Auth":{"AuthKey":"k1"},"Hostinfo":{"Hostname":"Alice's MacBook Pro!"},"NodeKey":"nodekey:%a"}
+const REGISTRATIONS: &str =
+    r#"> POST /machine/register mkey:%1 {"Auth":{"AuthKey":"k1"},"Hostinfo":{"Hostname":"Alice's MacBook Pro!"},"NodeKey":"nodekey:%a"}
 > POST /api/v1/preauthkey Bearer/secret {"user":"seed@","reusable":false}
 > POST /machine/register mkey:%2 {"Auth":{"AuthKey":"tnkey-2-0000000000000001000000000000000200000000000000030000000000000004"},"NodeKey":"nodekey:%b"}
 > POST /machine/register mkey:%2 {"Auth":{"AuthKey":"tnkey-2-0000000000000001000000000000000200000000000000030000000000000004"},"NodeKey":"nodekey:%b"}

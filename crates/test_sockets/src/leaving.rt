@@ -133,7 +133,10 @@ fn is_offline_then<R: Threads + Wait + Clock + Copy + Send + Sync + Drop>(
 #[test]
 fn a_machine_whose_client_left_is_offline(rt: HostRuntime) -> Result<(), Fail> {
     for (row, (plan, is_begun)) in PLANS.iter().enumerate() {
-        assert!(rt; is_offline_then(rt, rt.alloc(), *plan, *is_begun)?, "row {row}");
+        assert!(rt;
+            is_offline_then(rt, rt.alloc(), *plan, *is_begun)?,
+            "row {row}"
+        );
     }
     Ok(())
 }

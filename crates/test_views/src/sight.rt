@@ -3,7 +3,9 @@ ghost use Rattle.std.specs.Prelude.{◌≡◌, ◌++◌, Contains, IfOk, OnOk};
 ghost use Rattle.fresh_maps.specs.Fresh.{node_seen};
 ghost use Rattle.peer_view.specs.Seen.{node_with, sites_seen, visible};
 
-use peer_view::{LiveMachine, Near, Steps, World, pair_test, routers_of, sees, sees_machine, shown};
+use peer_view::{
+    LiveMachine, Near, Steps, World, pair_test, routers_of, sees, sees_machine, shown,
+};
 use policy_sites::Site;
 use std::alloc::Global;
 use std::marker::Brand;

@@ -60,7 +60,10 @@ fn pairs_are_told_by_their_ids(rt: HostRuntime) -> Result<(), Fail> {
     let world = World::new(&settings, &tables, policy, &expanded, LIVE, &[1]);
     for (viewer, peer, reaches, sees) in PAIRS {
         let (is_reached, is_seen) = reached_and_seen(&world, *viewer, *peer);
-        assert!(rt; is_reached == *reaches && is_seen == *sees, "{viewer} {peer}");
+        assert!(rt;
+            is_reached == *reaches && is_seen == *sees,
+            "{viewer} {peer}"
+        );
     }
     Ok(())
 }
