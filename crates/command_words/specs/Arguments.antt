@@ -4,9 +4,14 @@ use Rattle.std.specs.List.{list_all}
 use Rattle.std.specs.Str.{bytes_eq}
 use Rattle.clap.specs.Words.{Row, Text, first_of}
 use Rattle.tail_base.specs.Numerals.{number_in}
+use Rattle.tail_base.specs.OptionSteps.{◌>>=◌}
+use Rattle.net_addr.specs.AddrTexts.{addr_of_text}
+use Rattle.net_addr.specs.Bits.{Address}
+use Rattle.port_sets.specs.Protocols.{proto_of_text}
 use Rattle.command_words.specs.Lines.{name_of}
 use Rattle.command_words.specs.declared.argument.Argument.{Argument}
 use Rattle.command_words.specs.declared.argument.Argument.TheVariants as argument
+use Rattle.command_words.specs.declared.asked_flow.AskedFlow.{AskedFlow}
 use Rattle.command_words.specs.declared.invocation.Invocation.{Invocation}
 use Rattle.command_words.specs.declared.invocation.Invocation.TheVariants as asked
 use Rattle.command_words.specs.declared.invocation.OperatorCall.{OperatorCall}
@@ -61,6 +66,31 @@ pipe_with settings (Some key) = if is_seed_key key then Some (asked.Pipe setting
 abbrev pub pipe_of : List Row → Option Invocation
 pipe_of rows = pipe_with (given_text argument.Settings rows) (given_option argument.Seed rows)
 
+-- the one address that an argument is, without brackets and without a length
+abbrev pub given_addr : Argument → List Row → Option Address
+given_addr x rows = addr_of_text (given_text x rows)
+
+-- the protocol of a flow, as a policy names one: a name in small letters, or a number from 1 to 255
+abbrev pub given_proto : List Row → Option ℕ
+given_proto rows = proto_of_text (given_text argument.Proto rows)
+
+-- the port of a flow
+abbrev pub given_port : List Row → Option ℕ
+given_port rows = number_in 5 0 65535 (given_text argument.Port rows)
+
+-- the flow, if each word of it is read
+unfoldable pub flow_of : List Row → Option AskedFlow
+flow_of rows = do
+  source ← given_addr argument.Source rows
+  dest ← given_addr argument.Dest rows
+  proto ← given_proto rows
+  port ← given_port rows
+  Some (record { source = source; dest = dest; proto = proto; port = port })
+
+-- what is asked, if each word of the flow is read
+abbrev pub explain_of : List Row → Option Invocation
+explain_of rows = option_map (λ flow. asked.Explain (given_text argument.Settings rows) flow) (flow_of rows)
+
 abbrev pub key_add_of : List Row → OperatorCommand
 key_add_of rows = command.KeyAdd (given_text argument.Login rows) (is_set argument.Reusable rows)
     (is_set argument.Ephemeral rows) (given_option argument.Expiry rows) (given_option argument.Tags rows)
@@ -94,18 +124,22 @@ call_of rows c = record { server = given_text argument.Server rows; token = give
 abbrev pub operator_of : OperatorKind → List Row → Option Invocation
 operator_of k rows = option_map (λ c. asked.Operator (call_of rows c)) (operator_command_of k rows)
 
--- what a command's arguments ask, if a number and the seed key keep their rules
+-- what a command's arguments ask, if numbers, the seed key and a flow's words keep their rules
 unfoldable pub asked_of : CommandKind → List Row → Option Invocation
 asked_of kind.Pipe rows = pipe_of rows
 asked_of kind.Serve rows = Some (asked.Serve (given_text argument.Settings rows))
 asked_of kind.PolicyCheck rows = Some (asked.PolicyCheck (given_text argument.File rows))
 asked_of kind.Load rows = load_of rows
+asked_of kind.Explain rows = explain_of rows
+asked_of kind.Reach rows = Some (asked.Reach (given_text argument.Settings rows))
 asked_of (kind.Operator k) rows = operator_of k rows
 
 -- a load has a machine
 abbrev pub HasLoadMachine : Option Invocation → Type 0
 HasLoadMachine None = Unit {0}
 HasLoadMachine (Some (asked.Load machines events)) = 0 < machines
+HasLoadMachine (Some (asked.Explain settings flow)) = Unit {0}
+HasLoadMachine (Some (asked.Reach settings)) = Unit {0}
 HasLoadMachine (Some (asked.Pipe settings seed)) = Unit {0}
 HasLoadMachine (Some (asked.Serve settings)) = Unit {0}
 HasLoadMachine (Some (asked.PolicyCheck file)) = Unit {0}

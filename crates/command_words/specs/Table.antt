@@ -3,9 +3,9 @@ use Rattle.std.specs.Prelude.{List, [], ◌∷◌, ◌++◌, codes}
 use Rattle.std.specs.Borrow.{Bor}
 use Rattle.clap.specs.Words.{Text}
 use Rattle.command_words.specs.declared.argument.Argument.{Argument}
-use Rattle.command_words.specs.declared.argument.Argument.TheVariants.{Ephemeral, Events, Expiry, File, Id, List as ListArgument, Login, Machines, Name, Pending, Reusable, Seed, Server, Settings, Tags, Token}
+use Rattle.command_words.specs.declared.argument.Argument.TheVariants.{Dest, Ephemeral, Events, Expiry, File, Id, List as ListArgument, Login, Machines, Name, Pending, Port, Proto, Reusable, Seed, Server, Settings, Source, Tags, Token}
 use Rattle.command_words.specs.declared.line.CommandKind.{CommandKind}
-use Rattle.command_words.specs.declared.line.CommandKind.TheVariants.{Load, Operator, Pipe, PolicyCheck, Serve}
+use Rattle.command_words.specs.declared.line.CommandKind.TheVariants.{Explain, Load, Operator, Pipe, PolicyCheck, Reach, Serve}
 use Rattle.command_words.specs.declared.line.OperatorKind.{OperatorKind}
 use Rattle.command_words.specs.declared.line.OperatorKind.TheVariants as operator
 
@@ -24,6 +24,8 @@ lines =
     ∷ (codes "serve", Serve, Settings ∷ [])
     ∷ (codes "policy-check", PolicyCheck, File ∷ [])
     ∷ (codes "load", Load, Machines ∷ Events ∷ [])
+    ∷ (codes "explain", Explain, Settings ∷ Source ∷ Dest ∷ Proto ∷ Port ∷ [])
+    ∷ (codes "reach", Reach, Settings ∷ [])
     ∷ operator_line (codes "user-list") operator.UserList []
     ∷ operator_line (codes "user-add") operator.UserAdd (Name ∷ [])
     ∷ operator_line (codes "user-del") operator.UserDel (Login ∷ [])

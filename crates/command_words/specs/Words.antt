@@ -31,7 +31,7 @@ abbrev pub asked_by : List Text → CommandLine → Option Invocation
 asked_by words line = asked_in (app_of_line line.0 line.2) line.1 words
 
 -- What the words ask. They are a command where the first is the name of a line of the table, `clap` takes them for that line,
--- and a number and the seed key keep their rules.
+-- and numbers, the seed key and a flow's words keep their rules.
 unfoldable pub invocation_of : List Text → Option Invocation
 invocation_of [] = None
 invocation_of (name ∷ words) = option_and_then (asked_by (name ∷ words)) (table_line name)

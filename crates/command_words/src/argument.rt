@@ -27,6 +27,10 @@ pub enum Argument {
     Pending,
     Machines,
     Events,
+    Source,
+    Dest,
+    Proto,
+    Port,
     Server,
     Token,
     Seed,
@@ -51,6 +55,10 @@ impl Argument {
             Argument::Pending => "PENDING",
             Argument::Machines => "N",
             Argument::Events => "M",
+            Argument::Source => "SRC",
+            Argument::Dest => "DST",
+            Argument::Proto => "PROTO",
+            Argument::Port => "PORT",
             Argument::Server => "server",
             Argument::Token => "token",
             Argument::Seed => "seed",
@@ -74,7 +82,11 @@ impl Argument {
             | Argument::List
             | Argument::Pending
             | Argument::Machines
-            | Argument::Events => Form::Positional,
+            | Argument::Events
+            | Argument::Source
+            | Argument::Dest
+            | Argument::Proto
+            | Argument::Port => Form::Positional,
             Argument::Server | Argument::Token => Form::Required,
             Argument::Seed | Argument::Expiry | Argument::Tags => Form::Optional,
             Argument::Reusable | Argument::Ephemeral => Form::Flag,

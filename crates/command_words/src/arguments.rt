@@ -2,13 +2,16 @@
 ghost use Rattle.std.specs.Prelude.{◌≡◌, ◌&&◌, IfOk, nat_le};
 ghost use Rattle.std.specs.List.{list_all};
 ghost use Rattle.clap.specs.Words.{first_of, found_of, rows_of};
-ghost use Rattle.command_words.specs.Arguments.{HasLoadMachine, asked_of, call_of, is_seed_key, load_of, operator_of, pipe_of, given_text};
+ghost use Rattle.command_words.specs.Arguments.{HasLoadMachine, asked_of, call_of, explain_of, flow_of, is_seed_key, load_of, operator_of, pipe_of, given_text};
 
 use crate::argument::Argument;
+use crate::asked_flow::AskedFlow;
 use crate::invocation::{Invocation, OperatorCall, OperatorCommand};
 use crate::line::{CommandKind, OperatorKind};
 use crate::operators::operator_command_of;
-use crate::values::{given_events, given_machines, given_option, given_text};
+use crate::values::{
+    given_addr, given_events, given_machines, given_option, given_port, given_proto, given_text,
+};
 use clap::ArgMatches;
 use std::alloc::Global;
 use tail_base::NoMemory;
@@ -66,6 +69,42 @@ fn load_of(matches: &ArgMatches<'_>) -> Option<Invocation>
     Some(Invocation::Load { machines, events })
 }
 
+/// The flow, if each word of it is read.
+#[tactic(auto, unfolding(crate::specs::Arguments::flow_of))]
+fn flow_of(matches: &ArgMatches<'_>) -> Option<AskedFlow>
+    ensures value { result ≡ flow_of (rows_of (found_of matches.now)) }
+{
+    let source = given_addr(matches, Argument::Source)?;
+    let dest = given_addr(matches, Argument::Dest)?;
+    let proto = given_proto(matches)?;
+    let port = given_port(matches)?;
+    Some(AskedFlow {
+        source,
+        dest,
+        proto,
+        port,
+    })
+}
+
+fn explain_of(alloc: Global, matches: &ArgMatches<'_>) -> Result<Option<Invocation>, NoMemory>
+    ensures value { IfOk result (λ asked. asked ≡ explain_of (rows_of (found_of matches.now))) }
+    ensures machine { IfOk result HasLoadMachine }
+{
+    let Some(flow) = flow_of(matches) else {
+        return Ok(None);
+    };
+    let settings = given_text(alloc, matches, Argument::Settings)?;
+    Ok(Some(Invocation::Explain { settings, flow }))
+}
+
+fn reach_of(alloc: Global, matches: &ArgMatches<'_>) -> Result<Invocation, NoMemory>
+    ensures value { IfOk result (λ asked. asked
+        ≡ Invocation.Reach (given_text Argument.Settings (rows_of (found_of matches.now)))) }
+{
+    let settings = given_text(alloc, matches, Argument::Settings)?;
+    Ok(Invocation::Reach { settings })
+}
+
 fn call_of(
     alloc: Global,
     matches: &ArgMatches<'_>,
@@ -97,7 +136,7 @@ fn operator_of(
     }
 }
 
-/// What a command's arguments ask, if a number and the seed key keep their rules.
+/// What a command's arguments ask, if numbers, the seed key and a flow's words keep their rules.
 #[tactic(auto, unfolding(crate::specs::Arguments::asked_of))]
 pub(crate) fn asked_of(
     alloc: Global,
@@ -112,6 +151,8 @@ pub(crate) fn asked_of(
         CommandKind::Serve => Ok(Some(serve_of(alloc, matches)?)),
         CommandKind::PolicyCheck => Ok(Some(policy_check_of(alloc, matches)?)),
         CommandKind::Load => Ok(load_of(matches)),
+        CommandKind::Explain => explain_of(alloc, matches),
+        CommandKind::Reach => Ok(Some(reach_of(alloc, matches)?)),
         CommandKind::Operator(kind) => operator_of(alloc, matches, kind),
     }
 }

@@ -1,4 +1,5 @@
 //! What the program is asked to do.
+use crate::asked_flow::AskedFlow;
 use tail_base::Text;
 
 /// What the program is asked to do.
@@ -13,6 +14,11 @@ pub enum Invocation {
     PolicyCheck { file: Text },
     /// To run the requests of 1 to 1024 machines and up to 100000 events through the program.
     Load { machines: u32, events: u32 },
+    /// To say by which rule of the policy a flow is granted, over what the database of this settings file
+    /// keeps.
+    Explain { settings: Text, flow: AskedFlow },
+    /// To list which machine reaches which by which rule, over what the database of this settings file keeps.
+    Reach { settings: Text },
     /// To send one request to a server.
     Operator(OperatorCall),
 }

@@ -3,6 +3,7 @@
 
 mod argument;
 mod arguments;
+mod asked_flow;
 mod invocation;
 mod line;
 mod operators;
@@ -10,5 +11,6 @@ mod parser;
 mod values;
 mod words;
 
+pub use asked_flow::AskedFlow;
 pub use invocation::{Invocation, OperatorCall, OperatorCommand};
 pub use words::read_invocation;

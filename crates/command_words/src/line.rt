@@ -5,10 +5,10 @@ ghost use Rattle.command_words.specs.Words.{line_in, table_line};
 
 use crate::argument::Argument;
 use crate::argument::Argument::{
-    Ephemeral, Events, Expiry, File, Id, List, Login, Machines, Name, Pending, Reusable, Seed,
-    Server, Settings, Tags, Token,
+    Dest, Ephemeral, Events, Expiry, File, Id, List, Login, Machines, Name, Pending, Port, Proto,
+    Reusable, Seed, Server, Settings, Source, Tags, Token,
 };
-use CommandKind::{Load, Operator, Pipe, PolicyCheck, Serve};
+use CommandKind::{Explain, Load, Operator, Pipe, PolicyCheck, Reach, Serve};
 use OperatorKind::{
     DnsGet, DnsSet, KeyAdd, KeyExpire, KeyList, NodeDel, NodeExpire, NodeList, NodeRename,
     NodeRoutes, NodeTags, PendingAdmit, PendingList, PolicyGet, PolicySet, Sweep, UserAdd, UserDel,
@@ -22,6 +22,8 @@ pub enum CommandKind {
     Serve,
     PolicyCheck,
     Load,
+    Explain,
+    Reach,
     Operator(OperatorKind),
 }
 
@@ -50,11 +52,13 @@ pub enum OperatorKind {
 }
 
 /// Each command: its name, what it leads to, and its arguments, positional ones in their order.
-pub const LINES: [(&str, CommandKind, &[Argument]); 23] = [
+pub const LINES: [(&str, CommandKind, &[Argument]); 25] = [
     ("pipe", Pipe, &[Settings, Seed]),
     ("serve", Serve, &[Settings]),
     ("policy-check", PolicyCheck, &[File]),
     ("load", Load, &[Machines, Events]),
+    ("explain", Explain, &[Settings, Source, Dest, Proto, Port]),
+    ("reach", Reach, &[Settings]),
     ("user-list", Operator(UserList), &[Server, Token]),
     ("user-add", Operator(UserAdd), &[Name, Server, Token]),
     ("user-del", Operator(UserDel), &[Login, Server, Token]),

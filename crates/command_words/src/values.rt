@@ -1,10 +1,12 @@
 //! The values that `clap` found for arguments.
-ghost use Rattle.std.specs.Prelude.{◌≡◌, ◌<◌, ◌≤◌, ◌^◌, IfOk, IfSome};
+ghost use Rattle.std.specs.Prelude.{◌≡◌, ℕ, ◌<◌, ◌≤◌, ◌^◌, IfOk, IfSome, Some};
 ghost use Rattle.clap.specs.Words.{found_of, rows_of};
-ghost use Rattle.command_words.specs.Arguments.{given_events, given_id, given_machines, given_number, is_set, given_option, given_text};
+ghost use Rattle.command_words.specs.Arguments.{given_addr, given_events, given_id, given_machines, given_number, given_port, given_proto, is_set, given_option, given_text};
 
 use crate::argument::Argument;
 use clap::ArgMatches;
+use net_addr::Addr;
+use port_sets::Protos;
 use std::alloc::Global;
 use tail_base::{NoMemory, Text, number_in};
 
@@ -100,4 +102,42 @@ pub(crate) fn given_events(matches: &ArgMatches<'_>) -> Option<u32>
     ensures value { result ≡ given_events (rows_of (found_of matches.now)) }
 {
     given_number(matches, Argument::Events, 0, EVENT_LIMIT)
+}
+
+/// The one address that an argument is, without brackets and without a length.
+pub(crate) fn given_addr(matches: &ArgMatches<'_>, argument: Argument) -> Option<Addr>
+    ensures value { result ≡ given_addr argument (rows_of (found_of matches.now)) }
+{
+    Addr::read(str_of(matches, argument).as_bytes())
+}
+
+/// The only member of protocols that are one.
+fn only_of(protos: &Protos) -> u8
+    ensures value { (proto : ℕ) → protos.now ≡ Some proto → result ≡ proto }
+{
+    let mut proto = 0;
+    while !protos.holds(proto) && proto < u8::MAX {
+        proto += 1;
+    }
+    proto
+}
+
+/// The protocol of a flow, as a policy names one.
+pub(crate) fn given_proto(matches: &ArgMatches<'_>) -> Option<u8>
+    ensures value { result ≡ given_proto (rows_of (found_of matches.now)) }
+{
+    match Protos::read(str_of(matches, Argument::Proto).as_bytes()) {
+        Some(protos) => Some(only_of(&protos)),
+        None => None,
+    }
+}
+
+/// The port of a flow.
+pub(crate) fn given_port(matches: &ArgMatches<'_>) -> Option<u16>
+    ensures value { result ≡ given_port (rows_of (found_of matches.now)) }
+{
+    match number_in(str_of(matches, Argument::Port).as_bytes(), 5, 0, 65_535) {
+        Some(number) => Some(number as u16),
+        None => None,
+    }
 }

@@ -5,7 +5,7 @@ use row_keeper::Opener;
 use std::alloc::Global;
 use std::sync::Wait;
 use std::thread::Threads;
-use tailnet_serve::tailnetd;
+use top_call::tailnetd;
 
 /// The registration of a machine.
 pub const FIRST: &[u8] =

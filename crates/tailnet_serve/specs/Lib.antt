@@ -6,4 +6,3 @@ pub mod Service
 pub mod Serve
 pub mod Complete
 pub mod ServiceLaws
-pub mod Top

@@ -1,5 +1,4 @@
-//! The top call: the whole program over its outside; and the command `serve`, many connections over one desk, with a worker for
-//! each door.
+//! The command `serve`: many connections over one desk, with a worker for each door.
 #![tactic(auto)]
 
 mod crew;
@@ -12,8 +11,6 @@ mod running;
 mod seat_serving;
 mod serve_end;
 mod serving;
-mod top;
-mod wordless;
 mod worker;
 mod working;
 
@@ -21,6 +18,4 @@ pub use law::{services_leave_machines_gone, serving_completeness, well_served_co
 pub use seat_serving::serve_seat;
 pub use serve_end::ServeEnd;
 pub use serving::serve_command;
-pub use top::tailnetd;
-pub use wordless::end_wordless;
 pub use worker::{Report, Stop, WorkLimits, Worker};

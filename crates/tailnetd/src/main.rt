@@ -6,8 +6,8 @@ use keeper_sqlite::HostOpener;
 use std::io::ErrorKind;
 use std::process::ExitCode;
 use std::{env, io};
-use tailnet_serve::{end_wordless, tailnetd};
 use tcp_edge::{HostPause, TcpDoors, TcpLink};
+use top_call::{end_wordless, tailnetd};
 
 /// The words after the program's name.
 fn words_of(rt: &HostRuntime) -> io::Result<Vec<String>> {

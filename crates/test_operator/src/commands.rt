@@ -96,6 +96,8 @@ fn call_in(asked: &Option<Invocation>) -> Result<&OperatorCall, Fail> {
         Some(Invocation::Serve { .. }) => Err(Fail::from("serve")),
         Some(Invocation::PolicyCheck { .. }) => Err(Fail::from("policy-check")),
         Some(Invocation::Load { .. }) => Err(Fail::from("load")),
+        Some(Invocation::Explain { .. }) => Err(Fail::from("explain")),
+        Some(Invocation::Reach { .. }) => Err(Fail::from("reach")),
         None => Err(Fail::from("no command")),
     }
 }

@@ -1,5 +1,5 @@
 //! Words, and what they ask. A `_` in the table stands for the empty word.
-use command_words::{Invocation, OperatorCall, read_invocation};
+use command_words::{AskedFlow, Invocation, OperatorCall, read_invocation};
 use http_client::ask_bytes;
 use operator_requests::{OperatorRequest, operator_request};
 use std::alloc::Global;
@@ -22,6 +22,13 @@ policy-check a.hujson = policy-check a.hujson
 policy-check -- -a = policy-check -a
 load 1 0 = load 1 0
 load 1024 100000 = load 1024 100000
+explain a.toml 100.64.0.1 100.64.0.2 tcp 22 = explain a.toml 100.64.0.1 100.64.0.2 6 22
+explain a.toml fd7a:115c:a1e0:0::1 0:0:0:0:0:0:0:1 1 0 = explain a.toml fd7a:115c:a1e0::1 ::1 1 0
+explain a.toml 0.0.0.0 255.255.255.255 255 65535 = explain a.toml 0.0.0.0 255.255.255.255 255 65535
+explain a.toml :: 8.8.8.8 ip-in-ip 53 = explain a.toml :: 8.8.8.8 4 53
+explain -- -a ::1 ::2 sctp 1 = explain -a ::1 ::2 132 1
+reach a.toml = reach a.toml
+reach -- -a = reach -a
 user-list --server s --token t = GET /api/v1/user
 user-list --token=t --server=s = GET /api/v1/user
 user-add Ann --server s --token t = POST /api/v1/user {"name":"Ann"}
@@ -64,6 +71,38 @@ load 1025 1 = none
 load 01 1 = none
 load 1 100001 = none
 load 1 1 1 = none
+explain = none
+explain a.toml = none
+explain a.toml 100.64.0.1 100.64.0.2 tcp = none
+explain a.toml 100.64.0.1 100.64.0.2 tcp 22 22 = none
+explain a.toml nas 100.64.0.2 tcp 22 = none
+explain a.toml 100.64.0.1 nas tcp 22 = none
+explain a.toml 100.64.0.1 _ tcp 22 = none
+explain a.toml 100.64.0.1/32 100.64.0.2 tcp 22 = none
+explain a.toml 100.64.0.1 100.64.0.0/10 tcp 22 = none
+explain a.toml 100.64.0.1 [::1] tcp 22 = none
+explain a.toml 100.64.0.1 ::1%lo tcp 22 = none
+explain a.toml 100.64.0.01 100.64.0.2 tcp 22 = none
+explain a.toml 100.64.0.1 ann@ tcp 22 = none
+explain a.toml 100.64.0.1 100.64.0.2 TCP 22 = none
+explain a.toml 100.64.0.1 100.64.0.2 icmpv6 22 = none
+explain a.toml 100.64.0.1 100.64.0.2 _ 22 = none
+explain a.toml 100.64.0.1 100.64.0.2 * 22 = none
+explain a.toml 100.64.0.1 100.64.0.2 0 22 = none
+explain a.toml 100.64.0.1 100.64.0.2 06 22 = none
+explain a.toml 100.64.0.1 100.64.0.2 256 22 = none
+explain a.toml 100.64.0.1 100.64.0.2 tcp 65536 = none
+explain a.toml 100.64.0.1 100.64.0.2 tcp 022 = none
+explain a.toml 100.64.0.1 100.64.0.2 tcp +22 = none
+explain a.toml 100.64.0.1 100.64.0.2 tcp -1 = none
+explain a.toml 100.64.0.1 100.64.0.2 tcp ssh = none
+explain a.toml 100.64.0.1 100.64.0.2 tcp _ = none
+explain a.toml 100.64.0.1 100.64.0.2 tcp * = none
+explain a.toml 100.64.0.1 100.64.0.2 tcp 22 --seed k1 = none
+explain --help = none
+reach = none
+reach a.toml b = none
+reach a.toml --seed k1 = none
 pipe = none
 pipe a.toml b = none
 pipe --seed a.toml = none
@@ -145,6 +184,13 @@ fn pipe_line(alloc: Global, settings: &Text, seed: &Option<Text>) -> Result<Stri
     }
 }
 
+fn explain_line(alloc: Global, settings: &Text, flow: &AskedFlow) -> Result<String, Fail> {
+    let (settings, proto, port) = (settings.as_str(), flow.proto, flow.port);
+    let (source, dest) = (flow.source.write(alloc)?, flow.dest.write(alloc)?);
+    let (source, dest) = (source.as_str(), dest.as_str());
+    Ok(format!(in alloc; "explain {settings} {source} {dest} {proto} {port}")?)
+}
+
 fn shown_invocation(alloc: Global, asked: &Option<Invocation>) -> Result<String, Fail> {
     match asked {
         None => Ok(String::from_str(alloc, "none")?),
@@ -154,6 +200,10 @@ fn shown_invocation(alloc: Global, asked: &Option<Invocation>) -> Result<String,
         }
         Some(Invocation::Load { machines, events }) => {
             Ok(format!(in alloc; "load {machines} {events}")?)
+        }
+        Some(Invocation::Explain { settings, flow }) => explain_line(alloc, settings, flow),
+        Some(Invocation::Reach { settings }) => {
+            Ok(format!(in alloc; "reach {}", settings.as_str())?)
         }
         Some(Invocation::Pipe { settings, seed }) => pipe_line(alloc, settings, seed),
         Some(Invocation::Serve { settings }) => {

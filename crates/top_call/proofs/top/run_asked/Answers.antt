@@ -2,7 +2,7 @@
 use Rattle.std.proofs.Common.{rules}
 use Rattle.io_edge.specs.Linked.{link_told}
 use Rattle.tailnet_commands.specs.Outside.{doors_told, outside}
-use Rattle.tailnet_serve.proofs.top.run_asked.Goals as goal
+use Rattle.top_call.proofs.top.run_asked.Goals as goal
 
 pub returns-in-Some-Serve-clause-ran : goal.returns-in-Some-Serve-clause-ran
 returns-in-Some-Serve-clause-ran g c =

@@ -69,9 +69,13 @@ pub record IsLinkedAlone (old new : Outside) : Type 0 where
   pub keeper_faults : new.keeper_faults ≡ old.keeper_faults
   pub doors : new.doors ≡ old.doors
 
+-- the line of words that are no command is left, and nothing else is done
+abbrev pub IsNoCommand : Status → Outside → Outside → Type 0
+IsNoCommand ended old new = (ended ≡ status.Usage) × IsNotedAlone old new × IsLine usage_line old new
+
 -- Words that are no command do nothing but leave their line on errors; a command results in what its status says.
 abbrev pub WordsDone : Option Invocation → Status → Outside → Outside → Type 0
-WordsDone None ended old new = (ended ≡ status.Usage) × IsNotedAlone old new × IsLine usage_line old new
+WordsDone None ended old new = IsNoCommand ended old new
 WordsDone (Some (asked.Pipe settings seed)) ended old new = Outcome ended settings seed old new
 WordsDone (Some (asked.PolicyCheck file)) ended old new =
     IsWrittenAlone old new
@@ -82,6 +86,9 @@ WordsDone (Some (asked.Load machines events)) ended old new =
     IsWrittenAlone old new × (new.files ≡ old.files) × (new.file_faults ≡ old.file_faults)
     × Loaded (record { machines = machines; events = events }) ended old.told.giving.held new.told.giving.held old.told.giving.write_faults new.told.giving.write_faults
     × IsLine (load_line ended) old new
+-- these aren't built yet
+WordsDone (Some (asked.Explain settings flow)) ended old new = IsNoCommand ended old new
+WordsDone (Some (asked.Reach settings)) ended old new = IsNoCommand ended old new
 WordsDone (Some (asked.Operator call)) ended old new = IsLinkedAlone old new × Operated call ended (operator_point_of old) (operator_point_of new)
 
 -- there was no memory to read the words
@@ -99,6 +106,8 @@ asks_link (Some (asked.Pipe settings seed)) = false
 asks_link (Some (asked.PolicyCheck file)) = false
 asks_link (Some (asked.Serve settings)) = false
 asks_link (Some (asked.Load machines events)) = false
+asks_link (Some (asked.Explain settings flow)) = false
+asks_link (Some (asked.Reach settings)) = false
 asks_link (Some (asked.Operator call)) = true
 
 -- whether words ask doors: `serve` does
@@ -108,4 +117,6 @@ asks_doors (Some (asked.Pipe settings seed)) = false
 asks_doors (Some (asked.PolicyCheck file)) = false
 asks_doors (Some (asked.Serve settings)) = true
 asks_doors (Some (asked.Load machines events)) = false
+asks_doors (Some (asked.Explain settings flow)) = false
+asks_doors (Some (asked.Reach settings)) = false
 asks_doors (Some (asked.Operator call)) = false

@@ -4,9 +4,8 @@ ghost use Rattle.command_words.specs.Arguments.{HasLoadMachine};
 ghost use Rattle.command_words.specs.Words.{invocation_of};
 ghost use Rattle.io_edge.specs.Linked.{link_told};
 ghost use Rattle.tailnet_commands.specs.Outside.{doors_told, outside};
-ghost use Rattle.tailnet_serve.specs.Top.{WordsDone, Top, asks_doors, asks_link};
+ghost use Rattle.top_call.specs.Top.{WordsDone, Top, asks_doors, asks_link};
 
-use crate::serving::serve_command;
 use crate::wordless::end_wordless;
 use command_words::{Invocation, read_invocation};
 use exit_status::{Status, note_usage};
@@ -19,6 +18,7 @@ use std::sync::Wait;
 use std::thread::Threads;
 use tail_base::Text;
 use tailnet_commands::{pipe_command, policy_check};
+use tailnet_serve::serve_command;
 
 fn text_of(text: &Option<Text>) -> Option<&str>
     ensures value { option_map (λ t. t.now) result ≡ text.now }
@@ -102,7 +102,8 @@ where
         Some(Invocation::Operator(call)) => {
             operator_command(alloc, call, output, errors, files, link)
         }
-        None => {
+        // The commands of these words aren't built yet.
+        Some(Invocation::Explain { .. } | Invocation::Reach { .. }) | None => {
             note_usage(errors);
             Status::Usage
         }
