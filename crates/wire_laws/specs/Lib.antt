@@ -1,0 +1,6 @@
+pub mod Dns
+pub mod Filters
+pub mod Nodes
+pub mod Responses
+pub mod Trees
+pub mod Values

@@ -1,0 +1,19 @@
+-- What the fields of messages have as values.
+use Rattle.std.specs.Prelude.{◌<◌, ◌≢◌, ◌^◌, ℤ}
+use Rattle.net_addr.specs.Bits.{Address, family_size}
+use Rattle.net_addr.specs.Moments.{IsMoment, first_moment}
+use Rattle.net_addr.specs.declared.endpoint.Endpoint.{Endpoint}
+
+-- the address's number is one of its family
+abbrev pub IsAddress : Address → Type 0
+IsAddress addr = addr.bits < family_size addr.v6
+
+-- its address is one, and its port has 16 bits
+pub record IsEndpoint (e : Endpoint) : Type 0 where
+  pub addr : IsAddress e.addr
+  pub port : e.port < 2 ^ 16
+
+-- A moment, but for the first: Go's zero time is written where there is no moment.
+pub record IsExpiry (t : ℤ) : Type 0 where
+  pub moment : IsMoment t
+  pub later : t ≢ first_moment
