@@ -1,1 +1,9 @@
+pub mod DnsForms
+pub mod FilterForms
+pub mod FormLemmas
+pub mod MemberLemmas
+pub mod NodeForms
+pub mod ResponseForms
+pub mod RouteLemmas
 pub mod TreeLemmas
+pub mod ValueForms

@@ -3,4 +3,4 @@
 
 mod laws;
 
-pub use laws::json_texts_differ;
+pub use laws::{forms_differ, json_texts_differ, texts_tell_responses};
