@@ -5,7 +5,7 @@ use Rattle.std.specs.List.{AllByRecursion}
 use Rattle.serde_json.specs.Data.{Data, string, boolean, array, object, Items, Members, member}
 use Rattle.serde_json.specs.View.{items_of}
 use Rattle.wire_write.specs.Parts.{array_data, number_data, some_array}
-use Rattle.wire_laws.specs.Trees.{AreTrees, IsNumber, IsTree}
+use Rattle.wire_laws.specs.Trees.{AreTrees, IsTree}
 
 -- no two values of a kind have one form
 abbrev pub Tells : {X Y : Type 0} → (X → Y) → (X → Type 0) → Type 0

@@ -1,6 +1,7 @@
 pub mod DnsForms
 pub mod FilterForms
 pub mod FormLemmas
+pub mod FrameLemmas
 pub mod MemberLemmas
 pub mod NodeForms
 pub mod ResponseForms

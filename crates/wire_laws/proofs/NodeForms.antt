@@ -1,18 +1,18 @@
 -- The forms of nodes, peer changes and profiles tell them.
-use Rattle.std.proofs.Common.{◌≡◌, ℕ, ℤ, suc, List, Option, Some, None, refl, ap}
+use Rattle.std.proofs.Common.{◌≡◌, ℕ, ℤ, suc, List, Option, Some, None, refl}
 use Rattle.std.specs.Prelude.{[], ◌∷◌, codes, IfSome, option_map, ⊤}
 use Rattle.std.specs.List.{AllByRecursion}
 use Rattle.hex.specs.Hex.{IsBytes}
-use Rattle.serde_json.specs.Data.{Data, boolean, string}
+use Rattle.serde_json.specs.Data.{boolean}
 use Rattle.net_addr.specs.Bits.{IsBlock}
 use Rattle.tailcfg.specs.declared.node_row.NodeRow.{NodeRow}
 use Rattle.tailcfg.specs.declared.patch.Patch.{Patch}
 use Rattle.tailcfg.specs.declared.profile.Profile.{Profile}
 use Rattle.wire_write.specs.Nodes.{host_data, keyed_members, named_members, node_data, patch_data, profile_data}
 use Rattle.wire_write.specs.Parts.{array_data, disco_key_data, endpoint_data, machine_key_data, moment_data, node_key_data, number_data, prefix_data, time_data}
-use Rattle.wire_laws.specs.Nodes.{IsNode, IsPatch, IsProfile}
-use Rattle.wire_laws.specs.Trees.{HaveTrees, IsNumber, IsTree}
-use Rattle.wire_laws.specs.Values.{IsEndpoint}
+use Rattle.wire_laws.specs.Nodes.{IsWrittenNode, IsWrittenPatch, IsWrittenProfile}
+use Rattle.wire_laws.specs.Trees.{HaveTrees, FitsWord, IsTree}
+use Rattle.wire_laws.specs.Values.{IsWrittenEndpoint}
 use Rattle.wire_laws.proofs.FormLemmas.{Grows, Tells, arrays_grow, arrays_tell, booleans_tell, members_tell, numbers_tell, objects_tell, options_grow, options_tell, strings_tell, texts_grow, texts_tell}
 use Rattle.wire_laws.proofs.MemberLemmas.{Named, optional_grow, optional_tell}
 use Rattle.wire_laws.proofs.ValueForms.{disco_keys_tell, endpoints_tell, machine_keys_tell, moments_tell, node_keys_tell, prefixes_tell, times_tell}
@@ -31,7 +31,7 @@ profiles_tell a b e =
       display = strings_tell a.display b.display display.0 i;
     }
 
-pub profiles_grow : (n : ℕ) → Grows profile_data IsProfile (suc n)
+pub profiles_grow : (n : ℕ) → Grows profile_data IsWrittenProfile (suc n)
 unfolding profile_data
 profiles_grow n p h = (tt, (h, (tt, tt)))
 
@@ -50,13 +50,13 @@ pub always : {X : Type 0} (o : Option X) → IfSome o (λ x. ⊤)
 always None = tt
 always (Some x) = tt
 
-pub patches_tell : Tells patch_data IsPatch
+pub patches_tell : Tells patch_data IsWrittenPatch
 unfolding patch_data
 patches_tell a b p q e =
     let same = optional_tell (patch_list a) (patch_list b) refl refl refl (objects_tell _ _ e) in
-    let derp = options_tell number_data IsNumber (λ m n h k. numbers_tell m n) a.derp b.derp p.derp q.derp same.0 in
+    let derp = options_tell number_data FitsWord (λ m n h k. numbers_tell m n) a.derp b.derp p.derp q.derp same.0 in
     let disco = options_tell disco_key_data (λ key. IsBytes key.0) disco_keys_tell a.disco b.disco p.disco q.disco same.1.0 in
-    let endpoints = options_tell (array_data endpoint_data) (AllByRecursion IsEndpoint) (arrays_tell endpoint_data IsEndpoint endpoints_tell) a.endpoints b.endpoints p.endpoints q.endpoints same.1.1.0 in
+    let endpoints = options_tell (array_data endpoint_data) (AllByRecursion IsWrittenEndpoint) (arrays_tell endpoint_data IsWrittenEndpoint endpoints_tell) a.endpoints b.endpoints p.endpoints q.endpoints same.1.1.0 in
     let online = options_tell boolean (λ x. ⊤) (λ x y h k. booleans_tell x y) a.online b.online (always a.online) (always b.online) same.1.1.1.1.0 in
     λ i. record {
       id = some_number a.id b.id same.1.1.1.0 i;
@@ -66,15 +66,15 @@ patches_tell a b p q e =
       online = online i;
     }
 
-pub patches_grow : (n : ℕ) → Grows patch_data IsPatch (suc (suc n))
+pub patches_grow : (n : ℕ) → Grows patch_data IsWrittenPatch (suc (suc n))
 unfolding patch_data disco_key_data endpoint_data
 patches_grow n p h =
     optional_grow (suc n) (patch_list p) (
-      options_grow number_data IsNumber (suc n) (λ m k. k) p.derp h.derp,
+      options_grow number_data FitsWord (suc n) (λ m k. k) p.derp h.derp,
       (
         options_grow disco_key_data (λ key. IsBytes key.0) (suc n) (λ key k. tt) p.disco h.disco,
         (
-          options_grow (array_data endpoint_data) (AllByRecursion IsEndpoint) (suc n) (arrays_grow endpoint_data IsEndpoint n (λ e k. tt)) p.endpoints h.endpoints,
+          options_grow (array_data endpoint_data) (AllByRecursion IsWrittenEndpoint) (suc n) (arrays_grow endpoint_data IsWrittenEndpoint n (λ e k. tt)) p.endpoints h.endpoints,
           (
             h.id,
             (options_grow boolean (λ x. ⊤) (suc n) (λ x k. tt) p.online (always p.online), tt),
@@ -119,7 +119,7 @@ record SameKeys (a b : NodeRow) : Type 0 where
   machine : a.machine ≡ b.machine
   rest : SameNames a b
 
-keys_tell : (a b : NodeRow) → IsNode a → IsNode b → keyed_members a ≡ keyed_members b → SameKeys a b
+keys_tell : (a b : NodeRow) → IsWrittenNode a → IsWrittenNode b → keyed_members a ≡ keyed_members b → SameKeys a b
 keys_tell a b p q e =
     let host = members_tell _ _ _ _ _ e in
     let id = members_tell _ _ _ _ _ host.1 in
@@ -135,7 +135,7 @@ keys_tell a b p q e =
       rest = names_tell a b machine.1;
     }
 
-pub nodes_tell : Tells node_data IsNode
+pub nodes_tell : Tells node_data IsWrittenNode
 unfolding node_data
 nodes_tell a b p q e =
     let addresses = members_tell _ _ _ _ _ (objects_tell _ _ e) in
@@ -155,7 +155,7 @@ nodes_tell a b p q e =
       host = keys.host i;
       addresses = arrays_tell prefix_data IsBlock prefixes_tell a.addresses b.addresses p.addresses q.addresses addresses.0 i;
       allowed = arrays_tell prefix_data IsBlock prefixes_tell a.allowed b.allowed p.allowed q.allowed allowed.0 i;
-      endpoints = arrays_tell endpoint_data IsEndpoint endpoints_tell a.endpoints b.endpoints p.endpoints q.endpoints endpoints.0 i;
+      endpoints = arrays_tell endpoint_data IsWrittenEndpoint endpoints_tell a.endpoints b.endpoints p.endpoints q.endpoints endpoints.0 i;
       derp = numbers_tell a.derp b.derp derp.0 i;
       tags = keys.rest.tags i;
       created = moments_tell a.created b.created p.created q.created created.0 i;
@@ -168,14 +168,14 @@ unfolding moment_data
 time_grows n None = tt
 time_grows n (Some t) = tt
 
-names_grow : (n : ℕ) (r : NodeRow) → IsNode r → HaveTrees (suc n) (named_members r)
+names_grow : (n : ℕ) (r : NodeRow) → IsWrittenNode r → HaveTrees (suc n) (named_members r)
 names_grow n r h = (tt, (tt, (tt, (tt, (texts_grow n r.tags, (h.user, tt))))))
 
-keys_grow : (n : ℕ) (r : NodeRow) → IsNode r → HaveTrees (suc n) (keyed_members r)
+keys_grow : (n : ℕ) (r : NodeRow) → IsWrittenNode r → HaveTrees (suc n) (keyed_members r)
 unfolding node_key_data machine_key_data
 keys_grow n r h = ((tt, tt), (h.id, (tt, (time_grows (suc n) r.expiry, (tt, names_grow n r h)))))
 
-pub nodes_grow : (n : ℕ) → Grows node_data IsNode (suc (suc n))
+pub nodes_grow : (n : ℕ) → Grows node_data IsWrittenNode (suc (suc n))
 unfolding node_data disco_key_data endpoint_data prefix_data moment_data
 nodes_grow n r h = (
   arrays_grow prefix_data IsBlock n (λ p k. tt) r.addresses h.addresses,
@@ -186,7 +186,7 @@ nodes_grow n r h = (
       (
         tt,
         (
-          arrays_grow endpoint_data IsEndpoint n (λ e k. tt) r.endpoints h.endpoints,
+          arrays_grow endpoint_data IsWrittenEndpoint n (λ e k. tt) r.endpoints h.endpoints,
           (h.derp, keys_grow n r h),
         ),
       ),

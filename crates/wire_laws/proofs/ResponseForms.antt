@@ -1,19 +1,19 @@
 -- The texts of responses tell them.
-use Rattle.std.proofs.Common.{◌≡◌, ℕ, suc, List, [], ◌∷◌, Option, Some, None, arith, refl, ap}
+use Rattle.std.proofs.Common.{◌≡◌, ℕ, List, [], ◌∷◌, Option, arith, refl}
 use Rattle.std.specs.Prelude.{codes, IfSome, option_map, ⊤}
 use Rattle.std.specs.List.{AllByRecursion}
-use Rattle.serde_json.specs.Data.{Data, string}
+use Rattle.serde_json.specs.Data.{string}
 use Rattle.tailcfg.specs.declared.response.Response.{Response}
 use Rattle.wire_write.specs.Dns.{dns_data}
 use Rattle.wire_write.specs.Filters.{rule_data}
 use Rattle.wire_write.specs.Nodes.{node_data, patch_data, profile_data}
 use Rattle.wire_write.specs.Parts.{array_data, number_data, some_array}
 use Rattle.wire_write.specs.Responses.{changed_members, peer_members, response_data, response_text}
-use Rattle.wire_laws.specs.Dns.{IsDns}
-use Rattle.wire_laws.specs.Filters.{IsRule}
-use Rattle.wire_laws.specs.Nodes.{IsNode, IsPatch, IsProfile}
+use Rattle.wire_laws.specs.Dns.{IsWrittenDns}
+use Rattle.wire_laws.specs.Filters.{IsWrittenRule}
+use Rattle.wire_laws.specs.Nodes.{IsWrittenNode, IsWrittenPatch, IsWrittenProfile}
 use Rattle.wire_laws.specs.Responses.{IsWritten}
-use Rattle.wire_laws.specs.Trees.{IsNumber, IsTree}
+use Rattle.wire_laws.specs.Trees.{FitsWord, IsTree}
 use Rattle.wire_laws.proofs.DnsForms.{dns_grow, dns_tell}
 use Rattle.wire_laws.proofs.FilterForms.{rules_grow, rules_tell}
 use Rattle.wire_laws.proofs.FormLemmas.{arrays_grow, arrays_tell, lists_grow, lists_tell, numbers_tell, objects_tell, options_grow, options_tell, strings_tell}
@@ -42,10 +42,10 @@ unfolding response_data peer_members changed_members
 responses_tell a b p q e =
     let same = optional_tell (response_list a) (response_list b) refl refl refl (objects_tell _ _ e) in
     let later = same.1.1.1.1.1.1 in
-    let dns = options_tell dns_data IsDns dns_tell a.dns b.dns p.dns q.dns same.0 in
-    let node = options_tell node_data IsNode nodes_tell a.node b.node p.node q.node same.1.1.1.0 in
-    let filter = options_tell (array_data rule_data) (AllByRecursion IsRule) (arrays_tell rule_data IsRule rules_tell) a.filter b.filter p.filter q.filter same.1.1.1.1.0 in
-    let seq = options_tell number_data IsNumber (λ m n h k. numbers_tell m n) a.seq b.seq p.seq q.seq later.1.1.1.0 in
+    let dns = options_tell dns_data IsWrittenDns dns_tell a.dns b.dns p.dns q.dns same.0 in
+    let node = options_tell node_data IsWrittenNode nodes_tell a.node b.node p.node q.node same.1.1.1.0 in
+    let filter = options_tell (array_data rule_data) (AllByRecursion IsWrittenRule) (arrays_tell rule_data IsWrittenRule rules_tell) a.filter b.filter p.filter q.filter same.1.1.1.1.0 in
+    let seq = options_tell number_data FitsWord (λ m n h k. numbers_tell m n) a.seq b.seq p.seq q.seq later.1.1.1.0 in
     λ i. record {
       handle = text_options_tell a.handle b.handle same.1.1.0 i;
       seq = seq i;
@@ -53,11 +53,11 @@ responses_tell a b p q e =
       filter = filter i;
       dns = dns i;
       domain = text_options_tell a.domain b.domain same.1.0 i;
-      peers = lists_tell node_data IsNode nodes_tell a.peers b.peers p.peers q.peers same.1.1.1.1.1.0 i;
-      changed = lists_tell node_data IsNode nodes_tell a.changed b.changed p.changed q.changed later.0 i;
-      removed = lists_tell number_data IsNumber (λ m n h k. numbers_tell m n) a.removed b.removed p.removed q.removed later.1.1.0 i;
-      patches = lists_tell patch_data IsPatch patches_tell a.patches b.patches p.patches q.patches later.1.0 i;
-      profiles = lists_tell profile_data IsProfile (λ x y h k. profiles_tell x y) a.profiles b.profiles p.profiles q.profiles later.1.1.1.1.0 i;
+      peers = lists_tell node_data IsWrittenNode nodes_tell a.peers b.peers p.peers q.peers same.1.1.1.1.1.0 i;
+      changed = lists_tell node_data IsWrittenNode nodes_tell a.changed b.changed p.changed q.changed later.0 i;
+      removed = lists_tell number_data FitsWord (λ m n h k. numbers_tell m n) a.removed b.removed p.removed q.removed later.1.1.0 i;
+      patches = lists_tell patch_data IsWrittenPatch patches_tell a.patches b.patches p.patches q.patches later.1.0 i;
+      profiles = lists_tell profile_data IsWrittenProfile (λ x y h k. profiles_tell x y) a.profiles b.profiles p.profiles q.profiles later.1.1.1.1.0 i;
     }
 
 -- how deep a response nests, and no reader minds
@@ -71,26 +71,26 @@ response_grows : (r : Response) → IsWritten r → IsTree deep (response_data r
 unfolding response_data peer_members changed_members
 response_grows r h =
     optional_grow 6 (response_list r) (
-      options_grow dns_data IsDns 6 (dns_grow 2) r.dns h.dns,
+      options_grow dns_data IsWrittenDns 6 (dns_grow 2) r.dns h.dns,
       (
         text_options_grow 6 r.domain,
         (
           text_options_grow 6 r.handle,
           (
-            options_grow node_data IsNode 6 (nodes_grow 4) r.node h.node,
+            options_grow node_data IsWrittenNode 6 (nodes_grow 4) r.node h.node,
             (
-              options_grow (array_data rule_data) (AllByRecursion IsRule) 6 (arrays_grow rule_data IsRule 5 (rules_grow 1)) r.filter h.filter,
+              options_grow (array_data rule_data) (AllByRecursion IsWrittenRule) 6 (arrays_grow rule_data IsWrittenRule 5 (rules_grow 1)) r.filter h.filter,
               (
-                lists_grow node_data IsNode 5 (nodes_grow 3) r.peers h.peers,
+                lists_grow node_data IsWrittenNode 5 (nodes_grow 3) r.peers h.peers,
                 (
-                  lists_grow node_data IsNode 5 (nodes_grow 3) r.changed h.changed,
+                  lists_grow node_data IsWrittenNode 5 (nodes_grow 3) r.changed h.changed,
                   (
-                    lists_grow patch_data IsPatch 5 (patches_grow 3) r.patches h.patches,
+                    lists_grow patch_data IsWrittenPatch 5 (patches_grow 3) r.patches h.patches,
                     (
-                      lists_grow number_data IsNumber 5 (λ m k. k) r.removed h.removed,
+                      lists_grow number_data FitsWord 5 (λ m k. k) r.removed h.removed,
                       (
-                        options_grow number_data IsNumber 6 (λ m k. k) r.seq h.seq,
-                        (lists_grow profile_data IsProfile 5 (profiles_grow 4) r.profiles h.profiles, tt),
+                        options_grow number_data FitsWord 6 (λ m k. k) r.seq h.seq,
+                        (lists_grow profile_data IsWrittenProfile 5 (profiles_grow 4) r.profiles h.profiles, tt),
                       ),
                     ),
                   ),

@@ -1,17 +1,15 @@
 -- The forms of single values tell them.
 use Rattle.std.proofs.Common.{◌≡◌, ◌<◌, ℕ, ℤ, Bool, true, false, List, [], ◌∷◌, ◌++◌, eqb, Option, Some, None, arith, refl, sym, ap, ◌∙◌, inl, inr, append_assoc}
-use Rattle.std.specs.Prelude.{codes, IfSome, cond, ◌==◌}
+use Rattle.std.specs.Prelude.{codes, IfSome, cond}
 use Rattle.std.specs.Char.{is_ascii_digit, digit_value}
 use Rattle.std.specs.Fmt.{decimal, digits}
 use Rattle.std.specs.List.{list_all}
 use Rattle.std.proofs.lemmas.Bool.{and_parts, cases_eq, eqb-true, ne_eqb, not_from_false}
 use Rattle.std.proofs.lemmas.Bool.Decides.{nat_tests}
 use Rattle.hex.specs.Hex.{IsBytes}
-use Rattle.serde_json.specs.Data.{string}
 use Rattle.net_addr.specs.AddrTexts.{addr_of_text, addr_text}
-use Rattle.net_addr.specs.Bits.{Address, Block, IsBlock, family_bits, family_size}
+use Rattle.net_addr.specs.Bits.{Address, Block, IsBlock, family_bits}
 use Rattle.net_addr.specs.Civil.{date_after}
-use Rattle.net_addr.specs.declared.endpoint.Endpoint.{Endpoint}
 use Rattle.net_addr.specs.Moments.{IsMoment, first_moment}
 use Rattle.net_addr.specs.MomentTexts.{moment_text}
 use Rattle.net_addr.specs.PrefixTexts.{prefix_text}
@@ -26,7 +24,7 @@ use Rattle.tail_base.specs.declared.key.NodeKey.{NodeKey}
 use Rattle.tail_base.proofs.KeyLemmas.{key_text-injective}
 use Rattle.wire_write.specs.Filters.{span_data, span_text}
 use Rattle.wire_write.specs.Parts.{disco_key_data, endpoint_data, machine_key_data, moment_data, node_key_data, prefix_data, time_data}
-use Rattle.wire_laws.specs.Values.{IsAddress, IsEndpoint, IsExpiry}
+use Rattle.wire_laws.specs.Values.{IsWrittenAddr, IsWrittenEndpoint, IsWrittenExpiry}
 use Rattle.wire_laws.proofs.FormLemmas.{Tells, strings_tell}
 
 -- ---- keys
@@ -55,7 +53,7 @@ pub prefixes_tell : Tells prefix_data IsBlock
 unfolding prefix_data
 prefixes_tell a b p q e = prefix_text-injective a b p q (strings_tell _ _ e)
 
-pub endpoints_tell : Tells endpoint_data IsEndpoint
+pub endpoints_tell : Tells endpoint_data IsWrittenEndpoint
 unfolding endpoint_data
 endpoints_tell a b p q e = endpoint_text-injective a b p.addr q.addr p.port q.port (strings_tell _ _ e)
 
@@ -72,10 +70,10 @@ zero_time = refl
 first_is : IsMoment first_moment
 first_is = (omega arith, omega arith)
 
-no_zero_time : (t : ℤ) → IsExpiry t → codes "0001-01-01T00:00:00Z" ≡ moment_text t → ⊥
+no_zero_time : (t : ℤ) → IsWrittenExpiry t → codes "0001-01-01T00:00:00Z" ≡ moment_text t → ⊥
 no_zero_time t h e = h.later (sym (moment_text-injective first_moment t first_is h.moment (zero_time ∙ e)))
 
-pub times_tell : (o p : Option ℤ) → IfSome o IsExpiry → IfSome p IsExpiry → time_data o ≡ time_data p → o ≡ p
+pub times_tell : (o p : Option ℤ) → IfSome o IsWrittenExpiry → IfSome p IsWrittenExpiry → time_data o ≡ time_data p → o ≡ p
 unfolding moment_data
 times_tell None None h k e = refl
 times_tell None (Some t) h k e = absurd (no_zero_time t k (strings_tell _ _ e))
@@ -96,7 +94,7 @@ digit_other b h = grind (arith, nat_tests)
 slash_foreign : IsForeign 47
 slash_foreign = record { hex = hex_other; digit = digit_other; colon = refl; dot = refl }
 
-no_slash : (a : Address) → IsAddress a → list_all (is_other 47) (addr_text a) ≡ true
+no_slash : (a : Address) → IsWrittenAddr a → list_all (is_other 47) (addr_text a) ≡ true
 no_slash a h = addr_other 47 slash_foreign (addr_text a) a.v6 a.bits (addr_written a.v6 a.bits h)
 
 a_slash : (xs ys : List ℕ) → list_all (is_other 47) (xs ++ 47 ∷ ys) ≡ true → ⊥
@@ -108,7 +106,7 @@ prefix_slash : (p : Block) → list_all (is_other 47) (prefix_text p) ≡ true �
 prefix_slash p h = a_slash (addr_text p.base) (decimal p.len) (ap (list_all (is_other 47)) (sym (append_assoc (addr_text p.base) (codes "/") (decimal p.len))) ∙ h)
 
 -- an address and a prefix have different texts
-apart : (a : Address) (p : Block) → IsAddress a → addr_text a ≡ prefix_text p → ⊥
+apart : (a : Address) (p : Block) → IsWrittenAddr a → addr_text a ≡ prefix_text p → ⊥
 apart a p h e = prefix_slash p (ap (list_all (is_other 47)) (sym e) ∙ no_slash a h)
 
 -- which of both is written
@@ -137,7 +135,7 @@ unfolding span_data
 spans_tell p q h k e = span_texts_tell p q h k (strings_tell _ _ e)
 
 -- no address is written as `*`
-star_address : (a : Address) → IsAddress a → codes "*" ≡ addr_text a → ⊥
+star_address : (a : Address) → IsWrittenAddr a → codes "*" ≡ addr_text a → ⊥
 star_address a h e =
     let bad = ap addr_of_text e ∙ addr_again a h (addr_text a) refl in
     cc (bad)

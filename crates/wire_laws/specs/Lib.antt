@@ -1,5 +1,6 @@
 pub mod Dns
 pub mod Filters
+pub mod Frames
 pub mod Nodes
 pub mod Responses
 pub mod Trees

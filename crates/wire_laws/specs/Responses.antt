@@ -1,24 +1,20 @@
 -- Which responses the server writes.
-use Rattle.std.specs.Prelude.{List, IfSome}
+use Rattle.std.specs.Prelude.{IfSome}
 use Rattle.std.specs.List.{AllByRecursion}
 use Rattle.tailcfg.specs.declared.response.Response.{Response}
-use Rattle.wire_laws.specs.Dns.{IsDns}
-use Rattle.wire_laws.specs.Filters.{IsRule}
-use Rattle.wire_laws.specs.Nodes.{IsNode, IsPatch, IsProfile}
-use Rattle.wire_laws.specs.Trees.{IsNumber}
+use Rattle.wire_laws.specs.Dns.{IsWrittenDns}
+use Rattle.wire_laws.specs.Filters.{IsWrittenRule}
+use Rattle.wire_laws.specs.Nodes.{IsWrittenNode, IsWrittenPatch, IsWrittenProfile}
+use Rattle.wire_laws.specs.Trees.{FitsWord}
 
--- Each part is one that is written.
+-- The number of its session fits 64 bits, and each part is one that is written.
 pub record IsWritten (r : Response) : Type 0 where
-  pub seq : IfSome r.seq IsNumber
-  pub node : IfSome r.node IsNode
-  pub filter : IfSome r.filter (AllByRecursion IsRule)
-  pub dns : IfSome r.dns IsDns
-  pub peers : AllByRecursion IsNode r.peers
-  pub changed : AllByRecursion IsNode r.changed
-  pub removed : AllByRecursion IsNumber r.removed
-  pub patches : AllByRecursion IsPatch r.patches
-  pub profiles : AllByRecursion IsProfile r.profiles
-
--- each response is one that is written
-abbrev pub AreWritten : List Response → Type 0
-AreWritten rs = AllByRecursion IsWritten rs
+  pub seq : IfSome r.seq FitsWord
+  pub node : IfSome r.node IsWrittenNode
+  pub filter : IfSome r.filter (AllByRecursion IsWrittenRule)
+  pub dns : IfSome r.dns IsWrittenDns
+  pub peers : AllByRecursion IsWrittenNode r.peers
+  pub changed : AllByRecursion IsWrittenNode r.changed
+  pub removed : AllByRecursion FitsWord r.removed
+  pub patches : AllByRecursion IsWrittenPatch r.patches
+  pub profiles : AllByRecursion IsWrittenProfile r.profiles

@@ -3,12 +3,12 @@ use Rattle.std.specs.Prelude.{◌<◌, ◌^◌, ℕ, zero, suc, ⊤}
 use Rattle.serde_json.specs.Data.{Num, unsigned, negative, float, Data, null, boolean, number, string, array, object, Items, no_items, item, Members, no_members, member}
 
 -- a number of 64 bits, as each number of a message is
-abbrev pub IsNumber : ℕ → Type 0
-IsNumber n = n < 2 ^ 64
+abbrev pub FitsWord : ℕ → Type 0
+FitsWord n = n < 2 ^ 64
 
 -- a number of 64 bits, neither below zero nor a float
 abbrev pub IsCount : Num → Type 0
-IsCount (unsigned n) = IsNumber n
+IsCount (unsigned n) = FitsWord n
 IsCount (negative z) = ⊥
 IsCount (float x) = ⊥
 

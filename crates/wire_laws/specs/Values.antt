@@ -5,15 +5,15 @@ use Rattle.net_addr.specs.Moments.{IsMoment, first_moment}
 use Rattle.net_addr.specs.declared.endpoint.Endpoint.{Endpoint}
 
 -- the address's number is one of its family
-abbrev pub IsAddress : Address → Type 0
-IsAddress addr = addr.bits < family_size addr.v6
+abbrev pub IsWrittenAddr : Address → Type 0
+IsWrittenAddr addr = addr.bits < family_size addr.v6
 
 -- its address is one, and its port has 16 bits
-pub record IsEndpoint (e : Endpoint) : Type 0 where
-  pub addr : IsAddress e.addr
+pub record IsWrittenEndpoint (e : Endpoint) : Type 0 where
+  pub addr : IsWrittenAddr e.addr
   pub port : e.port < 2 ^ 16
 
 -- A moment, but for the first: Go's zero time is written where there is no moment.
-pub record IsExpiry (t : ℤ) : Type 0 where
+pub record IsWrittenExpiry (t : ℤ) : Type 0 where
   pub moment : IsMoment t
   pub later : t ≢ first_moment

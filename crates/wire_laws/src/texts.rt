@@ -1,4 +1,4 @@
-//! Laws of what is written. None of these functions does anything: each states a law.
+//! Laws of the texts of responses. None of these functions does anything: each states a law.
 ghost use Rattle.std.specs.Prelude.{◌≡◌, ◌≤◌, ℕ};
 ghost use Rattle.json.specs.Json.{max_depth};
 ghost use Rattle.serde_json.specs.Data.{Data};
@@ -13,9 +13,9 @@ ghost use Rattle.wire_write.specs.Dns.{dns_data};
 ghost use Rattle.wire_write.specs.Filters.{rule_data};
 ghost use Rattle.wire_write.specs.Nodes.{node_data, patch_data, profile_data};
 ghost use Rattle.wire_write.specs.Responses.{response_text};
-ghost use Rattle.wire_laws.specs.Dns.{IsDns};
-ghost use Rattle.wire_laws.specs.Filters.{IsRule};
-ghost use Rattle.wire_laws.specs.Nodes.{IsNode, IsPatch};
+ghost use Rattle.wire_laws.specs.Dns.{IsWrittenDns};
+ghost use Rattle.wire_laws.specs.Filters.{IsWrittenRule};
+ghost use Rattle.wire_laws.specs.Nodes.{IsWrittenNode, IsWrittenPatch};
 ghost use Rattle.wire_laws.specs.Responses.{IsWritten};
 ghost use Rattle.wire_laws.specs.Trees.{IsTree};
 
@@ -28,11 +28,11 @@ pub fn json_texts_differ()
 
 /// No two nodes have one form in JSON, no two peer changes, profiles, filter rules or DNS settings.
 pub fn forms_differ()
-    ensures nodes { (a b : NodeRow) → IsNode a → IsNode b → node_data a ≡ node_data b → a ≡ b }
-    ensures patches { (a b : Patch) → IsPatch a → IsPatch b → patch_data a ≡ patch_data b → a ≡ b }
+    ensures nodes { (a b : NodeRow) → IsWrittenNode a → IsWrittenNode b → node_data a ≡ node_data b → a ≡ b }
+    ensures patches { (a b : Patch) → IsWrittenPatch a → IsWrittenPatch b → patch_data a ≡ patch_data b → a ≡ b }
     ensures profiles { (a b : Profile) → profile_data a ≡ profile_data b → a ≡ b }
-    ensures rules { (a b : FilterRule) → IsRule a → IsRule b → rule_data a ≡ rule_data b → a ≡ b }
-    ensures dns { (a b : Dns) → IsDns a → IsDns b → dns_data a ≡ dns_data b → a ≡ b }
+    ensures rules { (a b : FilterRule) → IsWrittenRule a → IsWrittenRule b → rule_data a ≡ rule_data b → a ≡ b }
+    ensures dns { (a b : Dns) → IsWrittenDns a → IsWrittenDns b → dns_data a ≡ dns_data b → a ≡ b }
 {}
 
 /// The text of a response tells it: no two responses that the server writes have one text.
