@@ -21,7 +21,8 @@ IsWrittenRoute r = AllByRecursion IsWrittenAddr r.resolvers
 abbrev pub IsWrittenExtra : DnsExtra → Type 0
 IsWrittenExtra e = IsWrittenAddr e.addr
 
--- The fields have values of their types; and suffixes stand in byte order, each once.
+-- The fields have values of their types; and suffixes stand in byte order, each once, as the keys of a settings file's
+-- table do.
 pub record IsWrittenDns (d : Dns) : Type 0 where
   pub resolvers : AllByRecursion IsWrittenAddr d.settings.resolvers
   pub routes : AllByRecursion IsWrittenRoute d.settings.routes

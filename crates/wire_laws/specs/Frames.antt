@@ -10,5 +10,6 @@ pub record IsFramed (r : Response) : Type 0 where
   pub written : IsWritten r
   pub sized : length (frame_of r) < 2 ^ 64
 
+-- each is one
 abbrev pub AreFramed : List Response → Type 0
 AreFramed rs = AllByRecursion IsFramed rs

@@ -10,7 +10,7 @@ use Rattle.tailcfg.specs.declared.profile.Profile.{Profile}
 use Rattle.wire_laws.specs.Trees.{FitsWord}
 use Rattle.wire_laws.specs.Values.{IsWrittenEndpoint, IsWrittenExpiry}
 
--- The fields have values of their types; and no key ends at the first moment.
+-- The fields have values of their types; and its key doesn't end at the first moment.
 pub record IsWrittenNode (r : NodeRow) : Type 0 where
   pub id : FitsWord r.id
   pub user : FitsWord r.user

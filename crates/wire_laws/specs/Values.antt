@@ -13,7 +13,8 @@ pub record IsWrittenEndpoint (e : Endpoint) : Type 0 where
   pub addr : IsWrittenAddr e.addr
   pub port : e.port < 2 ^ 16
 
--- A moment, but for the first: Go's zero time is written where there is no moment.
+-- A moment, but for the first, since Go's zero time is written where there is none. A live machine's key ends later than
+-- now, so that none that is shown ends there.
 pub record IsWrittenExpiry (t : ℤ) : Type 0 where
   pub moment : IsMoment t
   pub later : t ≢ first_moment

@@ -19,23 +19,29 @@ ghost use Rattle.wire_laws.specs.Nodes.{IsWrittenNode, IsWrittenPatch};
 ghost use Rattle.wire_laws.specs.Responses.{IsWritten};
 ghost use Rattle.wire_laws.specs.Trees.{IsTree};
 
-/// No two values of JSON have one text, where their numbers are whole and they nest no deeper than
-/// a reader goes.
+/// No two values of JSON have one text, where their numbers are whole and of 64 bits, and they nest
+/// no deeper than the library's reader goes (RFC 8259).
 pub fn json_texts_differ()
     ensures differ { (n : ℕ) (d e : Data) → n ≤ max_depth → IsTree n d → IsTree n e
         → compact_text d ≡ compact_text e → d ≡ e }
 {}
 
-/// No two nodes have one form in JSON, no two peer changes, profiles, filter rules or DNS settings.
+/// No two nodes (`tailcfg.Node`) have one form in JSON; nor have two peer changes (`PeerChange`),
+/// profiles (`UserProfile`), filter rules (`FilterRule`) or DNS settings (`DNSConfig`).
 pub fn forms_differ()
-    ensures nodes { (a b : NodeRow) → IsWrittenNode a → IsWrittenNode b → node_data a ≡ node_data b → a ≡ b }
-    ensures patches { (a b : Patch) → IsWrittenPatch a → IsWrittenPatch b → patch_data a ≡ patch_data b → a ≡ b }
+    ensures nodes { (a b : NodeRow) → IsWrittenNode a → IsWrittenNode b
+        → node_data a ≡ node_data b → a ≡ b }
+    ensures patches { (a b : Patch) → IsWrittenPatch a → IsWrittenPatch b
+        → patch_data a ≡ patch_data b → a ≡ b }
     ensures profiles { (a b : Profile) → profile_data a ≡ profile_data b → a ≡ b }
-    ensures rules { (a b : FilterRule) → IsWrittenRule a → IsWrittenRule b → rule_data a ≡ rule_data b → a ≡ b }
-    ensures dns { (a b : Dns) → IsWrittenDns a → IsWrittenDns b → dns_data a ≡ dns_data b → a ≡ b }
+    ensures rules { (a b : FilterRule) → IsWrittenRule a → IsWrittenRule b
+        → rule_data a ≡ rule_data b → a ≡ b }
+    ensures dns { (a b : Dns) → IsWrittenDns a → IsWrittenDns b
+        → dns_data a ≡ dns_data b → a ≡ b }
 {}
 
-/// The text of a response tells it: no two responses that the server writes have one text.
+/// The text of a response (`tailcfg.MapResponse`) tells it: no two responses that the server writes
+/// have one text.
 pub fn texts_tell_responses()
     ensures tell { (a b : Response) → IsWritten a → IsWritten b
         → response_text a ≡ response_text b → a ≡ b }
