@@ -38,7 +38,7 @@ first_small false true z c rest p q r small = omega (arith, ltb-true c 2048 q)
 first_small false false true c rest p q r small = omega (arith, ltb-true c 65536 r)
 first_small false false false c rest p q r small = omega arith
 
-scalar_small : (c : ℕ) → scalar c ≡ true → c < 1114112
+pub scalar_small : (c : ℕ) → scalar c ≡ true → c < 1114112
 scalar_small c h = elim (scalar_cases c h) [ inl low ↦ omega arith | inr high ↦ high.1 ]
 
 encode_small : (c : ℕ) (rest : List ℕ) → c < 1114112 → get_or (encode c ++ rest) 0 0 < 256
@@ -89,7 +89,7 @@ abbrev pub told : List ℕ → Found → Route × ℕ × List ℕ
 told path found = (found.route, found.id, segment_from path found.start)
 
 -- a path of UTF-8 with an entry leads where the entry says
-leads_by : (path : List ℕ) (e : Entry) → is_utf8 path ≡ true → entry_in path ≡ Some e
+pub leads_by : (path : List ℕ) (e : Entry) → is_utf8 path ≡ true → entry_in path ≡ Some e
     → leads path ≡ option_map (told path) (with_id path e)
 leads_by path e text here = rw (text, here) refl
 

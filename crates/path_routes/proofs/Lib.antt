@@ -1,3 +1,5 @@
 pub mod LeadLemmas
+pub mod OnlyLemmas
 pub mod SeekLemmas
+pub mod SoughtLemmas
 pub mod TableLemmas

@@ -86,7 +86,7 @@ some_goes_on [] = false
 some_goes_on (([], key) ∷ rows) = some_goes_on rows
 some_goes_on ((x ∷ t, key) ∷ rows) = true
 
-same_nat : (m n : ℕ) → (m == n) ≡ true → m ≡ n
+pub same_nat : (m n : ℕ) → (m == n) ≡ true → m ≡ n
 same_nat m n h = grind (arith, nat_tests)
 
 not_slash : (t r : Bool) → cond t true r ≡ false → (t ≡ false) × (r ≡ false)
@@ -142,7 +142,7 @@ more : (seg : List ℕ) → length (seg ++ 47 ∷ []) ≡ suc (length seg)
 more [] = refl
 more (b ∷ seg) = ap suc (more seg)
 
-one_less : (n : ℕ) → suc n - 1 ≡ n
+pub one_less : (n : ℕ) → suc n - 1 ≡ n
 one_less n = omega arith
 
 ends_slash : (seg : List ℕ) → ends_with nat_eq (seg ++ 47 ∷ []) (47 ∷ []) ≡ true

@@ -1,10 +1,11 @@
 //! Laws of the definitions. None of these functions does anything: each states a law.
-ghost use Rattle.std.specs.Prelude.{◌≡◌, ◌≤◌, ◌∷◌, ℕ, List, [], Some, codes, true, false, is_some};
+ghost use Rattle.std.specs.Prelude.{◌≡◌, ◌≤◌, ◌∷◌, ℕ, List, [], None, Some, codes, true, false, is_some};
 ghost use Rattle.std.specs.Fmt.{decimal};
-ghost use Rattle.std.specs.List.{All};
+ghost use Rattle.std.specs.List.{All, Any};
 ghost use Rattle.net_rows.specs.declared.limits.TheConstants.{COUNTER_LIMIT};
-ghost use Rattle.path_routes.specs.Leads.{IsSegment, filled, leads};
+ghost use Rattle.path_routes.specs.Leads.{IsLed, IsSegment, filled, leads};
 ghost use Rattle.path_routes.specs.Table.{brace_in, names_id, paths};
+ghost use Rattle.path_routes.specs.declared.route.Route.{Route};
 ghost use Rattle.path_routes.specs.declared.route.Route.TheVariants as routes;
 
 /// Each path of the table leads to its route: one without braces as it stands, one with `{id}` with
@@ -18,6 +19,16 @@ pub fn paths_lead()
     ensures rows { (segment : List ℕ) → IsSegment segment
         → All (λ path. is_some (brace_in path.0) ≡ true → names_id path.0 ≡ false
         → leads (filled path.0 segment) ≡ Some (path.1, 0, segment)) paths }
+{}
+
+/// Nothing else leads anywhere: a path that leads to a route is one of the table, with some segment in
+/// the braces' place if it has braces, and its id and the segment that names the row are those that
+/// stand there. A path that is none of these leads nowhere.
+pub fn only_these_paths_lead()
+    ensures only { (path : List ℕ) (route : Route) (id : ℕ) (segment : List ℕ)
+        → leads path ≡ Some (route, id, segment) → Any (IsLed path route id segment) paths }
+    ensures nowhere { (path : List ℕ) → ((route : Route) (id : ℕ) (segment : List ℕ)
+        → Any (IsLed path route id segment) paths → ⊥) → leads path ≡ None }
 {}
 
 /// The paths of the table, each with its route.
