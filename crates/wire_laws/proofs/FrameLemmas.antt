@@ -39,3 +39,7 @@ pub bodies_tell : (rs ss : List Response) (rest behind : List ℕ) → AreFramed
 bodies_tell rs ss rest behind p q e =
     let both = same_bodies (map frame_of rs) (map frame_of ss) rest behind (are_frames rs p) (are_frames ss q) e in
     (each_told rs ss p q both.0, both.1)
+
+-- what was written before the last chunk
+pub chunks_tell : (rs ss : List Response) → AreFramed rs → AreFramed ss → chunks_of (map frame_of rs) ≡ chunks_of (map frame_of ss) → rs ≡ ss
+chunks_tell rs ss p q e = (bodies_tell rs ss [] [] p q (ap (λ bytes. bytes ++ (last_chunk ++ [])) e)).0
