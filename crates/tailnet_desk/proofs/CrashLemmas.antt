@@ -151,7 +151,14 @@ kept_safe told is_clean may_leave p e reply q undone same = record {
     left (Lost loss) undone found may = inl may
 
 -- what holds where a decision was kept holds where it is replied to
-pub done_by : (kept : Result (Unit {0}) EdgeFault) (answer : Answer) (holds : Type 0) → OnOk kept holds → IfDone (reply_of kept answer) holds
+done_by : (kept : Result (Unit {0}) EdgeFault) (answer : Answer) (holds : Type 0) → OnOk kept holds → IfDone (reply_of kept answer) holds
 done_by (Ok done) answer holds h = h
 done_by (Err edge.NoMemory) answer holds h = tt
 done_by (Err edge.Failed) answer holds h = tt
+
+pub replied_lasts : {K : Type 0} (told : K → Option Rows) (is_clean : K → Bool) (may_leave : K → Option Rows → Type 0) (change : Option Change)
+    (kept : Result (Unit {0}) EdgeFault) (answer : Answer) (reply : Reply) (k : K) (rows : Rows) (l : K) → reply ≡ reply_of kept answer
+    → OnOk kept (IfSome change (λ c. LeavesOnly told is_clean may_leave k rows l)) → IfDone reply (IfSome change (λ c. LeavesOnly told is_clean may_leave k rows l))
+replied_lasts told is_clean may_leave change kept answer reply k rows l is h =
+    subst (λ r. IfDone r (IfSome change (λ c. LeavesOnly told is_clean may_leave k rows l))) (sym is)
+    (done_by kept answer (IfSome change (λ c. LeavesOnly told is_clean may_leave k rows l)) h)
