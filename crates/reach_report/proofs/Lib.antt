@@ -1,0 +1,7 @@
+pub mod BackLemmas
+pub mod FirstLemmas
+pub mod FlowLemmas
+pub mod ListLemmas
+pub mod MemberLemmas
+pub mod ReachLaws
+pub mod TextLemmas

@@ -1,0 +1,4 @@
+pub mod FirstGrant
+pub mod Reaches
+pub mod Records
+pub mod ReportTexts
