@@ -33,7 +33,7 @@ never_none front never h rest x = never [] h rest (subst (λ b. ReadsRequest b h
 pub never_begins : (front : List ℕ) → NeverHasRequest front → (EndsInTarget front → ⊥) → MayBecomeRequest front → ⊥
 never_begins front never outside begins = elim begins [ inl x ↦ never x.0 x.1 [] x.2 | inr x ↦ outside x ]
 
-end_some : (end : LineEnd) → 0 < length (print_end end)
+pub end_some : (end : LineEnd) → 0 < length (print_end end)
 end_some crlf = omega arith
 end_some lf = omega arith
 

@@ -1,9 +1,11 @@
 pub mod ChunkLemmas
 pub mod Heads
+pub mod Judged
 pub mod Looks
 pub mod MethodLemmas
 pub mod Needs
 pub mod PathLemmas
+pub mod Readings
 pub mod Refusals
 pub mod Serving
 pub mod Streams

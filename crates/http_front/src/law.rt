@@ -14,6 +14,12 @@ pub fn one_reading()
         → (requests ≡ others) × (tail ≡ other) }
 {}
 
+/// Each byte string is whole requests and a tail in some way, and so, with the law before, in exactly one.
+pub fn there_is_a_reading()
+    ensures some { (bytes : List ℕ) → (requests : List Request) × (tail : Tail)
+        × Splits bytes requests tail }
+{}
+
 /// Whole requests with nothing behind them are read as these requests and the end.
 pub fn whole_requests()
     ensures all { (bytes : List ℕ) (requests others : List Request) (tail : Tail)

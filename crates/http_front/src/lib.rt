@@ -21,7 +21,10 @@ pub use chunk::{chunk_of, last_chunk, stream_head};
 pub use chunk_laws::{streams_are_read_one_way, streams_differ};
 pub use head::length_value;
 pub use head_fault::HeadFault;
-pub use law::{one_reading, refusals_stay, served_first, the_numbers_are_these, whole_requests};
+pub use law::{
+    one_reading, refusals_stay, served_first, the_numbers_are_these, there_is_a_reading,
+    whole_requests,
+};
 pub use lines::{count_named, first_named};
 pub use looking::{HEAD_LIMIT, ROOM};
 pub use request::{Request, Taken};

@@ -1,14 +1,16 @@
 -- What an open after a crash may find.
-use Rattle.std.proofs.Common.{◌≡◌, ◌≢◌, ◌⊎◌, ◌∙◌, ℕ, ℤ, Bool, List, Option, Some, None, Result, Ok, inl, refl, sym, ap, subst}
-use Rattle.std.specs.Prelude.{IfSome, IsSome, IsTrue}
+use Rattle.std.proofs.Common.{◌≡◌, ◌≢◌, ◌⊎◌, ◌∙◌, ℕ, ℤ, Bool, List, Option, Some, None, Result, Ok, Err, inl, refl, sym, ap, subst}
+use Rattle.std.specs.Prelude.{IfSome, IsSome, IsTrue, OnOk}
 use Rattle.io_edge.specs.Edge.{IsWhereTold}
+use Rattle.io_edge.specs.declared.faults.EdgeFault.{EdgeFault}
+use Rattle.io_edge.specs.declared.faults.EdgeFault.TheVariants as edge
 use Rattle.net_rows.specs.Rows.{after}
 use Rattle.net_rows.specs.declared.change.Change.{Change}
 use Rattle.net_rows.specs.declared.rows.Rows.{Rows}
 use Rattle.desk_state.specs.Decisions.{rows_after}
 use Rattle.desk_state.specs.State.{State, at_moment}
 use Rattle.desk_state.specs.declared.decision.Decision.{Decision}
-use Rattle.tailnet_desk.specs.Carried.{Carried}
+use Rattle.tailnet_desk.specs.Carried.{Carried, reply_of}
 use Rattle.tailnet_desk.specs.Crashes.{IfDone, IsSafeTurn, LeavesAlso, LeavesOnly, left_behind}
 use Rattle.tailnet_desk.specs.Seated.{Keeping, Seated}
 use Rattle.tailnet_desk.specs.Step.{decision, outcome, step}
@@ -31,14 +33,14 @@ leaves_same told is_clean may_leave k rows l same = record {
 also_held : (may before : Option Rows → Type 0) (rows : Rows) (change : Change) (told : Option Rows) → IsWhereTold rows told
     → IfSome told (λ r. (found : Option Rows) → may found → before found ⊎ (found ≡ Some (after r change)))
     → IsSome told → (found : Option Rows) → may found → before found ⊎ (found ≡ Some (after rows change))
-also_held may before rows change None held said tells = absurd tells
+also_held may before rows change None held said tells = absurd cc
 also_held may before rows change (Some r) held said tells =
     subst (λ (x : Rows). (found : Option Rows) → may found → before found ⊎ (found ≡ Some (after x change))) (sym held) said
 
 only_held : (may : Option Rows → Type 0) (rows : Rows) (change : Change) (told : Option Rows) → IsWhereTold rows told
     → IfSome told (λ r. (found : Option Rows) → may found → found ≡ Some (after r change))
     → IsSome told → (found : Option Rows) → may found → found ≡ Some (after rows change)
-only_held may rows change None held said tells = absurd tells
+only_held may rows change None held said tells = absurd cc
 only_held may rows change (Some r) held said tells =
     subst (λ (x : Rows). (found : Option Rows) → may found → found ≡ Some (after x change)) (sym held) said
 
@@ -147,3 +149,16 @@ kept_safe told is_clean may_leave p e reply q undone same = record {
     left Detached undone found may = may
     left (Refused r) undone found may = may
     left (Lost loss) undone found may = inl may
+
+-- what holds where a decision was kept holds where it is replied to
+done_by : (kept : Result (Unit {0}) EdgeFault) (answer : Answer) (holds : Type 0) → OnOk kept holds → IfDone (reply_of kept answer) holds
+done_by (Ok done) answer holds h = h
+done_by (Err edge.NoMemory) answer holds h = tt
+done_by (Err edge.Failed) answer holds h = tt
+
+pub replied_lasts : {K : Type 0} (told : K → Option Rows) (is_clean : K → Bool) (may_leave : K → Option Rows → Type 0) (change : Option Change)
+    (kept : Result (Unit {0}) EdgeFault) (answer : Answer) (reply : Reply) (k : K) (rows : Rows) (l : K) → reply ≡ reply_of kept answer
+    → OnOk kept (IfSome change (λ c. LeavesOnly told is_clean may_leave k rows l)) → IfDone reply (IfSome change (λ c. LeavesOnly told is_clean may_leave k rows l))
+replied_lasts told is_clean may_leave change kept answer reply k rows l is h =
+    subst (λ r. IfDone r (IfSome change (λ c. LeavesOnly told is_clean may_leave k rows l))) (sym is)
+    (done_by kept answer (IfSome change (λ c. LeavesOnly told is_clean may_leave k rows l)) h)

@@ -3,6 +3,8 @@ ghost use Rattle.std.specs.Prelude.{◌≡◌, ◌≤◌, ℕ, IfOk, IfErr, IfSo
 ghost use Rattle.io_edge.specs.Edge.{IsWhereTold, Rose, StillTells};
 ghost use Rattle.desk_state.specs.State.{offline_at};
 ghost use Rattle.policy_asks.specs.Kept.{policy_in};
+ghost use Rattle.row_keeper.specs.Calls.{one_more};
+ghost use Rattle.tailnet_desk.specs.Crashes.{LeavesAlso};
 ghost use Rattle.tailnet_desk.specs.Opening.{IsOpenFault, unread_policy};
 
 use crate::desk::OpenFault;

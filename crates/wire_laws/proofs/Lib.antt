@@ -1,0 +1,10 @@
+pub mod DnsForms
+pub mod FilterForms
+pub mod FormLemmas
+pub mod FrameLemmas
+pub mod MemberLemmas
+pub mod NodeForms
+pub mod ResponseForms
+pub mod RouteLemmas
+pub mod TreeLemmas
+pub mod ValueForms
