@@ -1,6 +1,6 @@
 //! The keeper of the shipped program.
 ghost use Rattle.std.specs.Prelude.{◌≡◌};
-ghost use Rattle.keeper_sqlite.specs.Host.{calls_of, faults_of, told_of};
+ghost use Rattle.keeper_sqlite.specs.Host.{calls_of, faults_of, is_clean_of, may_leave_of, told_of};
 
 use crate::keeper::SqliteKeeper;
 use io_edge::EdgeFault;
@@ -44,6 +44,10 @@ impl HostKeeper {
 
 impl Keeper for HostKeeper {
     ghost told = { told_of };
+
+    ghost is_clean = { is_clean_of };
+
+    ghost may_leave = { may_leave_of };
 
     ghost faults = { faults_of };
 

@@ -1,5 +1,5 @@
 //! The opener of the shipped program.
-ghost use Rattle.std.specs.Prelude.{◌≡◌, ◌≢◌, false, true, None, Err, IfOk, codes};
+ghost use Rattle.std.specs.Prelude.{◌≡◌, ◌≢◌, false, true, None, Err, IfOk, codes, ⊤};
 ghost use Rattle.keeper_sqlite.specs.Host.{calls_of, faults_of, is_in_memory};
 
 use crate::host_keeper::HostKeeper;
@@ -115,6 +115,11 @@ impl Opener for HostOpener {
     type Keeper = HostKeeper;
 
     ghost told = { λ _. None };
+
+    // Nothing is known of files.
+    ghost is_clean = { λ _. false };
+
+    ghost may_leave = { λ _ _. ⊤ };
 
     ghost asked = { λ _. None };
 

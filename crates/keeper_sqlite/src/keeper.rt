@@ -3,6 +3,7 @@ ghost use Rattle.std.specs.Prelude.{◌≡◌, ◌≤◌, ℕ, true, None, Err, 
 ghost use Rattle.std.specs.Option.{option_map};
 ghost use Rattle.io_edge.specs.Edge.{IsWhereTold, Rose, StillTells};
 ghost use Rattle.keeper_sqlite.specs.Known.{knows_if_loaded};
+ghost use Rattle.keeper_sqlite.specs.Left.{Finds};
 ghost use Rattle.net_rows.specs.declared.change.Kind.{Kind};
 ghost use Rattle.net_rows.specs.Damage.{damage};
 ghost use Rattle.net_rows.specs.Rows.{after, empty_rows};
@@ -17,6 +18,7 @@ ghost use Rattle.store_sql.specs.Schema.{no_schema, schema_1};
 ghost use Rattle.sqlite.specs.Held.{state};
 ghost use Rattle.sqlite.specs.State.{HasCleanDisk, Survives};
 
+use crate::written::write_change;
 use io_edge::EdgeFault;
 use net_rows::{Change, Tables};
 use row_keeper::{Keeper, LoadFault};
@@ -24,6 +26,7 @@ use sqlite::{Alter, Connection};
 use std::alloc::Global;
 use store_commits::{Fault, commit};
 use store_loads::load;
+use tail_base::NoMemory;
 
 /// Keeps the tables in the database of a connection, and tells what its store tells. Before it has
 /// loaded them it takes no change; from then on the store, as long as it is clean and open, tells.
@@ -104,6 +107,8 @@ impl<S: Alter> SqliteKeeper<S> {
             → e ≡ LoadFault.Damaged kind id → store_tells (state S.Store self.new.conn) ≡ None) }
         ensures still { StillTells (store_tells (state S.Store self.old.conn))
             (store_tells (state S.Store self.new.conn)) }
+        ensures clean { HasCleanDisk (state S.Store self.new.conn)
+            → HasCleanDisk (state S.Store self.old.conn) }
         ensures known { OnOk result (IsKnown (state S.Store self.new.conn)) }
         ensures taken { OnOk result (IsTrue self.new.is_loaded) }
         ensures calls { self.new.calls ≡ self.old.calls }
@@ -161,6 +166,10 @@ impl<S: Alter> SqliteKeeper<S> {
 impl<S: Alter + Drop> Keeper for SqliteKeeper<S> {
     ghost told = { λ k. store_tells (state S.Store k.conn) };
 
+    ghost is_clean = { λ k. (state S.Store k.conn).is_clean };
+
+    ghost may_leave = { λ k. Finds (state S.Store k.conn) };
+
     ghost faults = { λ k. k.faults };
 
     ghost calls = { λ k. k.calls };
@@ -172,6 +181,11 @@ impl<S: Alter + Drop> Keeper for SqliteKeeper<S> {
 
     fn commit(&mut self, alloc: Global, change: &Change) -> Result<(), EdgeFault> {
         self.calls = self.calls.saturating_add(1);
+        // First in memory: where the database fails at a change that could be written, what a crash
+        // keeps of it is read again.
+        if let Err(NoMemory) = write_change(alloc, change) {
+            return Err(EdgeFault::NoMemory);
+        }
         self.keep(alloc, change)
     }
 }

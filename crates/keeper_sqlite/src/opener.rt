@@ -1,6 +1,7 @@
 //! An opener over one connection.
 ghost use Rattle.std.specs.Prelude.{◌≡◌, None, Some, Err, false, IfOk, OnErr};
 ghost use Rattle.std.specs.Option.{option_and_then};
+ghost use Rattle.keeper_sqlite.specs.Left.{is_clean_in, may_be_found};
 ghost use Rattle.sqlite.specs.Held.{state};
 ghost use Rattle.store_loads.specs.Told.{store_tells};
 
@@ -51,6 +52,10 @@ impl<S: Alter + Drop + Send> Opener for SqliteOpener<S> {
     type Keeper = SqliteKeeper<S>;
 
     ghost told = { λ o. option_and_then (λ c. store_tells (state S.Store c)) o.conn };
+
+    ghost is_clean = { λ o. is_clean_in (state S.Store) o.conn };
+
+    ghost may_leave = { λ o. may_be_found (state S.Store) o.conn };
 
     ghost asked = { λ _. None };
 

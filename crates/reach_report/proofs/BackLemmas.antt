@@ -7,12 +7,12 @@ use Rattle.csv.specs.Reading.{AreRecords, Reached, default_config, strip_bom}
 use Rattle.csv.specs.Writing.{default_writer, read_back, row_text}
 use Rattle.csv.specs.declared.parser.State.TheVariants as st
 use Rattle.csv.proofs.RoundTrip.{read-write, rows_text}
-use Rattle.reach_report.specs.Records.{AreNumbered, header_record, reach_record, report_records}
+use Rattle.reach_report.specs.Records.{AreInRange, header_record, reach_record, report_records}
 use Rattle.reach_report.specs.ReportTexts.{reach_line, reach_text}
 use Rattle.reach_report.specs.declared.reach.Reach.{Reach}
 use Rattle.reach_report.proofs.TextLemmas.{header_line, numbers_record}
 
-lines_are_rows : (reaches : List Reach) → AreNumbered reaches → flat_map reach_line reaches ≡ rows_text (map reach_record reaches)
+lines_are_rows : (reaches : List Reach) → AreInRange reaches → flat_map reach_line reaches ≡ rows_text (map reach_record reaches)
 unfolding rows_text
 lines_are_rows [] h = refl
 lines_are_rows (r ∷ reaches) h =
@@ -23,7 +23,7 @@ lines_are_rows (r ∷ reaches) h =
     let rest = lines_are_rows reaches (λ x m. h x (rest_member r reaches x m)) in
     λ i. sym line i ++ rest i
 
-report_is_rows : (reaches : List Reach) → AreNumbered reaches → reach_text reaches ≡ rows_text (report_records reaches)
+report_is_rows : (reaches : List Reach) → AreInRange reaches → reach_text reaches ≡ rows_text (report_records reaches)
 unfolding rows_text
 report_is_rows reaches h = λ i. sym header_line i ++ lines_are_rows reaches h i
 
@@ -47,7 +47,7 @@ no_mark : (reaches : List Reach) → strip_bom (reach_text reaches) ≡ reach_te
 unfolding strip_bom
 no_mark reaches = refl
 
-pub read_again : (reaches : List Reach) → AreNumbered reaches → AreRecords default_config st.StartRecord (strip_bom (reach_text reaches)) (report_records reaches)
+pub read_again : (reaches : List Reach) → AreInRange reaches → AreRecords default_config st.StartRecord (strip_bom (reach_text reaches)) (report_records reaches)
 read_again reaches h =
     let text : strip_bom (reach_text reaches) ≡ rows_text (report_records reaches) = no_mark reaches ∙ report_is_rows reaches h in
     let reached = rows_reached (report_records reaches) in

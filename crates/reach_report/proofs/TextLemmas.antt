@@ -10,7 +10,7 @@ use Rattle.std.proofs.lemmas.List.{append-nil, flat_map_more, take_more}
 use Rattle.std.proofs.lemmas.List.Folds.{list_any-append}
 use Rattle.csv.specs.Writing.{default_writer, escaped, field_text, fields_text, is_blank, needs_byte, row_text}
 use Rattle.csv.specs.declared.writer.Writer.{Writer}
-use Rattle.reach_report.specs.Records.{HasWritten}
+use Rattle.reach_report.specs.Records.{HasTaken}
 use Rattle.reach_report.specs.ReportTexts.{numbers_line, reach_line}
 use Rattle.reach_report.specs.declared.reach.Reach.{Reach}
 
@@ -66,8 +66,8 @@ pub ok_moved : {X E : Type 0} (r : Result X E) (P Q : Type 0) → (P → Q) → 
 ok_moved (Ok x) P Q f h = f h
 ok_moved (Err e) P Q f h = tt
 
-pub moved : {W : Type 0} (contents : W → Option (List ℕ)) (w : Writer W) (a b : List ℕ) → a ≡ b → HasWritten contents w a → HasWritten contents w b
-moved contents w a b e h = subst (λ (text : List ℕ). HasWritten contents w text) e h
+pub moved : {W : Type 0} (contents : W → Option (List ℕ)) (w : Writer W) (a b : List ℕ) → a ≡ b → HasTaken contents w a → HasTaken contents w b
+moved contents w a b e h = subst (λ (text : List ℕ). HasTaken contents w text) e h
 
 -- one more line
 pub lines_more : (reaches : List Reach) (i : ℕ) (d : Reach) (bytes : List ℕ) → i < length reaches

@@ -1,4 +1,5 @@
 pub mod FirstGrant
+pub mod Maps
 pub mod Reaches
 pub mod Records
 pub mod ReportTexts

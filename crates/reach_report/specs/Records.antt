@@ -16,17 +16,17 @@ reach_record r = decimal r.from ∷ decimal r.to ∷ decimal r.rule ∷ []
 abbrev pub report_records : List Reach → List (List (List ℕ))
 report_records reaches = header_record ∷ map reach_record reaches
 
--- what is so of each reach by its types: ids have 32 bits, and rules are numbered in 64
-pub record IsNumbered (r : Reach) : Type 0 where
+-- what is so of each reach by its types: ids have 32 bits, and the numbers of rules 64
+pub record IsInRange (r : Reach) : Type 0 where
   pub from : r.from < 2 ^ 32
   pub to : r.to < 2 ^ 32
   pub rule : r.rule < 2 ^ 64
 
-abbrev pub AreNumbered : List Reach → Type 0
-AreNumbered reaches = (r : Reach) → Contains reaches r → IsNumbered r
+abbrev pub AreInRange : List Reach → Type 0
+AreInRange reaches = (r : Reach) → Contains reaches r → IsInRange r
 
--- A writer as the library makes it stands between two records. The bytes are those that it has written, and those that it has still to write.
-pub record HasWritten {W : Type 0} (contents : W → Option (List ℕ)) (w : Writer W) (bytes : List ℕ) : Type 0 where
+-- A writer as the library makes it stands between two records, and these are all bytes that it has taken.
+pub record HasTaken {W : Type 0} (contents : W → Option (List ℕ)) (w : Writer W) (bytes : List ℕ) : Type 0 where
   pub setup : writer_setup w ≡ default_writer
   pub fields : fields_written w ≡ 0
   pub wrote : has_written w ≡ false

@@ -10,11 +10,15 @@ ghost use Rattle.policy_sites.specs.Sites.{sites_of};
 ghost use Rattle.policy_sites.specs.declared.end.End.{End};
 ghost use Rattle.policy_sites.specs.declared.site.Site.{Site};
 ghost use Rattle.peer_view.specs.Reaches.{reaches};
+ghost use Rattle.peer_view.specs.Seen.{Node, seen_of};
+ghost use Rattle.fresh_maps.specs.Fresh.{fresh};
+ghost use Rattle.settings.specs.declared.fields.SettingsFields.{SettingsFields};
 ghost use Rattle.reach_report.specs.FirstGrant.{IsFirstGrant, first_grant};
 ghost use Rattle.csv.specs.Reading.{AreRecords, default_config, strip_bom};
 ghost use Rattle.csv.specs.declared.parser.State.TheVariants as st;
+ghost use Rattle.reach_report.specs.Maps.{has_pair, has_peer};
 ghost use Rattle.reach_report.specs.Reaches.{IsReach, reach_list_at};
-ghost use Rattle.reach_report.specs.Records.{AreNumbered, report_records};
+ghost use Rattle.reach_report.specs.Records.{AreInRange, report_records};
 ghost use Rattle.reach_report.specs.ReportTexts.{reach_text};
 ghost use Rattle.reach_report.specs.declared.reach.Reach.{Reach};
 
@@ -48,7 +52,18 @@ pub fn a_report_is_reach()
 
 /// The library's own reading of a report's text finds the header and the numbers of each line, and no record more.
 pub fn a_report_is_read_back()
-    ensures back { (reaches : List Reach) → AreNumbered reaches
+    ensures back { (reaches : List Reach) → AreInRange reaches
         → AreRecords default_config st.StartRecord (strip_bom (reach_text reaches))
         (report_records reaches) }
+{}
+
+/// In tables that keep their rules, a machine is a peer in the fresh map of another one exactly where the report says something
+/// of the two, from one to the other or back.
+pub fn reports_agree_with_maps()
+    ensures same { (settings : SettingsFields) (policy : Option Policy) (rows : Rows)
+        (live online : List ℕ) (m : Node) (id : ℕ)
+        → AreSoundRules (rules_of policy) → damage rows ≡ None
+        → Contains (seen_of settings policy rows live online).nodes m
+        → has_peer (fresh (seen_of settings policy rows live online) m) id
+        ≡ has_pair (reach_list_at policy rows live) m.row.id id }
 {}

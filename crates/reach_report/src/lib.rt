@@ -11,7 +11,9 @@ mod texts;
 
 pub use explaining::explain;
 pub use granted::Granted;
-pub use laws::{a_first_grant_is_least, a_report_is_reach, a_report_is_read_back};
+pub use laws::{
+    a_first_grant_is_least, a_report_is_reach, a_report_is_read_back, reports_agree_with_maps,
+};
 pub use reach::Reach;
 pub use reaching::report;
 pub use texts::{explain_text, report_text};

@@ -1,7 +1,7 @@
 //! What operators are shown.
 ghost use Rattle.std.specs.Prelude.{◌≡◌, ◌++◌, ◌∷◌, ℕ, List, [], Some, IfOk, OnOk, codes, decimal, flat_map};
 ghost use Rattle.csv.specs.Writing.{default_writer, row_text};
-ghost use Rattle.reach_report.specs.Records.{HasWritten};
+ghost use Rattle.reach_report.specs.Records.{HasTaken};
 ghost use Rattle.reach_report.specs.ReportTexts.{explain_text, numbers_line, reach_line, reach_text};
 
 use crate::granted::Granted;
@@ -36,16 +36,16 @@ pub fn explain_text(alloc: Global, granted: &Option<Granted>) -> Result<Vec<u8>,
 
 /// A writer of records over an empty buffer.
 fn empty_writer(alloc: Global) -> Writer<Vec<u8>>
-    ensures empty { HasWritten (λ v. Some v.items) result [] }
+    ensures empty { HasTaken (λ v. Some v.items) result [] }
 {
     WriterBuilder::new().from_writer(Vec::new(alloc))
 }
 
-/// Adds a record of three fields. The buffer is in memory, and all records have three fields: whatever is refused is so for
-/// want of memory.
+/// Adds a record of three fields. The buffer is in memory, and all records have three fields: whatever is refused is so because
+/// memory ran out.
 fn add_record(writer: &mut Writer<Vec<u8>>, a: &[u8], b: &[u8], c: &[u8]) -> Result<(), NoMemory>
-    ensures ok { OnOk result ((bytes : List ℕ) → HasWritten (λ v. Some v.items) writer.old bytes
-        → HasWritten (λ v. Some v.items) writer.new
+    ensures ok { OnOk result ((bytes : List ℕ) → HasTaken (λ v. Some v.items) writer.old bytes
+        → HasTaken (λ v. Some v.items) writer.new
         (bytes ++ row_text default_writer (a.now ∷ b.now ∷ c.now ∷ []))) }
 {
     match writer.write_fields(&[a, b, c]) {
@@ -56,8 +56,8 @@ fn add_record(writer: &mut Writer<Vec<u8>>, a: &[u8], b: &[u8], c: &[u8]) -> Res
 
 /// Adds the line with the names of the fields.
 fn add_header(writer: &mut Writer<Vec<u8>>) -> Result<(), NoMemory>
-    ensures ok { OnOk result ((bytes : List ℕ) → HasWritten (λ v. Some v.items) writer.old bytes
-        → HasWritten (λ v. Some v.items) writer.new
+    ensures ok { OnOk result ((bytes : List ℕ) → HasTaken (λ v. Some v.items) writer.old bytes
+        → HasTaken (λ v. Some v.items) writer.new
         (bytes ++ codes "source,destination,rule\n")) }
 {
     add_record(writer, b"source", b"destination", b"rule")
@@ -70,8 +70,8 @@ fn add_numbers(
     to: u32,
     rule: usize,
 ) -> Result<(), NoMemory>
-    ensures ok { OnOk result ((bytes : List ℕ) → HasWritten (λ v. Some v.items) writer.old bytes
-        → HasWritten (λ v. Some v.items) writer.new
+    ensures ok { OnOk result ((bytes : List ℕ) → HasTaken (λ v. Some v.items) writer.old bytes
+        → HasTaken (λ v. Some v.items) writer.new
         (bytes ++ numbers_line (decimal from) (decimal to) (decimal rule))) }
 {
     let mut first = Buffer::new();
@@ -87,8 +87,8 @@ fn add_numbers(
 
 /// Adds the lines of these.
 fn add_lines(writer: &mut Writer<Vec<u8>>, reaches: &[Reach]) -> Result<(), NoMemory>
-    ensures ok { OnOk result ((bytes : List ℕ) → HasWritten (λ v. Some v.items) writer.old bytes
-        → HasWritten (λ v. Some v.items) writer.new (bytes ++ flat_map reach_line reaches.now)) }
+    ensures ok { OnOk result ((bytes : List ℕ) → HasTaken (λ v. Some v.items) writer.old bytes
+        → HasTaken (λ v. Some v.items) writer.new (bytes ++ flat_map reach_line reaches.now)) }
 {
     for reach in reaches {
         add_numbers(writer, reach.from, reach.to, reach.rule)?;
@@ -98,8 +98,8 @@ fn add_lines(writer: &mut Writer<Vec<u8>>, reaches: &[Reach]) -> Result<(), NoMe
 
 /// Adds the header and the lines.
 fn add_report(writer: &mut Writer<Vec<u8>>, reaches: &[Reach]) -> Result<(), NoMemory>
-    ensures ok { OnOk result (HasWritten (λ v. Some v.items) writer.old []
-        → HasWritten (λ v. Some v.items) writer.new (reach_text reaches.now)) }
+    ensures ok { OnOk result (HasTaken (λ v. Some v.items) writer.old []
+        → HasTaken (λ v. Some v.items) writer.new (reach_text reaches.now)) }
 {
     add_header(writer)?;
     add_lines(writer, reaches)
@@ -108,7 +108,7 @@ fn add_report(writer: &mut Writer<Vec<u8>>, reaches: &[Reach]) -> Result<(), NoM
 /// The buffer, with all that was written.
 fn bytes_of(writer: Writer<Vec<u8>>) -> Result<Vec<u8>, NoMemory>
     ensures value { IfOk result (λ text. (bytes : List ℕ)
-        → HasWritten (λ v. Some v.items) writer bytes → text.items ≡ bytes) }
+        → HasTaken (λ v. Some v.items) writer bytes → text.items ≡ bytes) }
 {
     match writer.into_inner() {
         Ok(text) => Ok(text),
