@@ -1,0 +1,4 @@
+pub mod Answers
+pub mod Answered
+pub mod Complete
+pub mod Explained
