@@ -88,16 +88,19 @@ func (m *Machine) Send(ctx context.Context, path, body string) (int, string, err
 }
 
 // Cut ends its connection without a word, as one whose cable was pulled and whose
-// system told the other end.
+// system told the other end. HTTP/2 above learns of it a little later, so the
+// connection is forgotten here: the next request has another.
 func (m *Machine) Cut() {
 	m.mu.Lock()
 	defer m.mu.Unlock()
-	if m.conn != nil {
-		if tcp, ok := m.conn.Conn.(*net.TCPConn); ok {
-			tcp.SetLinger(0)
-		}
-		m.conn.Close()
+	if m.conn == nil {
+		return
 	}
+	if tcp, ok := m.conn.Conn.(*net.TCPConn); ok {
+		tcp.SetLinger(0)
+	}
+	m.conn.Close()
+	m.conn, m.http = nil, nil
 }
 
 // Follow polls until ctx ends or a poll is refused by the server, and comes back
