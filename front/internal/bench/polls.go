@@ -3,6 +3,7 @@ package main
 import (
 	"bytes"
 	"context"
+	"errors"
 	"fmt"
 	"io"
 	"net/http"
@@ -23,18 +24,20 @@ type polls struct {
 	subject subject
 	count   int
 	front   bool
+	numbers *int // how many changes there were, in all legs
 	failed  chan error
 	stop    context.CancelFunc
 
 	mu     sync.Mutex
-	began  map[int]time.Time
+	began  map[int]time.Time // each change of the leg, by its number
 	took   []time.Duration
+	last   time.Time // that a frame came
 	closed bool
 	ended  sync.WaitGroup
 }
 
-func newPolls(s subject, count int, front bool) *polls {
-	return &polls{subject: s, count: count, front: front, failed: make(chan error, count), began: map[int]time.Time{}}
+func newPolls(s subject, count int, front bool, numbers *int) *polls {
+	return &polls{subject: s, count: count, front: front, numbers: numbers, failed: make(chan error, count), began: map[int]time.Time{}}
 }
 
 // up begins all polls, some at a time, and waits for the first frame of each.
@@ -53,14 +56,14 @@ func (p *polls) up(ctx context.Context) error {
 			}
 		}(m)
 	}
-	late := time.After(2 * time.Minute)
+	late := time.After(3 * time.Minute)
 	for n := 0; n < p.count; n++ {
 		select {
 		case <-first:
 		case err := <-p.failed:
 			return err
 		case <-late:
-			return fmt.Errorf("%d polls are up after 2 minutes", n)
+			return fmt.Errorf("%d polls are up after 3 minutes", n)
 		}
 	}
 	return nil
@@ -83,7 +86,7 @@ func (p *polls) poll(ctx context.Context, m *office.Machine, came func()) error 
 			return err
 		}
 	} else {
-		r, err := http.NewRequestWithContext(ctx, "POST", "http://"+p.subject.plain()+"/machine/map", strings.NewReader(`{`+members+`}`))
+		r, err := http.NewRequestWithContext(ctx, "POST", "http://"+string(p.subject.operator())+"/machine/map", strings.NewReader(`{`+members+`}`))
 		if err != nil {
 			return err
 		}
@@ -104,28 +107,59 @@ func (p *polls) poll(ctx context.Context, m *office.Machine, came func()) error 
 	})
 }
 
-// came notes how long a frame took that tells of a change.
+// came notes how late a frame is that tells of a change.
 func (p *polls) came(frame []byte, now time.Time) {
-	at := bytes.Index(frame, []byte(marker))
-	if at < 0 || len(frame) > 4096 { // a whole map tells of all
-		return
-	}
-	digits := frame[at+len(marker):]
-	number, err := strconv.Atoi(string(digits[:bytes.IndexByte(digits, '"')]))
-	if err != nil {
-		return
-	}
+	number := numberIn(frame)
 	p.mu.Lock()
 	defer p.mu.Unlock()
+	p.last = now
 	if began, ok := p.began[number]; ok {
 		p.took = append(p.took, now.Sub(began))
 	}
 }
 
-func (p *polls) sent(number int) {
+// numberIn is that of the change which a frame tells, 0 if none: a whole map tells of all.
+func numberIn(frame []byte) int {
+	at := bytes.Index(frame, []byte(marker))
+	if at < 0 || len(frame) > 4096 {
+		return 0
+	}
+	digits := frame[at+len(marker):]
+	number, err := strconv.Atoi(string(digits[:bytes.IndexByte(digits, '"')]))
+	if err != nil {
+		return 0
+	}
+	return number
+}
+
+// next begins a change, and gives its number, which no change before has had.
+func (p *polls) next() int {
 	p.mu.Lock()
 	defer p.mu.Unlock()
-	p.began[number] = time.Now()
+	*p.numbers++
+	p.began[*p.numbers] = time.Now()
+	return *p.numbers
+}
+
+// settle waits until no frame has come for a while: others are told that a poll begins,
+// and the last frames may be on their way.
+func (p *polls) settle(ctx context.Context) error {
+	for end := time.Now().Add(20 * time.Second); time.Now().Before(end); {
+		select {
+		case <-ctx.Done():
+			return ctx.Err()
+		case err := <-p.failed:
+			return err
+		case <-time.After(50 * time.Millisecond):
+		}
+		p.mu.Lock()
+		still := time.Since(p.last) > 500*time.Millisecond
+		p.mu.Unlock()
+		if still {
+			return nil
+		}
+	}
+	return errors.New("frames come and come, though nothing changes")
 }
 
 func (p *polls) times() []time.Duration {
