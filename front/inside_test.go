@@ -60,6 +60,9 @@ func TestInside(t *testing.T) {
 		if answer.StatusCode != row.status || got != row.answer {
 			t.Errorf("%s %s %.60s: %d %.80q", row.method, row.path, row.body, answer.StatusCode, got)
 		}
+		if allow := answer.Header.Get("Allow"); (allow == "POST") != (row.status == 405) {
+			t.Errorf("%s %s: Allow %q", row.method, row.path, allow)
+		}
 	}
 	if got := r.bodies.in.Load(); got != 0 {
 		t.Errorf("%d bytes of bodies are held", got)

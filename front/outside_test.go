@@ -169,6 +169,25 @@ func TestSlowBeginnings(t *testing.T) {
 	}
 }
 
+// The time until the first request counts from the connection's beginning, and not from
+// its upgrade.
+func TestSlowUpgrade(t *testing.T) {
+	r := newRig(t, never(t), func(l *limits) { l.handshake = 1500 * time.Millisecond })
+	start := time.Now()
+	c, err := net.Dial("tcp", r.dialer.Address)
+	if err != nil {
+		t.Fatal(err)
+	}
+	defer c.Close()
+	time.Sleep(1200 * time.Millisecond)
+	message := tailclient.NewInitiator(113, fill(1), fill(2), *r.dialer.Server).Message()
+	io.WriteString(c, "POST /ts2021 HTTP/1.1\r\nHost: x\r\nUpgrade: tailscale-control-protocol\r\nConnection: upgrade\r\nX-Tailscale-Handshake: "+base64.StdEncoding.EncodeToString(message)+"\r\n\r\n")
+	got, err := io.ReadAll(c)
+	if took := time.Since(start); took > 2600*time.Millisecond || !strings.HasPrefix(string(got), "HTTP/1.1 101 ") {
+		t.Errorf("%q, ended after %v: %v", got, took, err)
+	}
+}
+
 func TestHandshakeFails(t *testing.T) {
 	r := newRig(t, never(t), nil)
 	zero := tailclient.NewInitiator(113, fill(1), fill(2), *r.dialer.Server).MessageAs(tailclient.Key{}, fill(2).Public())

@@ -32,6 +32,7 @@ type polls struct {
 	began  map[int]time.Time // each change of the leg, by its number
 	took   []time.Duration
 	last   time.Time // that a frame came
+	steady bool      // all are there, and nothing is on its way
 	closed bool
 	ended  sync.WaitGroup
 }
@@ -50,8 +51,8 @@ func (p *polls) up(ctx context.Context) error {
 			defer p.ended.Done()
 			at <- struct{}{}
 			var once sync.Once
-			err := p.poll(ctx, m, func() { once.Do(func() { <-at; first <- struct{}{} }) })
-			if !p.isClosed() {
+			err := p.stay(ctx, m, func() { once.Do(func() { <-at; first <- struct{}{} }) })
+			if !p.is(&p.closed) {
 				p.failed <- fmt.Errorf("a poll ended: %v", err)
 			}
 		}(m)
@@ -67,6 +68,18 @@ func (p *polls) up(ctx context.Context) error {
 		}
 	}
 	return nil
+}
+
+// stay polls until the poll ends, once all is steady. Before, a poll that finds no room,
+// since the server hasn't noticed the end of others, ends and begins again.
+func (p *polls) stay(ctx context.Context, m *office.Machine, came func()) error {
+	for {
+		err := p.poll(ctx, m, came)
+		if err != nil || ctx.Err() != nil || p.is(&p.steady) {
+			return err
+		}
+		time.Sleep(200 * time.Millisecond)
+	}
 }
 
 func (p *polls) poll(ctx context.Context, m *office.Machine, came func()) error {
@@ -142,9 +155,9 @@ func (p *polls) next() int {
 }
 
 // settle waits until no frame has come for a while: others are told that a poll begins,
-// and the last frames may be on their way.
+// and the last frames may be on their way. From then on all has to be steady.
 func (p *polls) settle(ctx context.Context) error {
-	for end := time.Now().Add(20 * time.Second); time.Now().Before(end); {
+	for end := time.Now().Add(time.Minute); time.Now().Before(end); {
 		select {
 		case <-ctx.Done():
 			return ctx.Err()
@@ -154,6 +167,7 @@ func (p *polls) settle(ctx context.Context) error {
 		}
 		p.mu.Lock()
 		still := time.Since(p.last) > 500*time.Millisecond
+		p.steady = p.steady || still
 		p.mu.Unlock()
 		if still {
 			return nil
@@ -168,10 +182,10 @@ func (p *polls) times() []time.Duration {
 	return append([]time.Duration(nil), p.took...)
 }
 
-func (p *polls) isClosed() bool {
+func (p *polls) is(state *bool) bool {
 	p.mu.Lock()
 	defer p.mu.Unlock()
-	return p.closed
+	return *state
 }
 
 // close ends all polls, and waits for it.
