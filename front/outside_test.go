@@ -54,7 +54,7 @@ func TestOutside(t *testing.T) {
 		{"GET /key/?v=1", host, 404, ""},
 		{"POST /machine/register", host + "Ts-Machine-Key: mkey:" + public + "\r\nContent-Length: 2\r\n\r\n{}", 404, ""},
 		{"POST /machine/map", host + "Content-Length: 2\r\n\r\n{}", 404, ""},
-		{"GET /register/reg-1-00000000000000010000000000000002", host, 200, "tailnetd pending-admit reg-1-00000000000000010000000000000002"},
+		{"GET /register/reg-1-00000000000000010000000000000002", host, 200, "tailnetd pending-admit reg-1-00000000000000010000000000000002 LOGIN --server ADDR --token TOKEN</pre>"},
 		{"GET /register/", host, 404, ""},
 		{"GET /register/reg-1-0%3Brm%20-rf", host, 404, ""},
 		{"GET /register/%3Cscript%3E", host, 404, ""},
@@ -75,8 +75,10 @@ func TestPageIsPlain(t *testing.T) {
 			t.Errorf("%s in %s", not, got)
 		}
 	}
-	if !strings.Contains(got, "Content-Security-Policy: default-src 'none'") {
-		t.Error(got)
+	for _, has := range []string{"Content-Security-Policy: default-src 'none'", "<pre>tailnetctl admit reg-1-00 LOGIN</pre>"} {
+		if !strings.Contains(got, has) {
+			t.Errorf("no %s in %s", has, got)
+		}
 	}
 }
 
