@@ -6,6 +6,8 @@ import (
 	"sync/atomic"
 	"testing"
 	"time"
+
+	"tailnetd-front/internal/tailclient"
 )
 
 func TestFollowupIsHeld(t *testing.T) {
@@ -34,5 +36,25 @@ func TestFollowupIsHeld(t *testing.T) {
 		if n := int(asked.Load()); got != row.answers[len(row.answers)-1] || n < row.least || n > row.most {
 			t.Errorf("%s: %s after %d", name, got, n)
 		}
+	}
+}
+
+// A registration that is held when the front ends isn't answered.
+func TestFollowupEndsWithTheFront(t *testing.T) {
+	const waits = `{"AuthURL":"http://t/register/reg-1-0"}`
+	asked := make(chan struct{}, 16)
+	r := newRig(t, http.HandlerFunc(func(w http.ResponseWriter, r *http.Request) {
+		io.WriteString(w, waits)
+		asked <- struct{}{}
+	}), nil)
+	h := r.http(t, fill(1))
+	go func() {
+		<-asked
+		time.Sleep(100 * time.Millisecond)
+		r.stop()
+	}()
+	a, err := tailclient.Post(within(t, 5*time.Second), h, "/machine/register", `{"Followup":"http://t/register/reg-1-0"}`)
+	if err == nil {
+		t.Errorf("%s %q", a.Status, whole(t, a))
 	}
 }
