@@ -89,9 +89,17 @@ func TestConversation(t *testing.T) {
 			return
 		}
 		w.(http.Flusher).Flush()
-		for x := range more {
-			w.Write(frameOf(x))
-			w.(http.Flusher).Flush()
+		for {
+			select {
+			case <-r.Context().Done():
+				return
+			case x, isMore := <-more:
+				if !isMore {
+					return
+				}
+				w.Write(frameOf(x))
+				w.(http.Flusher).Flush()
+			}
 		}
 	})
 	r := newRig(t, stub, nil)
@@ -106,7 +114,11 @@ func TestConversation(t *testing.T) {
 	for _, row := range [][2]string{
 		{`{"Seq":1}`, `{"DERPMap":{"Regions":{"1":{}}},"Seq":1}`}, {`{"Seq":2}`, `{"Seq":2}`}, {big, big},
 	} {
-		more <- row[0]
+		select {
+		case more <- row[0]:
+		case <-time.After(5 * time.Second):
+			t.Fatal("the poll takes nothing more")
+		}
 		if got := next(t, poll.Body, true); got != row[1] {
 			t.Errorf("%.80s", got)
 		}
