@@ -57,6 +57,11 @@ func TestOutside(t *testing.T) {
 		{"GET /register/reg-1-00000000000000010000000000000002", host, 200, "tailnetd pending-admit reg-1-00000000000000010000000000000002 LOGIN --server ADDR --token TOKEN</pre>"},
 		{"GET /register/", host, 404, ""},
 		{"GET /register/reg-1-0%3Brm%20-rf", host, 404, ""},
+		{"GET /register/%3Brm%20reg-1-0", host, 404, ""},
+		{"GET /register/reg-1-0%0A", host, 404, ""},
+		{"GET /register/reg-1-0g", host, 404, ""},
+		{"GET /register/reg-1-", host, 404, ""},
+		{"GET /register/reg-12345678901-0", host, 404, ""},
 		{"GET /register/%3Cscript%3E", host, 404, ""},
 		{"GET /health", host, 200, "ok"},
 	} {
@@ -64,6 +69,17 @@ func TestOutside(t *testing.T) {
 		if !strings.HasPrefix(got, fmt.Sprintf("HTTP/1.1 %d ", row.status)) || !strings.Contains(got, row.has) || !strings.Contains(got, "Connection: close") {
 			t.Errorf("%s, %q: %q", row.line, row.fields, got)
 		}
+	}
+}
+
+// HTTP/1.0 has no upgrades.
+func TestUpgradeOverOldHTTP(t *testing.T) {
+	r := newRig(t, never(t), nil)
+	message := tailclient.NewInitiator(113, fill(1), fill(2), *r.dialer.Server).Message()
+	got := r.raw(t, "POST /ts2021 HTTP/1.0\r\nHost: x\r\nUpgrade: tailscale-control-protocol\r\nConnection: upgrade\r\nX-Tailscale-Handshake: "+
+		base64.StdEncoding.EncodeToString(message)+"\r\nContent-Length: 0\r\n\r\n")
+	if !strings.HasPrefix(got, "HTTP/1.0 400 ") || !strings.Contains(got, "no upgrade") {
+		t.Errorf("%q", got)
 	}
 }
 
