@@ -13,14 +13,16 @@ import (
 func TestFollowupIsHeld(t *testing.T) {
 	waits := `{"AuthURL":"http://t/register/reg-1-0"}`
 	for name, row := range map[string]struct {
+		status      int
 		answers     []string // the last is repeated
 		hold        time.Duration
 		least, most int // asks
 	}{
-		"until it is admitted":         {[]string{waits, waits, `{"AuthURL":""}`}, time.Minute, 3, 3},
-		"until it waits elsewhere":     {[]string{waits, `{"AuthURL":"http://t/register/reg-2-0"}`}, time.Minute, 2, 2},
-		"not if it doesn't wait":       {[]string{`{"AuthURL":""}`}, time.Minute, 1, 1},
-		"not for longer than it holds": {[]string{waits}, 90 * time.Millisecond, 1, 5}, // fewer on a busy machine
+		"until it is admitted":         {200, []string{waits, waits, `{"AuthURL":""}`}, time.Minute, 3, 3},
+		"until it waits elsewhere":     {200, []string{waits, `{"AuthURL":"http://t/register/reg-2-0"}`}, time.Minute, 2, 2},
+		"not if it doesn't wait":       {200, []string{`{"AuthURL":""}`}, time.Minute, 1, 1},
+		"not if it is refused":         {401, []string{waits}, time.Minute, 1, 1},
+		"not for longer than it holds": {200, []string{waits}, 90 * time.Millisecond, 1, 5}, // fewer on a busy machine
 	} {
 		row := row
 		var asked atomic.Int32
@@ -29,6 +31,7 @@ func TestFollowupIsHeld(t *testing.T) {
 			if n > len(row.answers) {
 				n = len(row.answers)
 			}
+			w.WriteHeader(row.status)
 			io.WriteString(w, row.answers[n-1])
 		}), func(l *limits) { l.again, l.hold = 20*time.Millisecond, row.hold })
 		h := r.http(t, fill(1))
