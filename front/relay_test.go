@@ -31,6 +31,19 @@ func TestKeepAlive(t *testing.T) {
 	}
 }
 
+// An answer that isn't streamed has no keep-alives, however long it takes.
+func TestNoKeepAliveInAShortAnswer(t *testing.T) {
+	r := newRig(t, http.HandlerFunc(func(w http.ResponseWriter, r *http.Request) {
+		io.Copy(io.Discard, r.Body)
+		w.(http.Flusher).Flush()
+		time.Sleep(200 * time.Millisecond)
+		w.Write(frameOf(`{"Seq":1}`))
+	}), func(l *limits) { l.quiet, l.give = 20*time.Millisecond, 0 })
+	if got := whole(t, post(t, r.http(t, fill(1)), "/machine/map", `{"Stream":false}`)); got != string(frameOf(`{"Seq":1}`)) {
+		t.Errorf("%q", got)
+	}
+}
+
 // Where frames come there is no keep-alive.
 func TestNoKeepAliveAmidFrames(t *testing.T) {
 	r := newRig(t, http.HandlerFunc(func(w http.ResponseWriter, r *http.Request) {
