@@ -137,11 +137,11 @@ func TestConversation(t *testing.T) {
 
 func TestIdleConnection(t *testing.T) {
 	stub, _ := gone(t)
-	r := newRig(t, stub, func(l *limits) { l.idle, l.handshake = 150*time.Millisecond, 100*time.Millisecond })
+	r := newRig(t, stub, func(l *limits) { l.idle, l.handshake = 150*time.Millisecond, 500*time.Millisecond })
 	h := r.http(t, fill(1))
 	poll := post(t, h, "/machine/map", `{"Stream":true}`)
 	next(t, poll.Body, false)
-	time.Sleep(400 * time.Millisecond)
+	time.Sleep(800 * time.Millisecond)
 	if st := h.State(); st.Closed || st.Closing {
 		t.Fatal("closed beside a stream")
 	}

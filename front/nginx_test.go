@@ -80,9 +80,10 @@ func TestBehindNginx(t *testing.T) {
 		t.Fatal(err)
 	}
 	poll := post(t, h, "/machine/map", `{"Stream":true,"Compress":"zstd"}`)
-	for _, want := range []string{`{"Seq":1}`, keepAlive, keepAlive} {
-		if got := next(t, poll.Body, true); got != want {
-			t.Errorf("%s, not %s", got, want)
+	for seen := map[string]int{}; seen[`{"Seq":1}`] == 0 || seen[keepAlive] < 2; {
+		seen[next(t, poll.Body, true)]++
+		if len(seen) > 2 || seen[`{"Seq":1}`] > 1 {
+			t.Fatal(seen)
 		}
 	}
 	long := "{" + strings.Repeat(" ", 1<<20-2) + "}"
