@@ -96,6 +96,24 @@ func TestServerThatDoesNotAnswer(t *testing.T) {
 	}
 }
 
+// An answer without frames has 1 MiB at most.
+func TestLongAnswer(t *testing.T) {
+	for length, want := range map[int]int{1 << 20: 401, 1<<20 + 1: 502} {
+		length := length // the stub's own
+		r := newRig(t, http.HandlerFunc(func(w http.ResponseWriter, r *http.Request) {
+			io.Copy(io.Discard, r.Body)
+			w.WriteHeader(401)
+			w.Write(make([]byte, length))
+		}), nil)
+		h := r.http(t, fill(1))
+		for _, path := range []string{"/machine/map", "/machine/register"} {
+			if got := post(t, h, path, "{}"); got.StatusCode != want || want == 401 && len(whole(t, got)) != length {
+				t.Errorf("%s, %d bytes: %s", path, length, got.Status)
+			}
+		}
+	}
+}
+
 // A tailnetd that answers before it has taken the body, and closes, is heard; one that
 // says nothing then can't be reached.
 func TestAnswerBeforeTheBody(t *testing.T) {
