@@ -111,8 +111,8 @@ fn what_machines_serve_and_may_do(rt: HostRuntime) -> Result<(), Fail> {
 }
 
 /// Of each machine by which of the two rules it may send, and by which it takes.
-const FLAGS: &[([bool; 2], [bool; 2])] = &[
-    ([true, false], [false, true]),
-    ([false, false], [true, false]),
-    ([false, true], [false, false]),
+const FLAGS: &[(&[bool], &[bool])] = &[
+    (&[true, false], &[false, true]),
+    (&[false, false], &[true, false]),
+    (&[false, true], &[false, false]),
 ];
