@@ -17,7 +17,10 @@ func TestBodiesLimit(t *testing.T) {
 	hold := make(chan struct{})
 	r := newRig(t, http.HandlerFunc(func(_ http.ResponseWriter, r *http.Request) {
 		io.Copy(io.Discard, r.Body)
-		<-hold
+		select {
+		case <-hold:
+		case <-r.Context().Done():
+		}
 	}), func(l *limits) { l.bodies = 3 << 19 })
 	h := r.http(t, fill(1))
 	body := strings.Repeat(" ", 1<<20-2) + "{}"

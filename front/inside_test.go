@@ -60,6 +60,9 @@ func TestInside(t *testing.T) {
 		if answer.StatusCode != row.status || got != row.answer {
 			t.Errorf("%s %s %.60s: %d %.80q", row.method, row.path, row.body, answer.StatusCode, got)
 		}
+		if allow := answer.Header.Get("Allow"); (allow == "POST") != (row.status == 405) {
+			t.Errorf("%s %s: Allow %q", row.method, row.path, allow)
+		}
 	}
 	if got := r.bodies.in.Load(); got != 0 {
 		t.Errorf("%d bytes of bodies are held", got)
@@ -86,9 +89,17 @@ func TestConversation(t *testing.T) {
 			return
 		}
 		w.(http.Flusher).Flush()
-		for x := range more {
-			w.Write(frameOf(x))
-			w.(http.Flusher).Flush()
+		for {
+			select {
+			case <-r.Context().Done():
+				return
+			case x, isMore := <-more:
+				if !isMore {
+					return
+				}
+				w.Write(frameOf(x))
+				w.(http.Flusher).Flush()
+			}
 		}
 	})
 	r := newRig(t, stub, nil)
@@ -103,7 +114,11 @@ func TestConversation(t *testing.T) {
 	for _, row := range [][2]string{
 		{`{"Seq":1}`, `{"DERPMap":{"Regions":{"1":{}}},"Seq":1}`}, {`{"Seq":2}`, `{"Seq":2}`}, {big, big},
 	} {
-		more <- row[0]
+		select {
+		case more <- row[0]:
+		case <-time.After(5 * time.Second):
+			t.Fatal("the poll takes nothing more")
+		}
 		if got := next(t, poll.Body, true); got != row[1] {
 			t.Errorf("%.80s", got)
 		}
@@ -122,11 +137,11 @@ func TestConversation(t *testing.T) {
 
 func TestIdleConnection(t *testing.T) {
 	stub, _ := gone(t)
-	r := newRig(t, stub, func(l *limits) { l.idle, l.handshake = 150*time.Millisecond, 100*time.Millisecond })
+	r := newRig(t, stub, func(l *limits) { l.idle, l.handshake = 150*time.Millisecond, 500*time.Millisecond })
 	h := r.http(t, fill(1))
 	poll := post(t, h, "/machine/map", `{"Stream":true}`)
 	next(t, poll.Body, false)
-	time.Sleep(400 * time.Millisecond)
+	time.Sleep(800 * time.Millisecond)
 	if st := h.State(); st.Closed || st.Closing {
 		t.Fatal("closed beside a stream")
 	}

@@ -100,8 +100,11 @@ func TestSeventeenthStream(t *testing.T) {
 	more := make(chan struct{})
 	r := newRig(t, http.HandlerFunc(func(w http.ResponseWriter, r *http.Request) {
 		io.Copy(io.Discard, r.Body)
-		<-more
-		w.Write(frameOf(`{"Seq":1}`))
+		select {
+		case <-more:
+			w.Write(frameOf(`{"Seq":1}`))
+		case <-r.Context().Done():
+		}
 	}), nil)
 	c := r.connect(t, fill(1))
 	c.SetDeadline(time.Now().Add(10 * time.Second))

@@ -54,9 +54,14 @@ func TestOutside(t *testing.T) {
 		{"GET /key/?v=1", host, 404, ""},
 		{"POST /machine/register", host + "Ts-Machine-Key: mkey:" + public + "\r\nContent-Length: 2\r\n\r\n{}", 404, ""},
 		{"POST /machine/map", host + "Content-Length: 2\r\n\r\n{}", 404, ""},
-		{"GET /register/reg-1-00000000000000010000000000000002", host, 200, "tailnetd pending-admit reg-1-00000000000000010000000000000002"},
+		{"GET /register/reg-1-00000000000000010000000000000002", host, 200, "tailnetd pending-admit reg-1-00000000000000010000000000000002 LOGIN --server ADDR --token TOKEN</pre>"},
 		{"GET /register/", host, 404, ""},
 		{"GET /register/reg-1-0%3Brm%20-rf", host, 404, ""},
+		{"GET /register/%3Brm%20reg-1-0", host, 404, ""},
+		{"GET /register/reg-1-0%0A", host, 404, ""},
+		{"GET /register/reg-1-0g", host, 404, ""},
+		{"GET /register/reg-1-", host, 404, ""},
+		{"GET /register/reg-12345678901-0", host, 404, ""},
 		{"GET /register/%3Cscript%3E", host, 404, ""},
 		{"GET /health", host, 200, "ok"},
 	} {
@@ -64,6 +69,17 @@ func TestOutside(t *testing.T) {
 		if !strings.HasPrefix(got, fmt.Sprintf("HTTP/1.1 %d ", row.status)) || !strings.Contains(got, row.has) || !strings.Contains(got, "Connection: close") {
 			t.Errorf("%s, %q: %q", row.line, row.fields, got)
 		}
+	}
+}
+
+// HTTP/1.0 has no upgrades.
+func TestUpgradeOverOldHTTP(t *testing.T) {
+	r := newRig(t, never(t), nil)
+	message := tailclient.NewInitiator(113, fill(1), fill(2), *r.dialer.Server).Message()
+	got := r.raw(t, "POST /ts2021 HTTP/1.0\r\nHost: x\r\nUpgrade: tailscale-control-protocol\r\nConnection: upgrade\r\nX-Tailscale-Handshake: "+
+		base64.StdEncoding.EncodeToString(message)+"\r\nContent-Length: 0\r\n\r\n")
+	if !strings.HasPrefix(got, "HTTP/1.0 400 ") || !strings.Contains(got, "no upgrade") {
+		t.Errorf("%q", got)
 	}
 }
 
@@ -75,8 +91,10 @@ func TestPageIsPlain(t *testing.T) {
 			t.Errorf("%s in %s", not, got)
 		}
 	}
-	if !strings.Contains(got, "Content-Security-Policy: default-src 'none'") {
-		t.Error(got)
+	for _, has := range []string{"Content-Security-Policy: default-src 'none'", "<pre>tailnetctl admit reg-1-00 LOGIN</pre>"} {
+		if !strings.Contains(got, has) {
+			t.Errorf("no %s in %s", has, got)
+		}
 	}
 }
 
@@ -166,6 +184,25 @@ func TestSlowBeginnings(t *testing.T) {
 	io.Copy(io.Discard, onlyReader{c})
 	if took := time.Since(start); took > 3*time.Second {
 		t.Errorf("without a request: ended after %v", took)
+	}
+}
+
+// The time until the first request counts from the connection's beginning, and not from
+// its upgrade.
+func TestSlowUpgrade(t *testing.T) {
+	r := newRig(t, never(t), func(l *limits) { l.handshake = 1500 * time.Millisecond })
+	start := time.Now()
+	c, err := net.Dial("tcp", r.dialer.Address)
+	if err != nil {
+		t.Fatal(err)
+	}
+	defer c.Close()
+	time.Sleep(1200 * time.Millisecond)
+	message := tailclient.NewInitiator(113, fill(1), fill(2), *r.dialer.Server).Message()
+	io.WriteString(c, "POST /ts2021 HTTP/1.1\r\nHost: x\r\nUpgrade: tailscale-control-protocol\r\nConnection: upgrade\r\nX-Tailscale-Handshake: "+base64.StdEncoding.EncodeToString(message)+"\r\n\r\n")
+	got, err := io.ReadAll(c)
+	if took := time.Since(start); took > 2600*time.Millisecond || !strings.HasPrefix(string(got), "HTTP/1.1 101 ") {
+		t.Errorf("%q, ended after %v: %v", got, took, err)
 	}
 }
 

@@ -180,6 +180,7 @@ func TestConnEndsWithItsNumbers(t *testing.T) {
 
 func TestConnLeavesAClientThatDoesNotRead(t *testing.T) {
 	front, _ := pairOf(t, func(l *limits) { l.write = 100 * time.Millisecond })
+	defer time.AfterFunc(10*time.Second, func() { front.Close() }).Stop()
 	start := time.Now()
 	_, err := front.Write(make([]byte, 64<<20))
 	if !errors.Is(err, os.ErrDeadlineExceeded) || time.Since(start) > 5*time.Second {

@@ -2,6 +2,7 @@ package main
 
 import (
 	"context"
+	"net/http"
 	"time"
 )
 
@@ -22,7 +23,7 @@ func (f *front) register(ctx context.Context, w *reply, machine machineKey, aske
 			return
 		}
 		if wait(ctx, f.limits.again) != nil {
-			return
+			panic(http.ErrAbortHandler) // RST_STREAM: nothing said would be 200
 		}
 	}
 }

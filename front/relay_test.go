@@ -3,6 +3,8 @@ package main
 import (
 	"fmt"
 	"io"
+	"net/http"
+	"strings"
 	"testing"
 	"time"
 
@@ -26,6 +28,35 @@ func TestKeepAlive(t *testing.T) {
 		if took := time.Since(start); took < 90*time.Millisecond || took > 3*time.Second {
 			t.Errorf("three keep-alives in %v", took)
 		}
+	}
+}
+
+// An answer that isn't streamed has no keep-alives, however long it takes.
+func TestNoKeepAliveInAShortAnswer(t *testing.T) {
+	r := newRig(t, http.HandlerFunc(func(w http.ResponseWriter, r *http.Request) {
+		io.Copy(io.Discard, r.Body)
+		w.(http.Flusher).Flush()
+		time.Sleep(200 * time.Millisecond)
+		w.Write(frameOf(`{"Seq":1}`))
+	}), func(l *limits) { l.quiet, l.give = 20*time.Millisecond, 0 })
+	if got := whole(t, post(t, r.http(t, fill(1)), "/machine/map", `{"Stream":false}`)); got != string(frameOf(`{"Seq":1}`)) {
+		t.Errorf("%q", got)
+	}
+}
+
+// Where frames come there is no keep-alive.
+func TestNoKeepAliveAmidFrames(t *testing.T) {
+	r := newRig(t, http.HandlerFunc(func(w http.ResponseWriter, r *http.Request) {
+		io.Copy(io.Discard, r.Body)
+		for n := 0; n < 15; n++ {
+			w.Write(frameOf(`{"Seq":1}`))
+			w.(http.Flusher).Flush()
+			time.Sleep(100 * time.Millisecond)
+		}
+	}), func(l *limits) { l.quiet, l.give = time.Second, 0 })
+	poll := post(t, r.http(t, fill(1)), "/machine/map", `{"Stream":true}`)
+	if got := whole(t, poll); got != strings.Repeat(string(frameOf(`{"Seq":1}`)), 15) {
+		t.Errorf("%q", got)
 	}
 }
 

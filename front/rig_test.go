@@ -198,12 +198,12 @@ func (r *rig) raw(t *testing.T, request string) string {
 	return string(b)
 }
 
-// soon waits for what has to come at once, and on a busy machine within 3 seconds.
+// soon waits for what has to come at once, and on a busy machine within 10 seconds.
 func soon(t *testing.T, what string, is func() bool) {
 	t.Helper()
-	for end := time.Now().Add(3 * time.Second); !is(); time.Sleep(5 * time.Millisecond) {
+	for end := time.Now().Add(10 * time.Second); !is(); time.Sleep(5 * time.Millisecond) {
 		if time.Now().After(end) {
-			t.Fatalf("not within 3 seconds: %s", what)
+			t.Fatalf("not within 10 seconds: %s", what)
 		}
 	}
 }

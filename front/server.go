@@ -10,6 +10,7 @@ import (
 	"net"
 	"net/http"
 	"sync"
+	"syscall"
 	"time"
 )
 
@@ -35,12 +36,32 @@ func newServer(address string, dial, ask time.Duration) *server {
 		dialer:  dialer,
 		ask:     ask,
 		transport: &http.Transport{
-			DialContext:           dialer.DialContext,
+			DialContext: func(ctx context.Context, network, address string) (net.Conn, error) {
+				c, err := dialer.DialContext(ctx, network, address)
+				if err != nil {
+					return nil, err
+				}
+				return answering{c}, nil
+			},
 			ResponseHeaderTimeout: ask,
 			DisableKeepAlives:     true, // Connection: close
 			DisableCompression:    true, // no Accept-Encoding of Go's own
 		},
 	}
+}
+
+// An answering connection to tailnetd is read where it can't be written any more: what
+// answers before it has taken a body, and closes, has answered all the same, and
+// http.Transport would drop that for the failed write. If there is no answer, the read
+// fails.
+type answering struct{ net.Conn }
+
+func (c answering) Write(p []byte) (int, error) {
+	n, err := c.Conn.Write(p)
+	if errors.Is(err, syscall.EPIPE) || errors.Is(err, syscall.ECONNRESET) {
+		return len(p), nil
+	}
+	return n, err
 }
 
 // post hands on a body. No header comes from the client: Ts-Machine-Key is the key

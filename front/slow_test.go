@@ -19,7 +19,7 @@ func TestSlowStream(t *testing.T) {
 	r := newRig(t, http.HandlerFunc(func(w http.ResponseWriter, r *http.Request) {
 		frames(big, big, big)(w, r)
 		stub <- struct{}{}
-	}), func(l *limits) { l.write = 200 * time.Millisecond })
+	}), func(l *limits) { l.write = 500 * time.Millisecond })
 	h := r.http(t, fill(1))
 	poll := post(t, h, "/machine/map", `{"Stream":true}`)
 	select {

@@ -55,10 +55,11 @@ def units(world, repository):
                 file.write(re.sub(r"(?m)^(Exec\w+=)/usr/local/\S+", r"\1/bin/true", text))
         status, text = told(["systemd-analyze", "verify", *sorted(glob(f"{folder}/*"))])
         faults += [f"systemd-analyze verify: {line}" for line in text.split("\n") if line] or ([f"systemd-analyze verify ends with {status}"] if status else [])
-    status, text = told(["systemd-analyze", "security", "--offline=true", f"{TOP}/deploy/tailnetd.service"])
-    level = re.search(r"exposure level for tailnetd\.service: ([0-9.]+)", text)
-    if not level or float(level.group(1)) > MOST_EXPOSED:
-        faults.append(f"deploy/tailnetd.service: {level.group(0) if level else text[:200]}, and not at most {MOST_EXPOSED}")
+    for name in ("tailnetd.service", "tailnetd-front.service"):
+        status, text = told(["systemd-analyze", "security", "--offline=true", f"{TOP}/deploy/{name}"])
+        level = re.search(rf"exposure level for {re.escape(name)}: ([0-9.]+)", text)
+        if not level or float(level.group(1)) > MOST_EXPOSED:
+            faults.append(f"deploy/{name}: {level.group(0) if level else text[:200]}, and not at most {MOST_EXPOSED}")
     return faults
 
 

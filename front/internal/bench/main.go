@@ -18,20 +18,21 @@ type run struct {
 	clients       int
 	length        time.Duration
 	restarts      int
+	numbers       *int // how many changes there were
 }
 
 func main() {
-	var r run
+	r := run{numbers: new(int)}
 	flag.StringVar(&r.front, "front", "", "the built front")
-	flag.StringVar(&r.server, "server", "", "the built server")
+	flag.StringVar(&r.server, "server", "", "the built server, or stub")
 	flag.Parse()
 	var err error
 	numbers := [3]int{}
 	for n, word := range flag.Args() {
 		if n >= len(numbers) {
 			err = fmt.Errorf("%q is a word too many", word)
-		} else if numbers[n], err = strconv.Atoi(word); err == nil && numbers[n] < 1 {
-			err = fmt.Errorf("%q isn't at least 1", word)
+		} else if numbers[n], err = strconv.Atoi(word); err == nil && (numbers[n] < 0 || n == 0 && numbers[n] == 0) {
+			err = fmt.Errorf("%q is too small", word)
 		}
 		if err != nil {
 			break
@@ -57,8 +58,10 @@ func (r run) do(ctx context.Context) error {
 		return err
 	}
 	defer os.RemoveAll(folder)
-	if err := r.measure(ctx, folder, os.Stdout); err != nil {
-		return err
+	if r.length > 0 {
+		if err := r.measure(ctx, folder, os.Stdout); err != nil {
+			return err
+		}
 	}
 	if r.restarts > 0 {
 		return r.restart(ctx, folder, os.Stdout)

@@ -4,125 +4,160 @@ import (
 	"context"
 	"fmt"
 	"io"
-	"sort"
 	"time"
 
 	"tailnetd-front/internal/office"
-	"tailnetd-front/internal/tailclient"
 )
 
-// each is from one change to the next.
-const each = 50 * time.Millisecond
+const (
+	// each is from one change to the next, where no more than manyTold clients are told.
+	each     = 50 * time.Millisecond
+	manyTold = 200
+	// leastLeg is how long things change in a leg at least, and mostRounds how many rounds
+	// there are at most.
+	leastLeg   = 5 * time.Second
+	mostRounds = 6
+	// leave is what the server takes to notice that polls have ended.
+	leave = 2 * time.Second
+	// leastIdle is how long idle polls are held at least: each has a keep-alive meanwhile.
+	leastIdle = 60 * time.Second
+)
 
-// A subject is what is polled, with a front before it.
-type subject interface {
-	name() string
-	plain() string               // its own address
-	through() *office.Process    // the front
-	dialer() tailclient.Dialer   // to the front
-	machines() []*office.Machine // that may poll
-	change(ctx context.Context, number int) error
-	close()
+// every is from one change to the next: the longer the more clients are told, so that
+// frames come as often.
+func (r run) every() time.Duration {
+	if r.isStubbed() {
+		return each
+	}
+	return each * time.Duration((r.clients+manyTold-1)/manyTold)
 }
 
-// measure holds polls beside the front and through it, in turn, and prints what it saw.
+// measure has rounds of polls beside the front and through it, and prints what they saw.
+// The last polls are then held while nothing changes.
 func (r run) measure(ctx context.Context, folder string, to io.Writer) error {
-	s, err := r.subject(ctx, folder)
+	s, err := r.subject(ctx, folder, manyTold)
 	if err != nil {
 		return err
 	}
 	defer s.close()
-	fmt.Fprintf(to, "%d clients of %s, a change each %v\n", r.clients, s.name(), each)
+	count := int(r.length / leastLeg)
+	if count > mostRounds {
+		count = mostRounds
+	} else if count < 1 {
+		count = 1
+	}
+	r.length /= time.Duration(count)
+	fmt.Fprintf(to, "%d clients of %s, a change each %v, for %v in each of %d rounds, without the front and through it\n", r.clients, s.name(), r.every(), r.length, count)
 	loadLine(to, "at the start")
-	var taken [2][]time.Duration
-	var processor time.Duration
-	const turns = 2
-	for turn := 0; turn < turns; turn++ {
-		for way := range taken {
-			before := office.Processor(s.through().Pid())
-			times, began, err := r.leg(ctx, s, way == 1)
-			if err != nil {
-				return err
-			}
-			taken[way] = append(taken[way], times...)
-			if way == 1 {
-				processor += office.Processor(s.through().Pid()) - began
-				fmt.Fprintf(to, "the front brought %d polls up with %.2f s of a processor\n", r.clients, (began - before).Seconds())
-			}
-		}
-	}
-	plain, front := summary(taken[0]), summary(taken[1])
-	fmt.Fprintf(to, "plain polls:       %s\n", plain)
-	fmt.Fprintf(to, "through the front: %s\n", front)
-	fmt.Fprintf(to, "the front adds %v in the median, and %v at worst\n", (front.median - plain.median).Round(10*time.Microsecond), (front.worst - plain.worst).Round(10*time.Microsecond))
-	fmt.Fprintf(to, "the front took %.1f %% of a processor meanwhile, and %s\n", 100*processor.Seconds()/r.length.Seconds(), office.Memory(s.through().Pid()))
-	loadLine(to, "at the end")
-	return r.idle(ctx, s, to)
-}
-
-// leg has polls up, makes changes for half of the time, and gives how long each frame
-// took, and the front's time of a processor when the changes began.
-func (r run) leg(ctx context.Context, s subject, front bool) ([]time.Duration, time.Duration, error) {
-	p := newPolls(s, r.clients, front)
-	defer p.close()
-	if err := p.up(ctx); err != nil {
-		return nil, 0, err
-	}
-	began := office.Processor(s.through().Pid())
-	tick := time.NewTicker(each)
-	defer tick.Stop()
-	end := time.Now().Add(r.length / 2)
-	for number := 1; time.Now().Before(end); number++ {
-		select {
-		case <-ctx.Done():
-			return nil, 0, ctx.Err()
-		case err := <-p.failed:
-			return nil, 0, err
-		case <-tick.C:
-		}
-		p.sent(number)
-		if err := s.change(ctx, number); err != nil {
-			return nil, 0, err
-		}
-	}
-	time.Sleep(time.Second) // for frames on their way
-	return p.times(), began, nil
-}
-
-// idle holds polls through the front, and changes nothing.
-func (r run) idle(ctx context.Context, s subject, to io.Writer) error {
-	p := newPolls(s, r.clients, true)
-	defer p.close()
-	if err := p.up(ctx); err != nil {
+	rounds, last, err := r.rounds(ctx, s, count)
+	defer last.end()
+	if err != nil {
 		return err
 	}
-	time.Sleep(time.Second)
+	io.WriteString(to, table(rounds))
+	var changing time.Duration
+	for _, one := range rounds {
+		changing += one.changing
+	}
+	fmt.Fprintf(to, "the front brought %d polls up with %.2f s of a processor, took %.1f %% of one while things changed, and holds %s\n", r.clients, last.beginning.Seconds(),
+		100*changing.Seconds()/(r.length*time.Duration(count)).Seconds(), office.Memory(s.through().Pid()))
+	err = r.idle(ctx, s, to)
+	loadLine(to, "at the end")
+	return err
+}
+
+// rounds are legs beside the front and through it, in turn. The polls of the last one
+// are left as they are.
+func (r run) rounds(ctx context.Context, s subject, count int) (all []round, last leg, err error) {
+	for len(all) < count {
+		last.end()
+		plain, err := r.leg(ctx, s, false)
+		plain.end()
+		if err != nil {
+			return all, leg{}, err
+		}
+		if last, err = r.leg(ctx, s, true); err != nil {
+			return all, last, err
+		}
+		all = append(all, round{quantilesOf(plain.late), quantilesOf(last.late), len(plain.late), len(last.late), last.changing})
+	}
+	return all, last, nil
+}
+
+// A leg is polls of one way, how late their frames were, and what the front took of a
+// processor until they were there, and while things changed.
+type leg struct {
+	*polls
+	late                []time.Duration
+	beginning, changing time.Duration
+}
+
+// end ends its polls, if there are any, and waits until the server has noticed.
+func (l leg) end() {
+	if l.polls == nil {
+		return
+	}
+	l.close()
+	time.Sleep(leave)
+}
+
+// leg has polls up and makes changes for a while.
+func (r run) leg(ctx context.Context, s subject, front bool) (leg, error) {
+	l := leg{polls: newPolls(s, r.clients, front, r.numbers)}
+	taken := func() time.Duration { return office.Processor(s.through().Pid()) }
+	before := taken()
+	if err := l.up(ctx); err != nil {
+		return l, err
+	}
+	if err := l.settle(ctx); err != nil {
+		return l, err
+	}
+	began := taken()
+	l.beginning = began - before
+	if err := r.changes(ctx, s, l.polls); err != nil {
+		return l, err
+	}
+	l.changing = taken() - began
+	if err := l.settle(ctx); err != nil {
+		return l, err
+	}
+	l.late = l.times()
+	return l, nil
+}
+
+// changes makes them, the same in each leg, whose numbers alone are others.
+func (r run) changes(ctx context.Context, s subject, p *polls) error {
+	tick := time.NewTicker(r.every())
+	defer tick.Stop()
+	for end, n := time.Now().Add(r.length), 0; time.Now().Before(end); n++ {
+		select {
+		case <-ctx.Done():
+			return ctx.Err()
+		case err := <-p.failed:
+			return err
+		case <-tick.C:
+		}
+		number := p.next()
+		if err := s.change(ctx, n%r.clients, number); err != nil {
+			return err
+		}
+	}
+	return nil
+}
+
+// idle holds the polls that there are, and changes nothing.
+func (r run) idle(ctx context.Context, s subject, to io.Writer) error {
+	length := r.length
+	if length < leastIdle {
+		length = leastIdle
+	}
 	before := office.Processor(s.through().Pid())
 	select {
 	case <-ctx.Done():
 		return ctx.Err()
-	case <-time.After(r.length):
+	case <-time.After(length):
 	}
 	took := office.Processor(s.through().Pid()) - before
-	fmt.Fprintf(to, "idle, %d clients cost the front %.2f %% of a processor; %s\n", r.clients, 100*took.Seconds()/r.length.Seconds(), office.Memory(s.through().Pid()))
+	fmt.Fprintf(to, "idle for %v, %d clients cost the front %.2f %% of a processor; it holds %s\n", length, r.clients, 100*took.Seconds()/length.Seconds(), office.Memory(s.through().Pid()))
 	return nil
-}
-
-// Figures are what durations come to.
-type figures struct {
-	count               int
-	median, most, worst time.Duration
-}
-
-func summary(all []time.Duration) figures {
-	sort.Slice(all, func(i, j int) bool { return all[i] < all[j] })
-	if len(all) == 0 {
-		return figures{}
-	}
-	return figures{len(all), all[len(all)/2], all[len(all)*99/100], all[len(all)-1]}
-}
-
-func (s figures) String() string {
-	round := func(d time.Duration) time.Duration { return d.Round(10 * time.Microsecond) }
-	return fmt.Sprintf("%d frames, median %v, 99 %% within %v, worst %v", s.count, round(s.median), round(s.most), round(s.worst))
 }

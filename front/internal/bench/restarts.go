@@ -2,66 +2,133 @@ package main
 
 import (
 	"context"
+	"errors"
 	"fmt"
 	"io"
 	"os"
 	"path/filepath"
+	"sync/atomic"
 	"time"
-
-	"tailnetd-front/internal/office"
 )
 
-// patience is how soon every client has to follow again.
-const patience = 10 * time.Second
+const (
+	// patience is how soon every client has to follow again.
+	patience = 10 * time.Second
+	// between is how long all goes well before the next restart.
+	between = 6 * each
+)
 
-// restart kills the front and the server, in turn, amid changes, and waits each time
-// until every client has folded the server's map again.
+// restart kills the front and the server, in turn, while things change. Each time every
+// client has to follow again, and once something has changed behind that, to have folded
+// the server's map.
 func (r run) restart(ctx context.Context, folder string, to io.Writer) error {
-	if r.clients > office.Polls {
-		r.clients = office.Polls
-	}
 	folder = filepath.Join(folder, "restarts")
 	if err := os.Mkdir(folder, 0o700); err != nil {
 		return err
 	}
-	s, err := r.served(ctx, folder)
+	s, err := r.subject(ctx, folder, 0)
 	if err != nil {
 		return err
 	}
 	defer s.close()
 	ctx, stop := context.WithCancel(ctx)
 	defer stop()
-	for n, m := range s.all {
+	for n, m := range s.machines() {
 		m.Compress = n%2 == 0
 		go m.Follow(ctx)
 	}
-	number := 0
-	var all []time.Duration
-	for n := 0; n <= r.restarts; n++ {
-		for end := time.Now().Add(10 * each); time.Now().Before(end); time.Sleep(each) {
-			number++
-			if err := s.change(ctx, number); err != nil {
-				return err
-			}
-		}
-		began := time.Now()
-		if n > 0 {
-			p := []*office.Process{s.Front, s.Server}[n%2]
-			if err := p.Restart(ctx); err != nil {
-				return err
-			}
-		}
-		limit, cancel := context.WithTimeout(ctx, patience)
-		err := s.Agree(limit, s.all)
-		cancel()
+	if err := agree(ctx, s); err != nil {
+		return fmt.Errorf("at the beginning: %w", err)
+	}
+	var all [2][]time.Duration
+	names := [2]string{"the front", "the server"}
+	for n := 0; n < r.restarts; n++ {
+		took, err := r.restartOnce(ctx, s, n%2 == 0)
 		if err != nil {
-			return fmt.Errorf("restart %d: %w", n, err)
+			return fmt.Errorf("restart %d, of %s: %w", n+1, names[n%2], err)
 		}
-		if n > 0 {
-			all = append(all, time.Since(began))
+		all[n%2] = append(all[n%2], took)
+	}
+	for n, took := range all {
+		q := quantilesOf(took)
+		fmt.Fprintf(to, "%d restarts of %s amid changes, %d clients of %s: all follow again after %v in the median and %v at worst, and have folded the server's maps\n",
+			len(took), names[n], r.clients, s.name(), q.median().Round(time.Millisecond), q.worst().Round(time.Millisecond))
+	}
+	return nil
+}
+
+// restartOnce restarts one of the two while things change, and says after how long the
+// last client followed again.
+func (r run) restartOnce(ctx context.Context, s subject, front bool) (time.Duration, error) {
+	var made atomic.Int64
+	enough, ended := make(chan struct{}), make(chan struct{})
+	go func() {
+		defer close(ended)
+		r.change(ctx, s, &made, enough)
+	}()
+	time.Sleep(between)
+	began := time.Now()
+	again := s.restart
+	if front {
+		again = s.through().Restart
+	}
+	err := again(ctx)
+	var took time.Duration
+	if err == nil {
+		took, err = followAgain(s, began)
+	}
+	// One change more than the one that may have begun before.
+	for behind := made.Load() + 2; err == nil && made.Load() < behind; time.Sleep(each / 10) {
+		if time.Since(began) > 2*patience {
+			err = errors.New("nothing changes any more")
 		}
 	}
-	f := summary(all)
-	fmt.Fprintf(to, "%d restarts of the front and the server in turn, %d clients: all followed again, and folded what the server says, within %v in the median and %v at worst\n", f.count, r.clients, f.median.Round(time.Millisecond), f.worst.Round(time.Millisecond))
-	return nil
+	close(enough)
+	<-ended
+	if err != nil {
+		return 0, err
+	}
+	return took, agree(ctx, s)
+}
+
+// followAgain waits until all clients follow since a time, and says after how long the
+// last one did.
+func followAgain(s subject, began time.Time) (last time.Duration, err error) {
+	for n, m := range s.machines() {
+		for !m.Follows().After(began) {
+			if time.Since(began) > patience {
+				return 0, fmt.Errorf("client %d doesn't follow after %v: %d polls", n, patience, m.State().Polls)
+			}
+			time.Sleep(5 * time.Millisecond)
+		}
+		if took := m.Follows().Sub(began); took > last {
+			last = took
+		}
+	}
+	return last, nil
+}
+
+// change makes changes until there are enough, and counts those that were taken: while
+// the server begins anew none is.
+func (r run) change(ctx context.Context, s subject, made *atomic.Int64, enough <-chan struct{}) {
+	tick := time.NewTicker(r.every())
+	defer tick.Stop()
+	for {
+		select {
+		case <-enough:
+			return
+		case <-tick.C:
+		}
+		*r.numbers++
+		if s.change(ctx, *r.numbers%r.clients, *r.numbers) == nil {
+			made.Add(1)
+		}
+	}
+}
+
+// agree waits until all have folded the server's map. It takes its time to ask for each.
+func agree(ctx context.Context, s subject) error {
+	ctx, cancel := context.WithTimeout(ctx, time.Minute)
+	defer cancel()
+	return s.operator().Agree(ctx, s.machines())
 }

@@ -33,7 +33,7 @@ func open(t *testing.T) *opened {
 		t.Skip("TAILNETD and TAILNETD_FRONT don't name the programs")
 	}
 	ctx, cancel := context.WithTimeout(context.Background(), 2*time.Minute)
-	o, err := office.Open(ctx, server, front, t.TempDir())
+	o, err := office.Open(ctx, server, front, t.TempDir(), office.FewPolls)
 	if err != nil {
 		cancel()
 		t.Fatal(err)
@@ -262,8 +262,8 @@ func TestLongBodies(t *testing.T) {
 	}
 }
 
-// A machine whose client has gone is offline once the server notices it, which is at its
-// next writes to the connection that the front has closed.
+// A machine whose client has gone is offline soon, though nothing changes: the front
+// closes its connection to the server, which looks at waiting polls each second.
 func TestOfflineWhenGone(t *testing.T) {
 	o := open(t)
 	o.makeUsers()
@@ -277,16 +277,8 @@ func TestOfflineWhenGone(t *testing.T) {
 		t.Fatalf("it isn't online: %s", got)
 	}
 	cancel()
-	began, changes := time.Now(), 0
-	o.until("it is offline", func() bool {
-		if !strings.Contains(one.State().Map, online) {
-			return true
-		}
-		changes++
-		o.ask("POST", "/api/v1/node/"+o.id(one)+"/rename", fmt.Sprintf(`{"name":"name-%d"}`, changes))
-		time.Sleep(100 * time.Millisecond)
-		return false
-	})
-	t.Logf("it was offline after %v and %d changes", time.Since(began).Round(time.Millisecond), changes)
+	began := time.Now()
+	o.until("it is offline", func() bool { return !strings.Contains(one.State().Map, online) })
+	t.Logf("it was offline after %v", time.Since(began).Round(time.Millisecond))
 	o.agree("one is gone", o.machines[:1])
 }

@@ -2,8 +2,6 @@ package office
 
 import (
 	"context"
-	"encoding/binary"
-	"errors"
 	"fmt"
 	"io"
 	"net"
@@ -11,7 +9,6 @@ import (
 	"sync"
 	"time"
 
-	"github.com/klauspost/compress/zstd"
 	"golang.org/x/net/http2"
 	"tailnetd-front/internal/tailclient"
 )
@@ -28,8 +25,9 @@ type Machine struct {
 	http    *http2.ClientConn
 	view    tailclient.View
 	polls   int
-	refused string // what a poll was answered in place of frames, at last
-	fault   error  // of a frame that can't be folded
+	follows time.Time // since when: the first frame of the poll that it has, if it came
+	refused string    // what a poll was answered in place of frames, at last
+	fault   error     // of a frame that can't be folded
 }
 
 // NewMachine is a machine with new keys.
@@ -88,16 +86,19 @@ func (m *Machine) Send(ctx context.Context, path, body string) (int, string, err
 }
 
 // Cut ends its connection without a word, as one whose cable was pulled and whose
-// system told the other end.
+// system told the other end. HTTP/2 above learns of it a little later, so the
+// connection is forgotten here: the next request has another.
 func (m *Machine) Cut() {
 	m.mu.Lock()
 	defer m.mu.Unlock()
-	if m.conn != nil {
-		if tcp, ok := m.conn.Conn.(*net.TCPConn); ok {
-			tcp.SetLinger(0)
-		}
-		m.conn.Close()
+	if m.conn == nil {
+		return
 	}
+	if tcp, ok := m.conn.Conn.(*net.TCPConn); ok {
+		tcp.SetLinger(0)
+	}
+	m.conn.Close()
+	m.conn, m.http = nil, nil
 }
 
 // Follow polls until ctx ends or a poll is refused by the server, and comes back
@@ -147,6 +148,11 @@ func (m *Machine) followOnce(ctx context.Context) error {
 	m.mu.Lock()
 	m.polls++
 	m.mu.Unlock()
+	defer func() {
+		m.mu.Lock()
+		m.follows = time.Time{}
+		m.mu.Unlock()
+	}()
 	return ReadFrames(a.Body, m.Compress, m.take)
 }
 
@@ -157,36 +163,17 @@ func (m *Machine) take(frame []byte) error {
 		m.fault = fmt.Errorf("%w in %.300s", err, frame)
 		return m.fault
 	}
+	if m.follows.IsZero() {
+		m.follows = time.Now()
+	}
 	return nil
 }
 
-// ReadFrames gives each frame of a poll to take, until they end, which is no error.
-func ReadFrames(from io.Reader, compressed bool, take func(frame []byte) error) error {
-	decoder, err := zstd.NewReader(nil, zstd.WithDecoderConcurrency(1), zstd.WithDecoderLowmem(true), zstd.WithDecoderMaxWindow(8<<20))
-	if err != nil {
-		return err
-	}
-	defer decoder.Close()
-	for {
-		var length [4]byte
-		if _, err := io.ReadFull(from, length[:]); errors.Is(err, io.EOF) {
-			return nil
-		} else if err != nil {
-			return err
-		}
-		frame := make([]byte, binary.LittleEndian.Uint32(length[:]))
-		if _, err := io.ReadFull(from, frame); err != nil {
-			return err
-		}
-		if compressed {
-			if frame, err = decoder.DecodeAll(frame, nil); err != nil {
-				return err
-			}
-		}
-		if err := take(frame); err != nil {
-			return err
-		}
-	}
+// Follows says since when it has had frames of the poll that it has, zero if it hasn't.
+func (m *Machine) Follows() time.Time {
+	m.mu.Lock()
+	defer m.mu.Unlock()
+	return m.follows
 }
 
 // State is what a machine has by now.

@@ -11,12 +11,24 @@ import (
 	"tailnetd-front/internal/tailclient"
 )
 
-// Workers is the setting of the servers here, few enough for any limit of descriptors; so many polls
-// go with it.
+// FewPolls are enough for tests, and their workers few enough for any limit of
+// descriptors. MostPolls are as many as a server has workers for.
 const (
-	Workers = 64
-	Polls   = Workers - 4
+	FewPolls  = 60
+	MostPolls = mostWorkers - spare
+
+	mostWorkers = 1024
+	spare       = 4 // workers for what is short, beside the polls
 )
+
+// workersFor is the setting workers for so many polls: twice as many if that can be, so
+// that polls that begin don't wait until the server has noticed the end of others.
+func workersFor(polls int) int {
+	if workers := 2*polls + spare; workers < mostWorkers {
+		return workers
+	}
+	return mostWorkers
+}
 
 // DERPMap is what the fronts here give their clients.
 const DERPMap = `{"Regions":{"900":{"RegionID":900,"RegionCode":"own","RegionName":"Own","Nodes":[]}}}`
@@ -29,8 +41,8 @@ type Office struct {
 	Log           string
 }
 
-// Open starts both programs in a folder.
-func Open(ctx context.Context, server, front, folder string) (*Office, error) {
+// Open starts both programs in a folder, for so many polls at once.
+func Open(ctx context.Context, server, front, folder string, polls int) (*Office, error) {
 	at, err := FreeAddress()
 	if err != nil {
 		return nil, err
@@ -40,7 +52,7 @@ func Open(ctx context.Context, server, front, folder string) (*Office, error) {
 		return nil, err
 	}
 	settings := fmt.Sprintf("base_domain = \"tail.example\"\nserver_url = \"http://%s\"\ntoken = %q\ndatabase = %q\nlisten = %q\nworkers = %d\npoll_turns = 1000000\n",
-		outside, Token, filepath.Join(folder, "tailnet.db"), at, Workers)
+		outside, Token, filepath.Join(folder, "tailnet.db"), at, workersFor(polls))
 	files := map[string]string{"serve.toml": settings, "derp.json": DERPMap}
 	for name, text := range files {
 		if err := os.WriteFile(filepath.Join(folder, name), []byte(text), 0o600); err != nil {
@@ -52,7 +64,7 @@ func Open(ctx context.Context, server, front, folder string) (*Office, error) {
 		return nil, err
 	}
 	o.Front, err = Start(ctx, outside, front, "--listen", outside, "--server", at, "--key", filepath.Join(folder, "front.key"),
-		"--derp-map", filepath.Join(folder, "derp.json"), "--polls", fmt.Sprint(Polls), "--per-address", "0", "--log", o.Log)
+		"--derp-map", filepath.Join(folder, "derp.json"), "--polls", fmt.Sprint(polls), "--per-address", "0", "--log", o.Log)
 	if err != nil {
 		o.Server.Kill()
 		return nil, err
@@ -69,7 +81,7 @@ func (o *Office) Close() {
 
 // Agree waits until each of the machines has folded the map that the server answers a
 // plain request of it.
-func (o *Office) Agree(ctx context.Context, machines []*Machine) error {
+func (o Operator) Agree(ctx context.Context, machines []*Machine) error {
 	for n, m := range machines {
 		for {
 			want, err := o.Map(ctx, m)
@@ -82,7 +94,7 @@ func (o *Office) Agree(ctx context.Context, machines []*Machine) error {
 			}
 			select {
 			case <-ctx.Done():
-				return fmt.Errorf("machine %d (refused: %q, %d polls, %d frames): %w\nfolded %s\nplain  %s\n%s", n, s.Refused, s.Polls, s.Frames, ctx.Err(), s.Map, want, difference(s.Map, want))
+				return fmt.Errorf("machine %d (refused: %q, %d polls, %d frames): %w\nfolded %.2000s\nplain  %.2000s\n%s", n, s.Refused, s.Polls, s.Frames, ctx.Err(), s.Map, want, difference(s.Map, want))
 			case <-time.After(20 * time.Millisecond):
 			}
 		}

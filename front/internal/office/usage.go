@@ -1,7 +1,6 @@
 package office
 
 import (
-	"encoding/binary"
 	"fmt"
 	"os"
 	"strconv"
@@ -43,11 +42,4 @@ func Memory(pid int) string {
 		return fmt.Sprintf("%.0f MB", float64(n)/1000)
 	}
 	return fmt.Sprintf("%s resident, at most %s", megabytes("VmRSS"), megabytes("VmHWM"))
-}
-
-// Frame is a text as the server frames it.
-func Frame(text []byte) []byte {
-	b := make([]byte, 4, 4+len(text))
-	binary.LittleEndian.PutUint32(b, uint32(len(text)))
-	return append(b, text...)
 }

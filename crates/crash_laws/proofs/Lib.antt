@@ -1,0 +1,3 @@
+mod Codes
+pub mod Surviving
+mod Trees

@@ -1,0 +1,3 @@
+pub mod Checks
+pub mod EntryChecks
+pub mod TextChecks
