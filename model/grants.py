@@ -51,17 +51,22 @@ class Grants:
         """The rules that have a source among the machine's addresses."""
         return [rule for rule in rules_of(self.policy) if any(sends(self.policy, rule, end) for end in self.ends(a))]
 
+    def goes_to(self, rule, nets):
+        """Whether the rule has some of these addresses, of which no machine holds any but its own, as a destination."""
+        return any(to != "autogroup:self" and meet(self.nets_of(to), nets) for to, _ in rule[2])
+
     def is_granted(self, a, nets):
-        """Whether some flow goes from the machine to some of these addresses, of which no machine holds any but its own."""
-        return any(
-            to != "autogroup:self" and meet(self.nets_of(to), nets) for rule in self.sending(a) for to, _ in rule[2]
-        )
+        """Whether some flow goes from the machine to some of these addresses."""
+        return any(self.goes_to(rule, nets) for rule in self.sending(a))
+
+    def reaching(self, a, b):
+        """The rules by each of which alone some flow goes from a machine to what another serves."""
+        served, joins = self.served(b), joins_own(self.ends(a)[0], self.ends(b)[0])
+        own = lambda rule: joins and any(to == "autogroup:self" for to, _ in rule[2])
+        return [rule for rule in self.sending(a) if own(rule) or self.goes_to(rule, served)]
 
     def reaches(self, a, b):
-        joins = joins_own(self.ends(a)[0], self.ends(b)[0])
-        return self.is_granted(a, self.served(b)) or joins and any(
-            to == "autogroup:self" for rule in self.sending(a) for to, _ in rule[2]
-        )
+        return bool(self.reaching(a, b))
 
     def sees(self, a, b):
         return a is not b and (self.reaches(a, b) or self.reaches(b, a))

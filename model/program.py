@@ -75,6 +75,13 @@ class World:
             file.write(content)
         return path
 
+    def fresh_store(self):
+        """The path of a database that isn't there yet."""
+        path = f"{self.folder}/store.db"
+        for name in glob(f"{path}*"):
+            os.remove(name)
+        return path
+
     def run(self, words, requests, moments, faults=b"", draws_repeat=False, workplace=None):
         """Runs the program with these words over these bytes. The clock's last answer is repeated; random words count up
         from 1, over the whole run or, if draws repeat, in each draw of four."""

@@ -7,6 +7,7 @@ from . import watching
 from .access import USUAL_SERVER, access_of, address_of, is_named, kept_settings, own_file
 from .connection import Client, Refusal
 from .policies import check
+from .reaching import reach
 from .refusals import trouble_of
 from .trouble import Status, Trouble
 from .words import read
@@ -22,8 +23,8 @@ def refuse_token(line):
 
 
 def is_offline(words):
-    """Whether the command asks no server: a check, where that is wanted, or where no server is named."""
-    return words.run is check and (words.offline or words.program is not None or not is_named(words, os.environ))
+    """Whether the command asks no server: what reads a store, or a check, where that is wanted, or where no server is named."""
+    return words.run is reach or words.run is check and (words.offline or words.program is not None or not is_named(words, os.environ))
 
 
 def watched(words):

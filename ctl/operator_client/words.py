@@ -3,7 +3,7 @@
 import argparse
 from functools import cache
 
-from . import editing, nodes, people, policies, records
+from . import editing, nodes, people, policies, reaching, records
 from .trouble import Status
 from .version import version
 
@@ -126,6 +126,9 @@ def add_policy(top):
     command.add_argument("source", metavar="SRC", help="a user, group, tag, machine or address")
     command.add_argument("dest", metavar="DST:PORT", help="the same, a colon, and a port")
     command.add_argument("protocol", nargs="?", metavar="PROTO", help="as tcp or icmp; TCP or UDP if it is left out")
+    command = top.add("reach", reaching.reach, "draw which machine reaches which, and by which rule, over the store of a server that stands still")
+    command.add_argument("settings", metavar="SETTINGS", help="the server's settings file, which names the store")
+    command.add_argument("--program", metavar="PATH", help="the program tailnetd that reads the store (TAILNETD_PROGRAM)")
 
 
 @cache

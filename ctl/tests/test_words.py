@@ -40,7 +40,7 @@ class Words(unittest.TestCase):
     def test_each_command_is_there(self):
         wanted = {
             "nodes", "node rename", "node tags", "node routes", "node approve", "node expire", "node remove", "users", "user add", "user remove",
-            "keys", "key make", "key expire", "pending", "admit", "policy show", "policy edit", "policy save", "policy check", "dns", "sweep", "can", "watch",
+            "keys", "key make", "key expire", "pending", "admit", "policy show", "policy edit", "policy save", "policy check", "dns", "sweep", "can", "reach", "watch",
         }
         self.assertLessEqual(wanted, {" ".join(line) for line in commands(parser())})
 

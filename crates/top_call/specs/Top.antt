@@ -2,6 +2,8 @@
 use Rattle.std.specs.Prelude.{◌≡◌, ◌⊎◌, ℕ, Bool, true, false, Option, None, Some, List}
 use Rattle.command_words.specs.declared.invocation.Invocation.{Invocation}
 use Rattle.command_words.specs.declared.invocation.Invocation.TheVariants as asked
+use Rattle.explain_commands.specs.Explained.{ExplainOutcome}
+use Rattle.explain_commands.specs.declared.question.Question.TheVariants as question
 use Rattle.load_run.specs.Loads.{Loaded, load_line}
 use Rattle.operator_commands.specs.Operated.{Operated, OperatorPoint}
 use Rattle.exit_status.specs.Lines.{Noted, ended_line, usage_line}
@@ -69,13 +71,9 @@ pub record IsLinkedAlone (old new : Outside) : Type 0 where
   pub keeper_faults : new.keeper_faults ≡ old.keeper_faults
   pub doors : new.doors ≡ old.doors
 
--- the line of words that are no command is left, and nothing else is done
-abbrev pub IsNoCommand : Status → Outside → Outside → Type 0
-IsNoCommand ended old new = (ended ≡ status.Usage) × IsNotedAlone old new × IsLine usage_line old new
-
 -- Words that are no command do nothing but leave their line on errors; a command results in what its status says.
 abbrev pub WordsDone : Option Invocation → Status → Outside → Outside → Type 0
-WordsDone None ended old new = IsNoCommand ended old new
+WordsDone None ended old new = (ended ≡ status.Usage) × IsNotedAlone old new × IsLine usage_line old new
 WordsDone (Some (asked.Pipe settings seed)) ended old new = Outcome ended settings seed old new
 WordsDone (Some (asked.PolicyCheck file)) ended old new =
     IsWrittenAlone old new
@@ -86,9 +84,8 @@ WordsDone (Some (asked.Load machines events)) ended old new =
     IsWrittenAlone old new × (new.files ≡ old.files) × (new.file_faults ≡ old.file_faults)
     × Loaded (record { machines = machines; events = events }) ended old.told.giving.held new.told.giving.held old.told.giving.write_faults new.told.giving.write_faults
     × IsLine (load_line ended) old new
--- these aren't built yet
-WordsDone (Some (asked.Explain settings flow)) ended old new = IsNoCommand ended old new
-WordsDone (Some (asked.Reach settings)) ended old new = IsNoCommand ended old new
+WordsDone (Some (asked.Explain settings flow)) ended old new = ExplainOutcome ended (question.Flow flow) settings old new
+WordsDone (Some (asked.Reach settings)) ended old new = ExplainOutcome ended question.Reaches settings old new
 WordsDone (Some (asked.Operator call)) ended old new = IsLinkedAlone old new × Operated call ended (operator_point_of old) (operator_point_of new)
 
 -- there was no memory to read the words

@@ -9,6 +9,7 @@ ghost use Rattle.top_call.specs.Top.{WordsDone, Top, asks_doors, asks_link};
 use crate::wordless::end_wordless;
 use command_words::{Invocation, read_invocation};
 use exit_status::{Status, note_usage};
+use explain_commands::{explain_command, reach_command};
 use io_edge::{Clock, Door, Doors, Entropy, Files, Link, Pause, Sink, Source};
 use load_run::load_command;
 use operator_commands::operator_command;
@@ -102,8 +103,26 @@ where
         Some(Invocation::Operator(call)) => {
             operator_command(alloc, call, output, errors, files, link)
         }
-        // The commands of these words aren't built yet.
-        Some(Invocation::Explain { .. } | Invocation::Reach { .. }) | None => {
+        Some(Invocation::Explain { settings, flow }) => explain_command(
+            alloc,
+            settings.as_str(),
+            flow,
+            output,
+            errors,
+            files,
+            opener,
+            clock,
+        ),
+        Some(Invocation::Reach { settings }) => reach_command(
+            alloc,
+            settings.as_str(),
+            output,
+            errors,
+            files,
+            opener,
+            clock,
+        ),
+        None => {
             note_usage(errors);
             Status::Usage
         }
@@ -112,7 +131,7 @@ where
 
 /// The whole program over its outside: the words after its name, and all that it may touch.
 ///
-/// `pipe`, `serve`, `policy-check`, `load` and the operator's commands are those so far. `serve` alone
+/// `pipe`, `serve`, `policy-check`, `load`, `explain`, `reach` and the operator's commands are those so far. `serve` alone
 /// asks doors, starts threads and waits for its workers; the operator's commands alone ask the link, and
 /// wait for it.
 pub fn tailnetd<
