@@ -3,3 +3,4 @@ pub mod Schemas
 pub mod TellTrees
 pub mod Telling
 pub mod Loading
+pub mod Naming

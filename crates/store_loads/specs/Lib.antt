@@ -1,3 +1,4 @@
 pub mod Forms
 pub mod Told
 pub mod Tells
+pub mod First

@@ -1,24 +1,20 @@
 -- What a database tells of the tables: the rows that stand in it.
 use base.Stored.{Gv, gnil, gnum, gcons}
-use Rattle.std.specs.Prelude.{ℕ, Bool, true, false, List, [], ◌∷◌, ◌+◌, ◌==◌, ◌&&◌, map, Option, Some, None, is_none, is_some, not, ◌||◌, if◌then◌else◌}
+use Rattle.std.specs.Prelude.{Bool, true, false, List, ◌==◌, ◌&&◌, Option, Some, None, is_none, is_some, not, ◌||◌, if◌then◌else◌}
 use Rattle.std.specs.Option.{option_and_then, option_map}
 use Rattle.net_rows.specs.Damage.{damage}
 use Rattle.net_rows.specs.Rows.{empty_rows}
-use Rattle.net_rows.specs.declared.change.Counters.{Counters}
 use Rattle.net_rows.specs.declared.rows.Rows.{Rows}
 use Rattle.sqlite.specs.Effect.{Database}
 use Rattle.sqlite.specs.State.{State}
 use Rattle.sqlite_keyed.specs.Lists.{sort_by}
 use Rattle.sqlite_schema.specs.contracts.schema.Schema.{the_row}
 use Rattle.sqlite_schema.specs.declared.schema.Schema.{Schema}
-use Rattle.sqlite_sql.specs.Ops.{is_null}
 use Rattle.sqlite_trees.specs.Tree.{Trees, rowid}
 use Rattle.sqlite_value.specs.Order.{Row, value_cmp}
-use Rattle.store_reads.specs.Readable.{cell_in}
-use Rattle.store_rows.specs.Reading.{auth_key_of, extra_of, machine_in_cells, meta_of, pending_in_cells, policy_in_cells, user_in_cells}
-use Rattle.store_rows.specs.declared.cell.Cell.{Cell}
+pub use Rattle.store_reads.specs.Values.{extras_in, next_in, policy_in_rows, tree_cells, values_in}
+use Rattle.store_rows.specs.Reading.{auth_key_of, machine_in_cells, pending_in_cells, user_in_cells}
 use Rattle.store_sql.specs.Schema.{no_schema, schema_1}
-use Rattle.tailcfg.specs.declared.dns.DnsExtra.{DnsExtra}
 
 -- ---- one schema
 
@@ -36,41 +32,11 @@ same_code (gcons a b) (gcons c d) = same_code a c && same_code b d
 unfoldable pub is_schema : Schema → Schema → Bool
 is_schema a b = same_code (the_row.coded.code a) (the_row.coded.code b)
 
--- ---- rows
-
--- the cells of a row that has NULL in the place of its key
-abbrev pub tree_cells : Row → List Cell
-tree_cells [] = []
-tree_cells (id ∷ []) = []
-tree_cells (id ∷ key ∷ rest) = if is_null key then cell_in id ∷ map cell_in rest else []
-
--- the values of these rows, if each is the row of one
-abbrev pub values_in : {T : Type 0} → (List Cell → Option T) → List Row → Option (List T)
-values_in read [] = Some []
-values_in read (row ∷ rows) = option_and_then (λ x. option_map (λ xs. x ∷ xs) (values_in read rows)) (read (tree_cells row))
-
--- the same of extra records, at the places from this one on
-abbrev pub extras_in : ℕ → List Row → Option (List DnsExtra)
-extras_in place [] = Some []
-extras_in place (row ∷ rows) = option_and_then (λ x. option_map (λ xs. x ∷ xs) (extras_in (place + 1) rows)) (extra_of place (tree_cells row))
-
--- the counters of the one row of `meta`
-abbrev pub next_in : List Row → Option Counters
-next_in [] = None
-next_in (row ∷ []) = meta_of (tree_cells row)
-next_in (row ∷ other ∷ rows) = None
-
--- the policy's text of the one row of `policy`, if there is one
-abbrev pub policy_in_rows : List Row → Option (Option (List ℕ))
-policy_in_rows [] = Some None
-policy_in_rows (row ∷ []) = option_map (λ body. Some body) (policy_in_cells (tree_cells row))
-policy_in_rows (row ∷ other ∷ rows) = None
+-- ---- tables
 
 -- the rows of a tree by their rowids
 abbrev pub in_order : List Row → List Row
 in_order = sort_by (λ a b. value_cmp (rowid a) (rowid b))
-
--- ---- tables
 
 -- the rows of the trees, if they are the rows of values
 abbrev pub tables_in : Trees → Option Rows

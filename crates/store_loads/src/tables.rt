@@ -1,5 +1,5 @@
 //! The tables that a database keeps.
-ghost use Rattle.std.specs.Prelude.{◌≡◌, [], ℕ, false, None, Ok, Err, IfOk, IfErr, IsTrue, OnOk, is_ok};
+ghost use Rattle.std.specs.Prelude.{◌≡◌, [], ℕ, false, Some, None, Ok, Err, IfOk, IfErr, IsTrue, OnOk, is_ok};
 ghost use Rattle.io_edge.specs.Edge.{IsWhereTold, StillTells};
 ghost use Rattle.net_rows.specs.declared.change.Kind.{Kind as RowKind};
 ghost use Rattle.net_rows.specs.Damage.{damage};
@@ -8,9 +8,11 @@ ghost use Rattle.net_rows.specs.declared.rows.Rows.{Rows};
 ghost use Rattle.sqlite.specs.Held.{state};
 ghost use Rattle.sqlite.specs.State.{HasCleanDisk, IsLive, Shown, Survives};
 ghost use Rattle.store_commits.specs.Kept.{AreStored, Keeps};
+ghost use Rattle.store_loads.specs.First.{IsFirstDamage};
 ghost use Rattle.store_loads.specs.Tells.{Holds, IsAtRest, IsFirst, IsKnown, IsSpared};
 ghost use Rattle.store_loads.specs.Told.{store_tells};
 ghost use Rattle.store_reads.specs.Causes.{FailsOnlyFor, IsCaused};
+ghost use Rattle.store_reads.specs.Damages.{IsFirstIn, NamesDamage, WhereOurs};
 ghost use Rattle.store_reads.specs.Readable.{AreReadable, Fills, IsOutside};
 ghost use Rattle.store_reads.specs.Seen.{IsSeen};
 ghost use Rattle.store_sql.specs.Schema.{no_schema, schema_1};
@@ -141,6 +143,7 @@ fn tables_of(rows: Rows) -> Result<Tables, LoadFault>
     ensures whole { damage rows ≡ None → IfErr result IsOutside }
     ensures sound { OnOk result (damage rows ≡ None) }
     ensures err { IfErr result (FailsOnlyFor ⊥) }
+    ensures named { IfErr result (NamesDamage (λ d. damage rows ≡ Some d)) }
 {
     match Tables::checked(rows) {
         Ok(tables) => Ok(tables),
@@ -163,6 +166,8 @@ fn read_tables<S: Alter>(conn: &mut Connection<S>, alloc: Global) -> Result<Tabl
         → IfOk result (λ tables. IsTrue (state S.Store conn.new).is_open
         → Holds (state S.Store conn.new).now tables.rows) }
     ensures cause { IsCaused (state S.Store conn.old) (state S.Store conn.new) result }
+    ensures named { WhereOurs (state S.Store conn.old) (state S.Store conn.new)
+        (IfErr result (NamesDamage (IsFirstIn (state S.Store conn.old).now.trees))) }
 {
     match read_rows(conn, alloc) {
         Ok(rows) => tables_of(rows),
@@ -204,6 +209,8 @@ fn load_tables<S: Alter>(conn: &mut Connection<S>, alloc: Global) -> Result<Tabl
         → (state S.Store conn.old).now.schema ≡ no_schema
         → HasCleanDisk (state S.Store conn.new) → IsTrue (state S.Store conn.new).is_open
         → IsSpared (state S.Store conn.old) (state S.Store conn.new) }
+    ensures named { HasCleanDisk (state S.Store conn.new)
+        → IfErr result (NamesDamage (IsFirstDamage (state S.Store conn.old).now)) }
 {
     match prepare(conn, alloc) {
         Ok(()) => read_tables(conn, alloc),
@@ -259,6 +266,8 @@ pub fn load<S: Alter>(conn: &mut Connection<S>, alloc: Global) -> Result<Tables,
     ensures spared { (state S.Store conn.old).now.schema ≡ no_schema
         → HasCleanDisk (state S.Store conn.new) → IsTrue (state S.Store conn.new).is_open
         → IsSpared (state S.Store conn.old) (state S.Store conn.new) }
+    ensures named { HasCleanDisk (state S.Store conn.new)
+        → IfErr result (NamesDamage (IsFirstDamage (state S.Store conn.old).now)) }
 {
     if !conn.is_autocommit() {
         return Err(LoadFault::Failed);

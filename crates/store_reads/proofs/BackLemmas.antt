@@ -142,7 +142,7 @@ null_is (Text t) h = absurd (true≢false (sym h))
 null_is (Blob b) h = absurd (true≢false (sym h))
 
 -- a row that obeys such a table has its key and all columns, and NULL in the place of the key
-whole_row : (first : Column) (columns : List Column) (row : Row) → are_typed (Some 0) 0 (first ∷ columns) (drop 1 row) ≡ true → are_present (Some 0) 0 (first ∷ columns) row ≡ true → is_closed columns ≡ true
+pub whole_row : (first : Column) (columns : List Column) (row : Row) → are_typed (Some 0) 0 (first ∷ columns) (drop 1 row) ≡ true → are_present (Some 0) 0 (first ∷ columns) row ≡ true → is_closed columns ≡ true
     → with_key (without_key (length columns) row) ≡ row
 whole_row first columns row typed present closed = go row typed (last_there 1 columns row (omega arith) (and_parts (eqb 0 0 || not first.not_null || not (is_null (column row (0 + 1)))) (are_present (Some 0) 1 columns row) present).1 closed)
   where
@@ -183,50 +183,50 @@ stand_as_shown cells count tree xs whole same shown =
     images [] = refl
     images (y ∷ ys) = ap₂ ◌∷◌ (same y) (images ys)
 
-only_typed : (schema : Schema) (db : Trees) (t : Table) (rows : List Row) → AllByRecursion (λ row. passes Datatype schema db t row ≡ true) rows
+pub only_typed : (schema : Schema) (db : Trees) (t : Table) (rows : List Row) → AllByRecursion (λ row. passes Datatype schema db t row ≡ true) rows
     → AllByRecursion (λ row. are_typed t.key 0 t.columns (drop 1 row) ≡ true) rows
 only_typed schema db t [] h = tt
 only_typed schema db t (row ∷ rows) h = ((and_parts _ _ h.0).0, only_typed schema db t rows h.1)
 
-rules : (db : Database) → IsOurs db → (rule : Constraint) → Keeps rule schema_1 db.trees
-rules db ours rule = subst (λ s. Keeps rule s db.trees) ours.schema (ours.obeys.obeys.rules rule)
+pub obeyed : (db : Database) → IsOurs db → (rule : Constraint) → Keeps rule schema_1 db.trees
+obeyed db ours rule = subst (λ s. Keeps rule s db.trees) ours.schema (ours.obeys.obeys.rules rule)
 
 -- ---- tables
 
 pub next_stands : (old new : State) (next : Counters) → IsOurs old.now → Shown SELECT_META.now [] old new (shown_row (meta_cells next) ∷ []) → old.now.trees 0 ≡ tree_row (meta_cells next) ∷ []
 next_stands old new next ours shown =
-    let typed = only_typed schema_1 old.now.trees meta_table (old.now.trees 0) (rules old.now ours Datatype).0 in
-    let whole = whole_rows (column_of (codes "k") Integer false) (drop 1 meta_table.columns) (old.now.trees 0) typed (rules old.now ours NotNull).0 refl in
+    let typed = only_typed schema_1 old.now.trees meta_table (old.now.trees 0) (obeyed old.now ours Datatype).0 in
+    let whole = whole_rows (column_of (codes "k") Integer false) (drop 1 meta_table.columns) (old.now.trees 0) typed (obeyed old.now ours NotNull).0 refl in
     one_permutation _ _ (stand_as_shown meta_cells 5 (old.now.trees 0) (next ∷ []) whole (λ x. refl) (shows_each 0 _ SELECT_META.now _ old new _ select_meta_means ours.schema shown))
 
 pub users_stand : (old new : State) (xs : List User) → IsOurs old.now → Shown SELECT_USERS.now [] old new (map (λ x. shown_row (user_cells x)) xs) → HoldsInTree (old.now.trees 1) (map (λ x. tree_row (user_cells x)) xs)
 users_stand old new xs ours shown =
-    let typed = only_typed schema_1 old.now.trees users_table (old.now.trees 1) (rules old.now ours Datatype).1.0 in
-    let whole = whole_rows (column_of (codes "id") Integer false) (drop 1 users_table.columns) (old.now.trees 1) typed (rules old.now ours NotNull).1.0 refl in
+    let typed = only_typed schema_1 old.now.trees users_table (old.now.trees 1) (obeyed old.now ours Datatype).1.0 in
+    let whole = whole_rows (column_of (codes "id") Integer false) (drop 1 users_table.columns) (old.now.trees 1) typed (obeyed old.now ours NotNull).1.0 refl in
     stand_as_shown user_cells 1 (old.now.trees 1) xs whole (λ x. refl) (shows_each 1 _ SELECT_USERS.now _ old new _ select_users_means ours.schema shown)
 
 pub keys_stand : (old new : State) (xs : List AuthKey) → IsOurs old.now → Shown SELECT_AUTH_KEYS.now [] old new (map (λ x. shown_row (auth_key_cells x)) xs) → HoldsInTree (old.now.trees 3) (map (λ x. tree_row (auth_key_cells x)) xs)
 keys_stand old new xs ours shown =
-    let typed = only_typed schema_1 old.now.trees auth_keys_table (old.now.trees 3) (rules old.now ours Datatype).1.1.0 in
-    let whole = whole_rows (column_of (codes "id") Integer false) (drop 1 auth_keys_table.columns) (old.now.trees 3) typed (rules old.now ours NotNull).1.1.0 refl in
+    let typed = only_typed schema_1 old.now.trees auth_keys_table (old.now.trees 3) (obeyed old.now ours Datatype).1.1.0 in
+    let whole = whole_rows (column_of (codes "id") Integer false) (drop 1 auth_keys_table.columns) (old.now.trees 3) typed (obeyed old.now ours NotNull).1.1.0 refl in
     stand_as_shown auth_key_cells 7 (old.now.trees 3) xs whole (λ x. refl) (shows_each 3 _ SELECT_AUTH_KEYS.now _ old new _ select_auth_keys_means ours.schema shown)
 
 pub pending_stand : (old new : State) (xs : List Pending) → IsOurs old.now → Shown SELECT_PENDING.now [] old new (map (λ x. shown_row (pending_cells x)) xs) → HoldsInTree (old.now.trees 5) (map (λ x. tree_row (pending_cells x)) xs)
 pending_stand old new xs ours shown =
-    let typed = only_typed schema_1 old.now.trees pending_table (old.now.trees 5) (rules old.now ours Datatype).1.1.1.0 in
-    let whole = whole_rows (column_of (codes "id") Integer false) (drop 1 pending_table.columns) (old.now.trees 5) typed (rules old.now ours NotNull).1.1.1.0 refl in
+    let typed = only_typed schema_1 old.now.trees pending_table (old.now.trees 5) (obeyed old.now ours Datatype).1.1.1.0 in
+    let whole = whole_rows (column_of (codes "id") Integer false) (drop 1 pending_table.columns) (old.now.trees 5) typed (obeyed old.now ours NotNull).1.1.1.0 refl in
     stand_as_shown pending_cells 9 (old.now.trees 5) xs whole (λ x. refl) (shows_each 5 _ SELECT_PENDING.now _ old new _ select_pending_means ours.schema shown)
 
 pub machines_stand : (old new : State) (xs : List Machine) → IsOurs old.now → Shown SELECT_MACHINES.now [] old new (map (λ x. shown_row (machine_cells x)) xs) → HoldsInTree (old.now.trees 8) (map (λ x. tree_row (machine_cells x)) xs)
 machines_stand old new xs ours shown =
-    let typed = only_typed schema_1 old.now.trees machines_table (old.now.trees 8) (rules old.now ours Datatype).1.1.1.1.0 in
-    let whole = whole_rows (column_of (codes "id") Integer false) (drop 1 machines_table.columns) (old.now.trees 8) typed (rules old.now ours NotNull).1.1.1.1.0 refl in
+    let typed = only_typed schema_1 old.now.trees machines_table (old.now.trees 8) (obeyed old.now ours Datatype).1.1.1.1.0 in
+    let whole = whole_rows (column_of (codes "id") Integer false) (drop 1 machines_table.columns) (old.now.trees 8) typed (obeyed old.now ours NotNull).1.1.1.1.0 refl in
     stand_as_shown machine_cells 16 (old.now.trees 8) xs whole (λ x. refl) (shows_each 8 _ SELECT_MACHINES.now _ old new _ select_machines_means ours.schema shown)
 
 pub extras_stand : (old new : State) (xs : List DnsExtra) → IsOurs old.now → Shown SELECT_EXTRAS.now [] old new (shown_extras 1 xs) → HoldsInTree (old.now.trees 14) (placed_rows 1 xs)
 extras_stand old new xs ours shown =
-    let typed = only_typed schema_1 old.now.trees extras_table (old.now.trees 14) (rules old.now ours Datatype).1.1.1.1.1.0 in
-    let whole = whole_rows (column_of (codes "place") Integer false) (drop 1 extras_table.columns) (old.now.trees 14) typed (rules old.now ours NotNull).1.1.1.1.1.0 refl in
+    let typed = only_typed schema_1 old.now.trees extras_table (old.now.trees 14) (obeyed old.now ours Datatype).1.1.1.1.1.0 in
+    let whole = whole_rows (column_of (codes "place") Integer false) (drop 1 extras_table.columns) (old.now.trees 14) typed (obeyed old.now ours NotNull).1.1.1.1.1.0 refl in
     let placed = subst (λ rows. Shown SELECT_EXTRAS.now [] old new rows) (sym (shown_places 1 xs)) shown in
     subst (λ rows. IsPermutation rows (old.now.trees 14)) (sym (placed_are 1 xs))
     (stand_as_shown (λ (p : ℕ × DnsExtra). extra_cells p.0 p.1) 2 (old.now.trees 14) (with_places 1 xs) whole (λ x. refl) (shows_each 14 _ SELECT_EXTRAS.now _ old new _ select_extras_means ours.schema placed))
@@ -238,8 +238,8 @@ policy_alone (Some body) tree same = one_permutation _ _ same
 
 pub policy_stands : (old new : State) (policy : Option (List ℕ)) → IsOurs old.now → Shown SELECT_POLICY.now [] old new (map (λ body. shown_row (policy_cells body)) (option_to_list policy)) → old.now.trees 15 ≡ policy_row policy
 policy_stands old new policy ours shown =
-    let typed = only_typed schema_1 old.now.trees policy_table (old.now.trees 15) (rules old.now ours Datatype).1.1.1.1.1.1.0 in
-    let whole = whole_rows (column_of (codes "k") Integer false) (drop 1 policy_table.columns) (old.now.trees 15) typed (rules old.now ours NotNull).1.1.1.1.1.1.0 refl in
+    let typed = only_typed schema_1 old.now.trees policy_table (old.now.trees 15) (obeyed old.now ours Datatype).1.1.1.1.1.1.0 in
+    let whole = whole_rows (column_of (codes "k") Integer false) (drop 1 policy_table.columns) (old.now.trees 15) typed (obeyed old.now ours NotNull).1.1.1.1.1.1.0 refl in
     policy_alone policy (old.now.trees 15) (stand_as_shown policy_cells 1 (old.now.trees 15) (option_to_list policy) whole (λ x. refl) (shows_each 15 _ SELECT_POLICY.now _ old new _ select_policy_means ours.schema shown))
 
 -- ---- readings

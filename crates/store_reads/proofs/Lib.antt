@@ -5,3 +5,5 @@ pub mod ShownRows
 pub mod BackLemmas
 pub mod OursLemmas
 pub mod Causes
+pub mod DamageLemmas
+pub mod FillLemmas

@@ -5,9 +5,9 @@ use Rattle.sqlite_value.specs.Order.{Row}
 use Rattle.sqlite.specs.declared.error.Error.{Error}
 use Rattle.net_rows.specs.declared.rows.Rows.{Rows}
 use Rattle.sqlite_schema.specs.declared.schema.Schema.{Schema}
-use Rattle.sqlite.specs.Effect.{Database}
+use Rattle.sqlite.specs.Effect.{Database, IsDatabase}
 use Rattle.sqlite.specs.Listing.{understood}
-use Rattle.sqlite.specs.State.{State, HasCleanDisk, Survives, Shown, CommitsShowing, FailsToQuery, IsNotRun, IsRolledBack, IsUnchanged}
+use Rattle.sqlite.specs.State.{State, HasCleanDisk, IsLive, Survives, Shown, CommitsShowing, FailsToQuery, IsNotRun, IsRolledBack, IsUnchanged}
 use Rattle.sqlite.specs.Tree.{Trees}
 use Rattle.sqlite.proofs.Callers.{IsPlain}
 use Rattle.sqlite.proofs.StateLemmas.{survives_then}
@@ -23,7 +23,7 @@ shown_same text old new rows plain h =
     (rw bare.0 at h.2).3.0.now_is
 
 -- and it stays as it was
-shown_unchanged : (text : List ℕ) (old new : State) (rows : List Row) → IsPlain (understood old.now.schema text) → Shown text [] old new rows → StaysOpen old new
+pub shown_unchanged : (text : List ℕ) (old new : State) (rows : List Row) → IsPlain (understood old.now.schema text) → Shown text [] old new rows → StaysOpen old new
 unfolding Shown
 shown_unchanged text old new rows plain h =
     let bare = subst IsPlain h.1.is plain in
@@ -112,6 +112,13 @@ seen_then schema a b c done one two =
 -- of a reading whose answer didn't serve
 pub seen_less : (schema : Schema) (a b : State) (done : Bool) → IsSeen schema a b true → IsSeen schema a b done
 seen_less schema a b done seen = record { clean = seen.clean; same = λ clean has _. seen.same clean has refl; stays = seen.stays; survives = seen.survives }
+
+-- and it is a sound database still, if it is open
+pub live_seen : (a b : State) → IsSeen schema_1 a b true → HasCleanDisk b → a.now.schema ≡ schema_1 → IsLive a → IsLive b
+live_seen a b seen clean has live opened =
+    let stays = seen.stays clean has opened in
+    let sound = live stays.was_open in
+    (subst IsDatabase (sym (seen.same clean has refl)) sound.0, subst IsDatabase (sym stays.committed) sound.1)
 
 -- what a database keeps once it was read
 pub keeps_seen : (a b : State) (rows : Rows) → IsSeen schema_1 a b true → HasCleanDisk b → Keeps a.now rows → Keeps b.now rows

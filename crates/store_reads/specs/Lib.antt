@@ -2,3 +2,5 @@ pub mod Readable
 pub mod Seen
 pub mod Back
 pub mod Causes
+pub mod Values
+pub mod Damages

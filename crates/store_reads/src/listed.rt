@@ -11,6 +11,7 @@ ghost use Rattle.store_sql.specs.Schema.{schema_1};
 ghost use Rattle.store_reads.specs.Readable.{Fills, IsOutside, IsReadable, Yields, shown_row};
 ghost use Rattle.store_reads.specs.Causes.{FailsOnlyFor, IsCaused, ListsOurs, load_fault_of};
 ghost use Rattle.store_reads.specs.Back.{IsRowTaken};
+ghost use Rattle.store_reads.specs.Damages.{IsFirstUnread, NamesDamage, id_in};
 ghost use Rattle.store_reads.specs.Seen.{IsSeen};
 
 use crate::cells::cells_of;
@@ -35,7 +36,9 @@ pub fn load_fault(fault: Fault) -> LoadFault
 }
 
 /// The id that a row shows; 0 where it shows none.
-fn id_of(row: &Row) -> u32 {
+fn id_of(row: &Row) -> u32
+    ensures value { result ≡ id_in row.now }
+{
     match row.get_ref(0) {
         Ok(ValueRef::Int(n)) => u32::try_from(n).unwrap_or(0),
         _ => 0,
@@ -61,6 +64,8 @@ fn take_row<T: Loaded>(alloc: Global, row: &Row, all: &mut Items<T>) -> Result<(
         → Fills result (all.new ≡ all.old ++ x ∷ []) }
     ensures back { OnOk result (IsRowTaken T.stored T.Typed row.now all.old all.new) }
     ensures err { IfErr result (FailsOnlyFor ⊥) }
+    ensures unread { IfErr result (NamesDamage (λ d.
+        d ≡ record { kind = T.kind_is; id = id_in row.now })) }
 {
     match read_row(alloc, row) {
         Ok(Some(read)) => match all.push(read) {
@@ -82,6 +87,8 @@ fn rows_in<T: Loaded>(alloc: Global, rows: &[Row]) -> Result<Items<T>, LoadFault
     ensures back { IfOk result (λ xs. (rows.now ≡ map (λ x. shown_row (T.stored x)) xs)
         × AllByRecursion (IsReadable T.stored T.Typed) xs) }
     ensures err { IfErr result (FailsOnlyFor ⊥) }
+    ensures unread { IfErr result (NamesDamage
+        (IsFirstUnread T.stored T.Typed T.kind_is rows.now)) }
 {
     let mut all = Items::new(alloc);
     for row in rows {
@@ -111,6 +118,10 @@ pub(crate) fn read_all<T: Loaded, S: Alter>(
         Shown T.select_text [] (state S.Store conn.old) (state S.Store conn.new)
         (map (λ x. shown_row (T.stored x)) xs)
         × AllByRecursion (IsReadable T.stored T.Typed) xs) }
+    ensures unread { HasCleanDisk (state S.Store conn.new) → IfErr result (NamesDamage (λ d.
+        (rows : List Row)
+        × Shown T.select_text [] (state S.Store conn.old) (state S.Store conn.new) rows
+        × IsFirstUnread T.stored T.Typed T.kind_is rows d)) }
 {
     match rows_of(conn, T::select()) {
         Ok(rows) => rows_in(alloc, rows.as_slice()),

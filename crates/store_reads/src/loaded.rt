@@ -1,6 +1,7 @@
 //! Rows of each kind as they are read from their table.
 ghost use Rattle.std.specs.Prelude.{◌≡◌, ℕ, List, IfOk};
 ghost use Rattle.std.specs.List.{AllByRecursion};
+ghost use Rattle.net_rows.specs.declared.change.Kind.{Kind as RowKind};
 ghost use Rattle.store_reads.specs.Back.{IsOfOurs};
 ghost use Rattle.store_rows.specs.Reads.{IsReadBack};
 ghost use Rattle.store_rows.specs.Rows.{IsTypedKey, IsTypedMachine, IsTypedPending, IsTypedUser, auth_key_cells, machine_cells, pending_cells, user_cells};
@@ -25,7 +26,11 @@ pub(crate) trait Loaded: Drop + Sized {
     ghost select_text: { List ℕ };
 
     /// Their kind.
-    fn kind() -> Kind;
+    ghost kind_is: { RowKind };
+
+    /// Their kind.
+    fn kind() -> Kind
+        ensures value { result ≡ kind_is };
 
     /// The text that shows all of them.
     fn select() -> &'static str
@@ -46,6 +51,8 @@ impl Loaded for User {
     ghost Typed = { IsTypedUser };
 
     ghost select_text = { SELECT_USERS.now };
+
+    ghost kind_is = { RowKind.User };
 
     fn kind() -> Kind {
         Kind::User
@@ -69,6 +76,8 @@ impl Loaded for AuthKey {
 
     ghost select_text = { SELECT_AUTH_KEYS.now };
 
+    ghost kind_is = { RowKind.Key };
+
     fn kind() -> Kind {
         Kind::Key
     }
@@ -91,6 +100,8 @@ impl Loaded for Pending {
 
     ghost select_text = { SELECT_PENDING.now };
 
+    ghost kind_is = { RowKind.Pending };
+
     fn kind() -> Kind {
         Kind::Pending
     }
@@ -112,6 +123,8 @@ impl Loaded for Machine {
     ghost Typed = { IsTypedMachine };
 
     ghost select_text = { SELECT_MACHINES.now };
+
+    ghost kind_is = { RowKind.Machine };
 
     fn kind() -> Kind {
         Kind::Machine

@@ -4,6 +4,7 @@ ghost use Rattle.std.specs.List.{AllByRecursion};
 ghost use Rattle.std.specs.Option.{option_to_list};
 ghost use Rattle.std.specs.Str.{is_utf8};
 ghost use Rattle.net_rows.specs.declared.change.Counters.{Counters};
+ghost use Rattle.net_rows.specs.declared.change.Kind.{Kind as RowKind};
 ghost use Rattle.net_rows.specs.declared.rows.Rows.{Rows};
 ghost use Rattle.row_keeper.specs.declared.keeper.LoadFault.TheVariants.{Damaged};
 ghost use Rattle.sqlite.specs.Held.{state};
@@ -15,8 +16,10 @@ ghost use Rattle.store_reads.specs.Back.{HoldsExtras, HoldsNext, HoldsPolicy, Is
 ghost use Rattle.store_rows.specs.Rows.{IsTypedCounters, extra_cells, meta_cells, policy_cells};
 ghost use Rattle.store_sql.specs.Schema.{schema_1};
 ghost use Rattle.store_reads.specs.Causes.{FailsOnlyFor, IsCaused};
+ghost use Rattle.store_reads.specs.Damages.{FindsOne, NamesDamage, WhereOurs};
 ghost use Rattle.store_reads.specs.Readable.{AreReadable, Fills, IsReadableExtra, Yields, shown_extras, shown_row};
 ghost use Rattle.store_reads.specs.Seen.{IsSeen};
+ghost use Rattle.store_reads.specs.Values.{extras_in, next_in, policy_in_rows};
 
 use crate::cells::cells_of;
 use crate::listed::load_fault;
@@ -61,6 +64,8 @@ fn next_of(alloc: Global, rows: &[Row]) -> Result<Counters, LoadFault>
     ensures back { IfOk result (λ next.
         (rows.now ≡ shown_row (meta_cells next) ∷ []) × IsTypedCounters next) }
     ensures err { IfErr result (FailsOnlyFor ⊥) }
+    ensures unread { IfErr result (NamesDamage
+        (λ d. d ≡ record { kind = RowKind.Meta; id = 0 })) }
 {
     match next_in(alloc, rows) {
         Ok(Some(next)) => Ok(next),
@@ -81,6 +86,8 @@ pub(crate) fn read_next<S: Alter>(
         → Keeps (state S.Store conn.old).now all → AreReadable all → Yields result all.next }
     ensures back { HasCleanDisk (state S.Store conn.new) → IsOurs (state S.Store conn.old).now
         → IfOk result (HoldsNext ((state S.Store conn.old).now.trees 0)) }
+    ensures finds { WhereOurs (state S.Store conn.old) (state S.Store conn.new)
+        (FindsOne RowKind.Meta next_in ((state S.Store conn.old).now.trees 0) result) }
 {
     match rows_of(conn, SELECT_META) {
         Ok(rows) => next_of(alloc, rows.as_slice()),
@@ -112,6 +119,8 @@ fn take_extra(
         → IsReadableExtra x → Fills result (extras.new ≡ extras.old ++ x ∷ []) }
     ensures back { OnOk result (IsTakenExtra place row.now extras.old extras.new) }
     ensures err { IfErr result (FailsOnlyFor ⊥) }
+    ensures unread { IfErr result (NamesDamage
+        (λ d. d ≡ record { kind = RowKind.Extras; id = 0 })) }
 {
     match extra_in(alloc, place, row) {
         Ok(Some(extra)) => match extras.push(extra) {
@@ -130,6 +139,8 @@ fn extras_in(alloc: Global, rows: &[Row]) -> Result<Items<DnsExtra>, LoadFault>
     ensures back { IfOk result (λ xs.
         (rows.now ≡ shown_extras 1 xs) × AllByRecursion IsReadableExtra xs) }
     ensures err { IfErr result (FailsOnlyFor ⊥) }
+    ensures unread { IfErr result (NamesDamage
+        (λ d. d ≡ record { kind = RowKind.Extras; id = 0 })) }
 {
     let mut extras = Items::new(alloc);
     let mut last = 0u32;
@@ -159,6 +170,8 @@ pub(crate) fn read_extras<S: Alter>(
         → Keeps (state S.Store conn.old).now all → AreReadable all → Yields result all.extras }
     ensures back { HasCleanDisk (state S.Store conn.new) → IsOurs (state S.Store conn.old).now
         → IfOk result (HoldsExtras ((state S.Store conn.old).now.trees 14)) }
+    ensures finds { WhereOurs (state S.Store conn.old) (state S.Store conn.new)
+        (FindsOne RowKind.Extras (extras_in 1) ((state S.Store conn.old).now.trees 14) result) }
 {
     match rows_of(conn, SELECT_EXTRAS) {
         Ok(rows) => extras_in(alloc, rows.as_slice()),
@@ -188,6 +201,8 @@ fn policy_of(alloc: Global, rows: &[Row]) -> Result<Option<Text>, LoadFault>
         (rows.now ≡ map (λ body. shown_row (policy_cells body)) (option_to_list policy))
         × IfSome policy (λ body. is_utf8 body ≡ true)) }
     ensures err { IfErr result (FailsOnlyFor ⊥) }
+    ensures unread { IfErr result (NamesDamage
+        (λ d. d ≡ record { kind = RowKind.Policy; id = 0 })) }
 {
     match rows {
         [] => Ok(None),
@@ -212,6 +227,8 @@ pub(crate) fn read_policy<S: Alter>(
         → Keeps (state S.Store conn.old).now all → AreReadable all → Yields result all.policy }
     ensures back { HasCleanDisk (state S.Store conn.new) → IsOurs (state S.Store conn.old).now
         → IfOk result (HoldsPolicy ((state S.Store conn.old).now.trees 15)) }
+    ensures finds { WhereOurs (state S.Store conn.old) (state S.Store conn.new)
+        (FindsOne RowKind.Policy policy_in_rows ((state S.Store conn.old).now.trees 15) result) }
 {
     match rows_of(conn, SELECT_POLICY) {
         Ok(rows) => policy_of(alloc, rows.as_slice()),

@@ -1,6 +1,8 @@
 //! All rows that a database keeps.
-ghost use Rattle.std.specs.Prelude.{◌≡◌, is_ok, IfOk, OnOk};
+ghost use Rattle.std.specs.Prelude.{◌≡◌, is_ok, IfErr, IfOk, OnOk};
+ghost use Rattle.store_rows.specs.Reading.{auth_key_of, machine_in_cells, pending_in_cells, user_in_cells};
 ghost use Rattle.store_rows.specs.Rows.{IsTypedKey, IsTypedMachine, IsTypedPending, IsTypedUser, auth_key_cells, machine_cells, pending_cells, user_cells};
+ghost use Rattle.net_rows.specs.declared.change.Kind.{Kind as RowKind};
 ghost use Rattle.net_rows.specs.declared.rows.Rows.{Rows};
 ghost use Rattle.sqlite.specs.Held.{state};
 ghost use Rattle.sqlite.specs.State.{HasCleanDisk};
@@ -9,6 +11,7 @@ ghost use Rattle.store_sql.specs.Schema.{schema_1};
 ghost use Rattle.store_reads.specs.Readable.{AreReadable, Fills, Yields};
 ghost use Rattle.store_reads.specs.Causes.{IsCaused};
 ghost use Rattle.store_reads.specs.Back.{HoldsReadable, IsOurs};
+ghost use Rattle.store_reads.specs.Damages.{Breaks, FindsAll, IsFirstIn, NamesDamage, WhereOurs};
 ghost use Rattle.store_reads.specs.Seen.{IsSeen};
 
 use crate::listed::read_all;
@@ -30,6 +33,8 @@ fn read_users<S: Alter>(conn: &mut Connection<S>, alloc: Global) -> Result<Items
     ensures back { HasCleanDisk (state S.Store conn.new) → IsOurs (state S.Store conn.old).now
         → IfOk result (HoldsReadable user_cells IsTypedUser
         ((state S.Store conn.old).now.trees 1)) }
+    ensures finds { WhereOurs (state S.Store conn.old) (state S.Store conn.new)
+        (FindsAll RowKind.User user_in_cells ((state S.Store conn.old).now.trees 1) result) }
 {
     read_all(conn, alloc)
 }
@@ -44,6 +49,8 @@ fn read_keys<S: Alter>(conn: &mut Connection<S>, alloc: Global) -> Result<Items<
     ensures back { HasCleanDisk (state S.Store conn.new) → IsOurs (state S.Store conn.old).now
         → IfOk result (HoldsReadable auth_key_cells IsTypedKey
         ((state S.Store conn.old).now.trees 3)) }
+    ensures finds { WhereOurs (state S.Store conn.old) (state S.Store conn.new)
+        (FindsAll RowKind.Key auth_key_of ((state S.Store conn.old).now.trees 3) result) }
 {
     read_all(conn, alloc)
 }
@@ -61,6 +68,8 @@ fn read_pending_entries<S: Alter>(
     ensures back { HasCleanDisk (state S.Store conn.new) → IsOurs (state S.Store conn.old).now
         → IfOk result (HoldsReadable pending_cells IsTypedPending
         ((state S.Store conn.old).now.trees 5)) }
+    ensures finds { WhereOurs (state S.Store conn.old) (state S.Store conn.new)
+        (FindsAll RowKind.Pending pending_in_cells ((state S.Store conn.old).now.trees 5) result) }
 {
     read_all(conn, alloc)
 }
@@ -78,6 +87,8 @@ fn read_machines<S: Alter>(
     ensures back { HasCleanDisk (state S.Store conn.new) → IsOurs (state S.Store conn.old).now
         → IfOk result (HoldsReadable machine_cells IsTypedMachine
         ((state S.Store conn.old).now.trees 8)) }
+    ensures finds { WhereOurs (state S.Store conn.old) (state S.Store conn.new)
+        (FindsAll RowKind.Machine machine_in_cells ((state S.Store conn.old).now.trees 8) result) }
 {
     read_all(conn, alloc)
 }
@@ -94,6 +105,10 @@ fn fill<S: Alter>(conn: &mut Connection<S>, alloc: Global, rows: &mut Rows) -> R
     ensures back { HasCleanDisk (state S.Store conn.new) → IsOurs (state S.Store conn.old).now
         → OnOk result (AreStored (state S.Store conn.old).now.trees rows.new
         × AreReadable rows.new) }
+    ensures unread { WhereOurs (state S.Store conn.old) (state S.Store conn.new)
+        (IfErr result (NamesDamage (IsFirstIn (state S.Store conn.old).now.trees))) }
+    ensures broken { WhereOurs (state S.Store conn.old) (state S.Store conn.new)
+        (OnOk result (Breaks (state S.Store conn.old).now.trees rows.new)) }
 {
     rows.next = read_next(conn, alloc)?;
     rows.users = read_users(conn, alloc)?;
@@ -129,6 +144,10 @@ pub fn read_rows<S: Alter>(conn: &mut Connection<S>, alloc: Global) -> Result<Ro
     ensures back { HasCleanDisk (state S.Store conn.new) → IsOurs (state S.Store conn.old).now
         → IfOk result (λ all.
         AreStored (state S.Store conn.old).now.trees all × AreReadable all) }
+    ensures unread { WhereOurs (state S.Store conn.old) (state S.Store conn.new)
+        (IfErr result (NamesDamage (IsFirstIn (state S.Store conn.old).now.trees))) }
+    ensures broken { WhereOurs (state S.Store conn.old) (state S.Store conn.new)
+        (IfOk result (Breaks (state S.Store conn.old).now.trees)) }
 {
     let mut rows = no_rows(alloc);
     match fill(conn, alloc, &mut rows) {

@@ -3,6 +3,7 @@ use Rattle.std.proofs.lemmas.List.{take_all}
 use Rattle.sqlite_value.specs.Order.{Row}
 use Rattle.store_reads.specs.Readable.{IsReadable, shown_row}
 use Rattle.store_reads.proofs.BackLemmas.{read_on}
+use Rattle.store_reads.proofs.DamageLemmas.{unread_here}
 use Rattle.store_reads.proofs.Lists.{at_place}
 use Rattle.store_reads.proofs.listed.rows_in.Goals as goal
 
@@ -15,6 +16,7 @@ returns-in-Err g c = record {
       c.in-Err.ensures.read at.it at.is at.keeps;
   back = tt;
   err = c.in-Err.ensures.err;
+  unread = unread_here g.T.Loaded.stored g.T.Loaded.Typed g.T.Loaded.kind_is c.args.rows.now c.loop-row.row-index c.row-item.result _ c.in-Err.fault c.loop-row-test.true c.row-item.is c.loop-row.invariant.back c.in-Err.ensures.read c.in-Err.ensures.unread;
 }
 
 pub loop-row-preserved : goal.loop-row-preserved

@@ -16,6 +16,7 @@ returns-in-Err c = record {
       c.in-Err.ensures.read at.it (at.is ∙ ap (λ n. shown_row (extra_cells n at.it)) place) at.keeps;
   back = tt;
   err = c.in-Err.ensures.err;
+  unread = c.in-Err.ensures.unread;
 }
 
 pub loop-row-preserved : goal.loop-row-preserved
@@ -35,4 +36,5 @@ returns c = record {
       c.loop-row.invariant.read xs shows good ∙ take_all c.loop-row.row-index xs (omega (arith, c.loop-row-test.false, ap (λ (l : List Row). length l) shows, shown_count 1 xs));
   back = (sym (take_all c.loop-row.row-index c.args.rows.now (omega (arith, c.loop-row-test.false))) ∙ c.loop-row.invariant.back.shows, c.loop-row.invariant.back.readable);
   err = tt;
+  unread = tt;
 }

@@ -1,5 +1,6 @@
 use Rattle.std.proofs.Common.{List, [], sym, subst, is_ok, ◌∙◌}
 use Rattle.sqlite_value.specs.Order.{Row}
+use Rattle.net_rows.specs.declared.change.Kind.TheVariants as kind
 use Rattle.sqlite.specs.Held.{state}
 use Rattle.sqlite.specs.State.{Shown}
 use Rattle.store_sql.specs.Schema.{schema_1}
@@ -8,7 +9,10 @@ use Rattle.std.proofs.lemmas.Result.{IfOk-weaker}
 use Rattle.store_sql.specs.declared.texts.TheConstants.{SELECT_POLICY}
 use Rattle.store_reads.proofs.BackLemmas.{policy_stands}
 use Rattle.store_reads.specs.Causes.{FailsOnlyFor, HasCause}
+use Rattle.store_reads.specs.Damages.{unless_read}
+use Rattle.store_reads.specs.Values.{policy_in_rows}
 use Rattle.store_reads.proofs.Causes.{caused_less, policy_listed}
+use Rattle.store_reads.proofs.DamageLemmas.{finds_policy, finds_outside, policy_listing}
 use Rattle.store_reads.proofs.Seen.{seen_less}
 use Rattle.store_reads.proofs.ShownRows.{shown_policy}
 use Rattle.store_reads.proofs.single.read_policy.Goals as goal
@@ -46,3 +50,16 @@ pub returns-in-Err-clause-cause : goal.returns-in-Err-clause-cause
 returns-in-Err-clause-cause g c clean has =
     subst (FailsOnlyFor (HasCause (state g.S.Store c.args.conn.now) (state g.S.Store c.rows_of.new.conn))) (sym c.load_fault.ensures.value)
     (c.in-Err.ensures.cause policy_listed clean has)
+
+pub returns-in-Ok-clause-finds : goal.returns-in-Ok-clause-finds
+returns-in-Ok-clause-finds g c clean has live =
+    let old = state g.S.Store c.args.conn.now in
+    let new = state g.S.Store c.rows_of.new.conn in
+    let rows : List Row = c.in-Ok.rows.items in
+    finds_policy (old.now.trees 15) rows c.policy_of.result (policy_listing old new rows has live (c.in-Ok.ensures.shown clean))
+    (λ policy is good. c.policy_of.ensures.read policy (c.as_slice.ensures.value ∙ is) good)
+    (IfOk-weaker c.policy_of.result _ _ (λ x h. (sym c.as_slice.ensures.value ∙ h.0, h.1)) c.policy_of.ensures.back) c.policy_of.ensures.unread
+
+pub returns-in-Err-clause-finds : goal.returns-in-Err-clause-finds
+returns-in-Err-clause-finds g c clean has live =
+    finds_outside policy_in_rows (unless_read kind.Policy policy_in_rows) ((state g.S.Store c.args.conn.now).now.trees 15) c.load_fault.result c.load_fault.ensures.outside

@@ -1,8 +1,17 @@
+use Rattle.std.proofs.Common.{[]}
 use Rattle.std.proofs.lemmas.Result.{IfOk-weaker}
+use Rattle.net_rows.specs.declared.change.Kind.TheVariants as kind
 use Rattle.sqlite.specs.Held.{state}
+use Rattle.sqlite.specs.State.{Shown}
+use Rattle.store_rows.specs.Reading.{auth_key_of}
+use Rattle.store_rows.specs.Rows.{IsTypedKey, auth_key_cells}
+use Rattle.store_rows.proofs.TableReads.{auth_key_reads}
+use Rattle.store_sql.specs.declared.texts.TheConstants.{SELECT_AUTH_KEYS}
 use Rattle.store_sql.proofs.Selects.{select_auth_keys_means}
 use Rattle.store_reads.proofs.BackLemmas.{keys_stand}
 use Rattle.store_reads.proofs.Causes.{auth_keys_listed}
+use Rattle.store_reads.proofs.DamageLemmas.{finds_all, keys_listing}
+use Rattle.store_reads.proofs.OursLemmas.{auth_key_ours}
 use Rattle.store_reads.proofs.ShownRows.{shown_keys}
 use Rattle.store_reads.proofs.whole.read_keys.Goals as goal
 
@@ -19,3 +28,9 @@ returns-clause-back g c clean ours =
 
 pub returns-clause-cause : goal.returns-clause-cause
 returns-clause-cause g c = c.read_all.ensures.cause auth_keys_listed
+
+pub returns-clause-finds : goal.returns-clause-finds
+returns-clause-finds g c clean has live =
+    let old = state g.S.Store c.args.conn.now in
+    let new = state g.S.Store c.read_all.new.conn in
+    finds_all auth_key_cells IsTypedKey auth_key_of auth_key_reads auth_key_ours kind.Key 7 (old.now.trees 3) (Shown SELECT_AUTH_KEYS.now [] old new) c.read_all.result (λ rows shown. keys_listing old new rows has live shown) (c.read_all.ensures.back clean) (c.read_all.ensures.unread clean)

@@ -1,8 +1,17 @@
+use Rattle.std.proofs.Common.{[]}
 use Rattle.std.proofs.lemmas.Result.{IfOk-weaker}
+use Rattle.net_rows.specs.declared.change.Kind.TheVariants as kind
 use Rattle.sqlite.specs.Held.{state}
+use Rattle.sqlite.specs.State.{Shown}
+use Rattle.store_rows.specs.Reading.{machine_in_cells}
+use Rattle.store_rows.specs.Rows.{IsTypedMachine, machine_cells}
+use Rattle.store_rows.proofs.TableReads.{machine_reads}
+use Rattle.store_sql.specs.declared.texts.TheConstants.{SELECT_MACHINES}
 use Rattle.store_sql.proofs.Selects.{select_machines_means}
 use Rattle.store_reads.proofs.BackLemmas.{machines_stand}
 use Rattle.store_reads.proofs.Causes.{machines_listed}
+use Rattle.store_reads.proofs.DamageLemmas.{finds_all, machines_listing}
+use Rattle.store_reads.proofs.OursLemmas.{machine_ours}
 use Rattle.store_reads.proofs.ShownRows.{shown_machines}
 use Rattle.store_reads.proofs.whole.read_machines.Goals as goal
 
@@ -19,3 +28,9 @@ returns-clause-back g c clean ours =
 
 pub returns-clause-cause : goal.returns-clause-cause
 returns-clause-cause g c = c.read_all.ensures.cause machines_listed
+
+pub returns-clause-finds : goal.returns-clause-finds
+returns-clause-finds g c clean has live =
+    let old = state g.S.Store c.args.conn.now in
+    let new = state g.S.Store c.read_all.new.conn in
+    finds_all machine_cells IsTypedMachine machine_in_cells machine_reads machine_ours kind.Machine 16 (old.now.trees 8) (Shown SELECT_MACHINES.now [] old new) c.read_all.result (λ rows shown. machines_listing old new rows has live shown) (c.read_all.ensures.back clean) (c.read_all.ensures.unread clean)
