@@ -21,7 +21,7 @@ use Rattle.store_reads.specs.Readable.{AreReadable}
 use Rattle.store_reads.specs.Seen.{IsSeen}
 use Rattle.store_rows.specs.Readable.{IsReadableChange}
 use Rattle.store_sql.specs.Schema.{no_schema, schema_1}
-use Rattle.keeper_sqlite.specs.Left.{Finds, rows_left}
+use Rattle.keeper_sqlite.specs.Left.{MayBeFound, rows_left}
 use Rattle.keeper_sqlite.proofs.Changing.{readable_after}
 
 -- ---- the rows of trees
@@ -59,7 +59,7 @@ still_clean old new clean h = clean_of old.is_clean (clean (no_doubt new.is_clea
 
 -- a load leaves what a crash left before, or the rows that were told
 pub load_leaves : (old new : State) (done : Bool) (rows : Rows) → store_tells old ≡ Some rows → HasCleanDisk new → (old.now.schema ≡ schema_1 → IsSeen schema_1 old new done)
-    → (HasCleanDisk new → old.now.schema ≡ no_schema → Survives old new (λ trees. AreStored trees empty_rows)) → (found : Option Rows) → Finds new found → Finds old found ⊎ (found ≡ Some rows)
+    → (HasCleanDisk new → old.now.schema ≡ no_schema → Survives old new (λ trees. AreStored trees empty_rows)) → (found : Option Rows) → MayBeFound new found → MayBeFound old found ⊎ (found ≡ Some rows)
 load_leaves old new done rows told clean seen first found finds =
     elim (told_is old rows told).stands [
       | inl holds ↦
@@ -82,7 +82,7 @@ known_holds s rows known told =
 
 -- a commit leaves what a crash left before, or the rows after the change
 pub commit_leaves : (old new : State) (change : Change) (rows : Rows) → store_tells old ≡ Some rows → IsKnown old → HasCleanDisk new → Survives old new (HoldsMade old.now (λ r. after r change)) → IsReadableChange change
-    → damage (after rows change) ≡ None → (found : Option Rows) → Finds new found → Finds old found ⊎ (found ≡ Some (after rows change))
+    → damage (after rows change) ≡ None → (found : Option Rows) → MayBeFound new found → MayBeFound old found ⊎ (found ≡ Some (after rows change))
 commit_leaves old new change rows told known clean survives good none found finds =
     let holds = known_holds old rows known told in
     elim (survives.crash clean finds.trees finds.may) [
@@ -92,7 +92,7 @@ commit_leaves old new change rows told known clean survives good none found find
 
 -- and behind an Ok nothing but those
 pub commit_keeps : (old new : State) (change : Change) (rows : Rows) → store_tells old ≡ Some rows → IsKnown old → IsSettled new → Makes old.now new.now (λ r. after r change) → IsReadableChange change
-    → damage (after rows change) ≡ None → (found : Option Rows) → Finds new found → found ≡ Some (after rows change)
+    → damage (after rows change) ≡ None → (found : Option Rows) → MayBeFound new found → found ≡ Some (after rows change)
 commit_keeps old new change rows told known settled makes good none found finds =
     let holds = known_holds old rows known told in
     let stored = subst (λ (t : Trees). AreStored t (after rows change)) (sym (settled.durable finds.trees finds.may)) (makes rows holds.keeps).stored in

@@ -5,7 +5,7 @@ use Rattle.sqlite.specs.Files.{file_state}
 use Rattle.sqlite.specs.Held.{state}
 use Rattle.sqlite.specs.Steps.{over_memory}
 use Rattle.store_loads.specs.Told.{store_tells}
-use Rattle.keeper_sqlite.specs.Left.{Finds}
+use Rattle.keeper_sqlite.specs.Left.{MayBeFound}
 use Rattle.keeper_sqlite.specs.declared.host_keeper.HostKeeper.{HostKeeper}
 use Rattle.keeper_sqlite.specs.declared.host_keeper.HostKeeper.TheVariants.{Memory, File}
 
@@ -36,5 +36,5 @@ is_clean_of (File k) = (file_state k.conn).is_clean
 
 -- what an open after a crash at this moment may find
 abbrev pub may_leave_of : HostKeeper → Option Rows → Type 0
-may_leave_of (Memory k) found = Finds (state over_memory k.conn) found
-may_leave_of (File k) found = Finds (file_state k.conn) found
+may_leave_of (Memory k) found = MayBeFound (state over_memory k.conn) found
+may_leave_of (File k) found = MayBeFound (file_state k.conn) found

@@ -11,7 +11,7 @@ unfoldable pub rows_left : Trees → Option Rows
 rows_left trees = option_and_then if_sound (tables_in trees)
 
 -- A crash of the store at this moment may leave trees in which these rows are found.
-pub record Finds (s : State) (found : Option Rows) : Type 0 where
+pub record MayBeFound (s : State) (found : Option Rows) : Type 0 where
   pub trees : Trees
   pub may : s.may_leave trees
   pub is : rows_left trees ≡ found
@@ -19,7 +19,7 @@ pub record Finds (s : State) (found : Option Rows) : Type 0 where
 -- The same of a store that may be lent out: nothing is known of one that is.
 abbrev pub may_be_found : {C : Type 0} → (C → State) → Option C → Option Rows → Type 0
 may_be_found state_of None found = ⊤
-may_be_found state_of (Some c) found = Finds (state_of c) found
+may_be_found state_of (Some c) found = MayBeFound (state_of c) found
 
 abbrev pub is_clean_in : {C : Type 0} → (C → State) → Option C → Bool
 is_clean_in state_of None = false

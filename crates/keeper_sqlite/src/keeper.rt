@@ -3,7 +3,7 @@ ghost use Rattle.std.specs.Prelude.{◌≡◌, ◌≤◌, ℕ, true, None, Err, 
 ghost use Rattle.std.specs.Option.{option_map};
 ghost use Rattle.io_edge.specs.Edge.{IsWhereTold, Rose, StillTells};
 ghost use Rattle.keeper_sqlite.specs.Known.{knows_if_loaded};
-ghost use Rattle.keeper_sqlite.specs.Left.{Finds};
+ghost use Rattle.keeper_sqlite.specs.Left.{MayBeFound};
 ghost use Rattle.net_rows.specs.declared.change.Kind.{Kind};
 ghost use Rattle.net_rows.specs.Damage.{damage};
 ghost use Rattle.net_rows.specs.Rows.{after, empty_rows};
@@ -168,7 +168,7 @@ impl<S: Alter + Drop> Keeper for SqliteKeeper<S> {
 
     ghost is_clean = { λ k. (state S.Store k.conn).is_clean };
 
-    ghost may_leave = { λ k. Finds (state S.Store k.conn) };
+    ghost may_leave = { λ k. MayBeFound (state S.Store k.conn) };
 
     ghost faults = { λ k. k.faults };
 

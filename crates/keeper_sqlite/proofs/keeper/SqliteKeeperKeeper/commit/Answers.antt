@@ -7,7 +7,7 @@ use Rattle.sqlite_trees.proofs.Doubt.{no_doubt}
 use Rattle.store_commits.specs.Kept.{Makes}
 use Rattle.store_commits.specs.Pending.{IsSettled}
 use Rattle.store_loads.specs.Told.{store_tells}
-use Rattle.keeper_sqlite.specs.Left.{Finds}
+use Rattle.keeper_sqlite.specs.Left.{MayBeFound}
 use Rattle.keeper_sqlite.proofs.Knowing.{kept_known}
 use Rattle.keeper_sqlite.proofs.Leaving.{by_flag, commit_keeps, commit_leaves, if_ok, if_told, still_clean}
 use Rattle.keeper_sqlite.proofs.keeper.SqliteKeeperKeeper.commit.Goals as goal
@@ -25,7 +25,7 @@ returns-clause-crash g c clean =
     let none : damage (after rows c.args.change.now) ≡ None = subst (λ o. IfSome o (λ r. damage (after r c.args.change.now) ≡ None)) told c.requires.sound in
     by_flag loaded
     (λ yes. commit_leaves old new c.args.change.now rows told (kept_known loaded old yes c.args.self.now.is_known_once_loaded) (no_doubt new.is_clean clean) c.keep.ensures.crash (search rules) none found finds)
-    (λ no. inl (subst (λ h. Finds (state g.S.Store h) found) (c.keep.ensures.waits no).1 finds)))
+    (λ no. inl (subst (λ h. MayBeFound (state g.S.Store h) found) (c.keep.ensures.waits no).1 finds)))
 
 pub returns-clause-durable : goal.returns-clause-durable
 returns-clause-durable g c clean =
