@@ -8,4 +8,4 @@ mod shown;
 
 pub use asks::{LAST_CHANGE, QUESTION, script};
 pub use desks::{Manner, ReplyKind, front_of, settings_of};
-pub use runs::{DeskRun, Reached, asked, asked_in_memory, tables_after};
+pub use runs::{DeskRun, Reached, asked, asked_in_memory};

@@ -116,13 +116,3 @@ pub fn asked_in_memory(alloc: Global, front: &Front, asks: &[&str]) -> Result<De
     let manner = Manner::ToTheLastAsk;
     Ok(asked(alloc, front, settings, keeper, asks, manner).0)
 }
-
-/// The tables of a desk in memory that begins with empty ones and is asked these lines.
-pub fn tables_after(alloc: Global, front: &Front, asks: &[&str]) -> Result<Tables, Fail> {
-    let keeper = MemoryKeeper::new(Tables::empty(alloc), Items::new(alloc));
-    let Ok(mut desk) = opened(alloc, settings_of(alloc)?, keeper) else {
-        return Err(Fail::from("no desk"));
-    };
-    answers(alloc, front, &mut desk, asks, Manner::ToTheLastAsk)?;
-    Ok(desk.tables().copy(alloc)?)
-}
