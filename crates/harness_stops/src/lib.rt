@@ -4,6 +4,12 @@
 mod runs;
 mod script;
 mod stopping;
+mod tables;
 
+pub use runs::{Asked, Run, run_from};
 pub use script::Script;
-pub use stopping::{Ending, TriedStop, stops};
+pub use stopping::{
+    Ending, LEFTS, MANY, StartFinds, TriedStop, ending_of, found_by, goes_on, is_tried_elsewhere,
+    stopped, stops,
+};
+pub use tables::{KINDS, are_everywhere};
