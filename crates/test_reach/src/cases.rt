@@ -108,7 +108,7 @@ const OFFICE_LINES: &str = "100.64.0.1 100.64.0.2 tcp 22 => granted rule 0 entry
 reach => 1,2,0 1,3,0 1,4,0 1,5,0 1,6,0 1,7,0 1,8,0 1,9,0 2,3,1 2,5,1 2,6,3 2,8,3 2,9,1 3,4,2 4,3,4 5,3,4 6,3,4 7,3,4 8,2,3 8,3,1 8,5,1 8,6,3 8,9,1 9,3,4 9,6,3";
 
 /// The policy that the text states; `-` is none.
-pub(crate) fn stated(alloc: Global, text: &str) -> Result<Option<Policy>, NoMemory> {
+fn stated(alloc: Global, text: &str) -> Result<Option<Policy>, NoMemory> {
     if text == "-" {
         return Ok(None);
     }
