@@ -124,6 +124,30 @@ fn finds(alloc: Global, script: &Script, image: &Image, text: &String) -> Result
     Ok(run.seen.found.as_ref() == Some(text))
 }
 
+/// The tables behind the script and the last change, as a desk in memory has them.
+fn behind_last_change(alloc: Global, script: &Script) -> Result<String, Fail> {
+    let mut asks = Vec::new(alloc);
+    for line in script.asks() {
+        asks.push(*line)?;
+    }
+    asks.push(LAST_CHANGE)?;
+    let DeskRun { left, .. } = asked_in_memory(alloc, &script.front, asks.as_slice())?;
+    left.ok_or(Fail::from("a desk in memory has no tables"))
+}
+
+/// Whether a new start over these disks finds these tables, or those with the last change, too, in which the disk failed.
+fn finds_either(
+    alloc: Global,
+    script: &Script,
+    image: &Image,
+    text: &String,
+) -> Result<bool, Fail> {
+    if finds(alloc, script, image, text)? {
+        return Ok(true);
+    }
+    finds(alloc, script, image, &behind_last_change(alloc, script)?)
+}
+
 /// Whether a new start over these disks finds what it may behind this outcome, where the tables that the run had
 /// are these. Where the store took no further change it goes on, too, as behind a stop.
 fn is_found(
@@ -138,7 +162,8 @@ fn is_found(
         HiccupEnd::AllLost(first) if first < script.asks().len() => {
             goes_on(alloc, script, Ending::Stopped(first), image)
         }
-        HiccupEnd::AllLost(_) | HiccupEnd::Unseen | HiccupEnd::Unclosed | HiccupEnd::OneLost(_) => {
+        HiccupEnd::AllLost(_) => finds_either(alloc, script, image, text),
+        HiccupEnd::Unseen | HiccupEnd::Unclosed | HiccupEnd::OneLost(_) => {
             finds(alloc, script, image, text)
         }
     }

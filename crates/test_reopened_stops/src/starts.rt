@@ -4,6 +4,7 @@ use harness_disks::{CallKind, Image};
 use harness_stops::{Ending, KINDS, Script};
 use std::alloc::Global;
 use std::ops::Range;
+use std::process::Abort;
 use std::test::Fail;
 
 /// Whether a start stopped at a call of this kind behind such an ending.
