@@ -132,7 +132,10 @@ fn behind_last_change(alloc: Global, script: &Script) -> Result<String, Fail> {
     }
     asks.push(LAST_CHANGE)?;
     let DeskRun { left, .. } = asked_in_memory(alloc, &script.front, asks.as_slice())?;
-    left.ok_or(Fail::from("a desk in memory has no tables"))
+    match left {
+        Some(text) => Ok(text),
+        None => Err(Fail::from("a desk in memory has no tables")),
+    }
 }
 
 /// Whether a new start over these disks finds these tables, or those with the last change, too, in which the disk failed.
