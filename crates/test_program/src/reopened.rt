@@ -126,7 +126,7 @@ fn is_listed_again<R: Threads + Wait + Sync>(threads: &R, rt: HostRuntime) -> Re
     let second = answers(threads, rt, NODES)?;
     Ok(
         has_bytes(first.bytes(), REFUSED)
-            && has_bytes(second.bytes(), b"\"name\":\"alices-macbook-pro\"")
+            && has_bytes(second.bytes(), b"\"name\":\"alice-s-macbook-pro\"")
             && has_bytes(second.bytes(), b"\"id\":2,")
             && first.bytes().ends_with(second.bytes()),
     )
