@@ -4,12 +4,13 @@ use harness_disks::{CallKind, Image};
 use harness_stops::{KINDS, Script};
 use std::test::Fail;
 
-/// The asks that a sync failed in are lost, with all behind them; those that another call failed in are lost alone.
+/// The asks in which a sync failed are lost with all behind them. Those in which another call failed are lost alone, or so,
+/// too, as the database sees it; but none is for a length alone.
 fn is_lost_by_kind(hiccup: &Hiccup) -> bool {
     match hiccup.outcome {
         HiccupEnd::Unopened | HiccupEnd::Unseen | HiccupEnd::Unclosed => true,
         HiccupEnd::OneLost(_) => hiccup.failed.kind != CallKind::Sync,
-        HiccupEnd::AllLost(_) => hiccup.failed.kind == CallKind::Sync,
+        HiccupEnd::AllLost(_) => hiccup.failed.kind != CallKind::Length,
     }
 }
 
