@@ -49,6 +49,11 @@ int clock_gettime(clockid_t clock, struct timespec *time) {
 }
 
 int getentropy(void *buffer, size_t length) {
+    // (what a database in a file draws for its log, sixteen bytes at a time, is no word of the program)
+    if (length != sizeof(uint64_t)) {
+        memset(buffer, 1, length);
+        return 0;
+    }
     static struct bytes faults;
     static long call;
     static uint64_t word;
@@ -61,7 +66,6 @@ int getentropy(void *buffer, size_t length) {
         return -1;
     }
     word = limit > 0 && word == limit ? 1 : word + 1;
-    memset(buffer, 0, length);
-    memcpy(buffer, &word, length < 8 ? length : 8);
+    memcpy(buffer, &word, length);
     return 0;
 }
