@@ -110,32 +110,3 @@ func TestCertificatesAreReadAgain(t *testing.T) {
 		t.Error(err)
 	}
 }
-
-// Without TLS there is nothing to read again, and a hangup ends nothing.
-func TestHangupWithoutTLS(t *testing.T) {
-	l, err := net.Listen("tcp", "127.0.0.1:0")
-	if err != nil {
-		t.Fatal(err)
-	}
-	address := l.Addr().String()
-	l.Close()
-	ctx, stop := context.WithCancel(context.Background())
-	ended := make(chan error, 1)
-	go func() {
-		ended <- run(ctx, []string{"--listen", address, "--key", filepath.Join(t.TempDir(), "key")}, io.Discard, io.Discard)
-	}()
-	key := func() bool {
-		_, err := tailclient.Dialer{Address: address, Version: 113}.Key(within(t, time.Second))
-		return err == nil
-	}
-	soon(t, "it listens", key)
-	syscall.Kill(os.Getpid(), syscall.SIGHUP)
-	time.Sleep(50 * time.Millisecond)
-	if !key() {
-		t.Error("it doesn't serve any more")
-	}
-	stop()
-	if err := <-ended; err != nil {
-		t.Error(err)
-	}
-}

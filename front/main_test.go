@@ -12,6 +12,7 @@ import (
 	"io"
 	"math/big"
 	"net"
+	"net/http"
 	"net/http/httptest"
 	"os"
 	"path/filepath"
@@ -64,7 +65,7 @@ func TestProgram(t *testing.T) {
 	ended := make(chan error, 1)
 	go func() {
 		ended <- run(ctx, []string{"--listen", address, "--server", stub.Listener.Addr().String(), "--key", filepath.Join(dir, "key"),
-			"--tls-cert", cert, "--tls-key", key, "--derp-map", derp, "--polls", "2", "--per-address", "1", "--log", filepath.Join(dir, "log")}, io.Discard, io.Discard)
+			"--tls-cert", cert, "--tls-key", key, "--derp-map", derp, "--polls", "1", "--per-address", "1", "--log", filepath.Join(dir, "log")}, io.Discard, io.Discard)
 	}()
 	d := tailclient.Dialer{Version: 113, Dial: func(ctx context.Context) (net.Conn, error) {
 		c, err := (&tls.Dialer{Config: &tls.Config{InsecureSkipVerify: true, NextProtos: []string{"h2", "http/1.1"}}}).DialContext(ctx, "tcp", address)
@@ -85,6 +86,9 @@ func TestProgram(t *testing.T) {
 	poll := post(t, h, "/machine/map", `{"Stream":true}`)
 	if got := next(t, poll.Body, false); got != `{"DERPMap":{"Regions":{"1":{"RegionID":1}}},"Seq":1}` {
 		t.Error(got)
+	}
+	if got := post(t, h, "/machine/map", `{"Stream":true}`); got.StatusCode != http.StatusServiceUnavailable {
+		t.Error("a second poll:", got.Status)
 	}
 	if _, err := d.Connect(within(t, time.Second), fill(2)); err == nil || !strings.Contains(err.Error(), "503") {
 		t.Error("a second connection of one address:", err)
@@ -169,7 +173,7 @@ func TestStreamsEndWithTheProgram(t *testing.T) {
 	soon(t, "no connection", func() bool { return r.conns.taken() == 0 })
 }
 
-// A connection that says nothing doesn't hold up the end.
+// A connection that says nothing doesn't hold up the end, and is closed by it.
 func TestProgramEnds(t *testing.T) {
 	l, err := listen(within(t, time.Second), "127.0.0.1:0", defaultLimits(), true)
 	if err != nil {
@@ -189,6 +193,7 @@ func TestProgramEnds(t *testing.T) {
 	}
 	ended := make(chan error, 1)
 	go func() { ended <- f.serve(l, nil) }()
+	var silent []net.Conn
 	for _, begin := range []string{"", "GET /key?v=113 HTTP/1.1\r\nHost"} {
 		c, err := net.Dial("tcp", l.Addr().String())
 		if err != nil {
@@ -196,6 +201,7 @@ func TestProgramEnds(t *testing.T) {
 		}
 		defer c.Close()
 		io.WriteString(c, begin)
+		silent = append(silent, c)
 	}
 	soon(t, "two are there", func() bool { return l.room.taken() == 2 })
 	stop()
@@ -206,5 +212,11 @@ func TestProgramEnds(t *testing.T) {
 		}
 	case <-time.After(3 * time.Second):
 		t.Error("it doesn't end")
+	}
+	for n, c := range silent {
+		c.SetReadDeadline(time.Now().Add(3 * time.Second))
+		if _, err := c.Read(make([]byte, 1)); err == nil || errors.Is(err, os.ErrDeadlineExceeded) {
+			t.Errorf("connection %d: %v", n, err)
+		}
 	}
 }
