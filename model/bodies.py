@@ -1,7 +1,6 @@
 """Bodies of requests: each is read field by field, and the first fault is the answer."""
 
-import json
-
+from jsons import value_of_json
 from texts import (
     FIRST_MOMENT,
     ZERO_KEY,
@@ -27,8 +26,7 @@ class BodyFault(Exception):
 def value_of(body, wanted):
     """The JSON value of this type that a body is."""
     try:
-        # (-0 isn't a number in plain digits)
-        value = json.loads(body.decode("utf-8"), parse_int=lambda text: -1 if text == "-0" else int(text))
+        value = value_of_json(body)
     except ValueError:
         raise BodyFault("NotJson") from None
     if not isinstance(value, wanted):

@@ -1,10 +1,10 @@
 """Policies: what a text says by docs/POLICY.md, or its first fault."""
 
 import ipaddress
-import json
 import re
 from dataclasses import dataclass, field
 
+from jsons import value_of_json
 from texts import address_of, is_tag, login_of, prefix_of
 
 MOST = {"text": 262144, "rules": 512, "hosts": 512, "entries": 256, "list": 256}
@@ -71,38 +71,11 @@ def standard(text):
     return bytes(out)
 
 
-def no_number(text):
-    raise ValueError(text)
-
-
-def number_of(text):
-    value = float(text)
-    if value in (float("inf"), float("-inf")):
-        raise ValueError(text)
-    return value
-
-
-def whole_of(text):
-    number_of(text)
-    return -0.0 if text == "-0" else int(text)
-
-
-def depth_of(value):
-    inner = value.values() if isinstance(value, dict) else value if isinstance(value, list) else None
-    return 0 if inner is None else 1 + max((depth_of(item) for item in inner), default=0)
-
-
 def value_of(text):
     try:
-        value = json.loads(
-            text.decode("utf-8"), parse_int=whole_of, parse_float=number_of, parse_constant=no_number
-        )
-        if depth_of(value) > 127:
-            raise ValueError("too deep")
-        json.dumps(value, ensure_ascii=False).encode()
-    except (ValueError, RecursionError):
+        return value_of_json(text)
+    except ValueError:
         raise PolicyFault(1, "json") from None
-    return value
 
 
 def under(place, key):
