@@ -35,8 +35,9 @@ type front struct {
 }
 
 func newFront(ctx context.Context, key noise.DHKey, address string, derpMap []byte, limits limits, to io.Writer) (*front, error) {
-	// A window of 1 MiB is what every client of RFC 8878 takes.
-	encoder, err := zstd.NewWriter(nil, zstd.WithEncoderCRC(false), zstd.WithEncoderConcurrency(4), zstd.WithWindowSize(1<<20))
+	// A window of 1 MiB is what every client of RFC 8878 takes. At the fastest level a frame
+	// takes half the time, and a whole map is no longer for it.
+	encoder, err := zstd.NewWriter(nil, zstd.WithEncoderCRC(false), zstd.WithEncoderConcurrency(4), zstd.WithWindowSize(1<<20), zstd.WithEncoderLevel(zstd.SpeedFastest))
 	if err != nil {
 		return nil, fmt.Errorf("zstd: %w", err)
 	}

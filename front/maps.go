@@ -9,7 +9,7 @@ import (
 // serveMap hands on a map request and the frames that answer it. A poll stays for as
 // long as its client, tailnetd and the front do; all others have a time.
 func (f *front) serveMap(ctx context.Context, w *reply, machine machineKey, asked request) {
-	relay := relay{send: w.send}
+	relay := relay{write: w.send}
 	if asked.zstd {
 		relay.encoder = f.encoder
 	}
@@ -21,11 +21,11 @@ func (f *front) serveMap(ctx context.Context, w *reply, machine machineKey, aske
 		defer f.polls.leave(1)
 		relay.derpMap = f.derpMap
 		relay.quiet = func() time.Duration { return around(f.limits.quiet, f.limits.give) }
+		ctx, relay.end = context.WithCancel(ctx)
 	} else {
-		var cancel context.CancelFunc
-		ctx, cancel = context.WithTimeout(ctx, f.server.ask)
-		defer cancel()
+		ctx, relay.end = context.WithTimeout(ctx, f.server.ask)
 	}
+	defer relay.end()
 
 	got, err := f.server.post(ctx, pathMap, machine, asked.body)
 	if err != nil {
@@ -42,7 +42,7 @@ func (f *front) serveMap(ctx context.Context, w *reply, machine machineKey, aske
 	if err := w.flush(); err != nil {
 		return
 	}
-	if err := relay.run(ctx, got.Body); err != nil {
+	if err := relay.run(got.Body); err != nil {
 		panic(http.ErrAbortHandler) // RST_STREAM: what was sent is no whole answer
 	}
 }

@@ -2,10 +2,11 @@ package main
 
 import (
 	"bytes"
-	"context"
 	"encoding/json"
+	"errors"
 	"io"
 	"math/rand"
+	"sync"
 	"time"
 
 	"github.com/klauspost/compress/zstd"
@@ -15,7 +16,8 @@ import (
 // MapResponse.KeepAlive. A client gives up after 120 seconds without a frame.
 const keepAlive = `{"KeepAlive":true}`
 
-// spareBuffer is the most that a poll keeps between two frames.
+// spareBuffer is the most that a poll keeps between two frames, of what it read and of what
+// it sent.
 const spareBuffer = 16 << 10
 
 // A relay hands on the frames of one answer.
@@ -23,56 +25,104 @@ type relay struct {
 	encoder *zstd.Encoder        // nil: as they are
 	derpMap []byte               // what the first frame gets, nil: nothing
 	quiet   func() time.Duration // after how long to send a keep-alive, nil: never
-	send    func(frame []byte) error
+	write   func(frame []byte) error
+	end     func() // ends what frames are read from
+
+	mu    sync.Mutex // of what follows, and of writes: a keep-alive goes between two frames
+	frame []byte     // what was sent last, whose room the next one takes
+	fault error      // of a write, behind which there is none; errOver behind the last
+	timer *time.Timer
+	due   time.Time // of the next keep-alive
 }
 
-// run hands on frames until they end, which is nil, or a fault or ctx ends them.
-// One frame is read at a time, and the next after it was sent: a client that
-// reads slowly is waited for, and nothing is queued for it. What reads them ends when
-// from does, so the caller closes from.
-func (r relay) run(ctx context.Context, from io.Reader) error {
-	ctx, cancel := context.WithCancel(ctx)
-	defer cancel()
-	frames, free := make(chan read), make(chan *bytes.Buffer, 1)
-	go readFrames(ctx, from, frames, free)
-	free <- new(bytes.Buffer)
+var errOver = errors.New("no frame comes any more")
 
-	timer := newQuiet(r.quiet)
-	defer timer.Stop()
+// run hands on frames until they end, which is nil, or a fault does. A frame is read once
+// the one before it was sent: a client that reads slowly is waited for, and nothing is
+// queued for it.
+func (r *relay) run(from io.Reader) error {
+	if r.quiet != nil {
+		r.begin()
+		defer r.stop()
+	}
+	text := new(bytes.Buffer)
 	for {
-		select {
-		case <-ctx.Done():
-			return ctx.Err()
-		case <-timer.C:
-			if err := r.send(appendFrame(nil, []byte(keepAlive), r.encoder)); err != nil {
-				return err
-			}
-		case f := <-frames:
-			if f.err == io.EOF {
-				return nil
-			}
-			if f.err != nil {
-				return f.err
-			}
-			if err := r.hand(f.text.Bytes()); err != nil {
-				return err
-			}
-			if f.text.Cap() > spareBuffer {
-				f.text = new(bytes.Buffer)
-			}
-			free <- f.text
+		switch err := readFrame(from, text); {
+		case err == io.EOF:
+			return nil
+		case err != nil:
+			return err
 		}
-		timer.again()
+		if err := r.hand(text.Bytes()); err != nil {
+			return err
+		}
+		if text.Cap() > spareBuffer {
+			text = new(bytes.Buffer)
+		}
 	}
 }
 
 // hand sends one frame of tailnetd.
 func (r *relay) hand(text []byte) error {
+	r.mu.Lock()
+	defer r.mu.Unlock()
 	if r.derpMap != nil && takesDERPMap(text) {
 		text = withMember(text, "DERPMap", r.derpMap)
 		r.derpMap = nil
 	}
-	return r.send(appendFrame(nil, text, r.encoder))
+	return r.send(text)
+}
+
+// send sends a frame of a text, and begins the time without one anew.
+func (r *relay) send(text []byte) error {
+	if r.fault != nil {
+		return r.fault
+	}
+	r.frame = appendFrame(r.frame[:0], text, r.encoder)
+	if r.fault = r.write(r.frame); r.fault != nil {
+		return r.fault
+	}
+	if cap(r.frame) > spareBuffer {
+		r.frame = nil
+	}
+	if r.timer != nil {
+		r.again()
+	}
+	return nil
+}
+
+// begin begins the time without a frame.
+func (r *relay) begin() {
+	r.mu.Lock()
+	defer r.mu.Unlock()
+	r.timer = time.AfterFunc(time.Hour, r.keepAlive)
+	r.again()
+}
+
+func (r *relay) again() {
+	length := r.quiet()
+	r.due = time.Now().Add(length)
+	r.timer.Reset(length)
+}
+
+// keepAlive sends one, unless a frame has gone meanwhile.
+func (r *relay) keepAlive() {
+	r.mu.Lock()
+	defer r.mu.Unlock()
+	if time.Now().Before(r.due) {
+		return // the timer was set anew
+	}
+	if r.send([]byte(keepAlive)) != nil {
+		r.end()
+	}
+}
+
+// stop waits until no keep-alive is sent any more.
+func (r *relay) stop() {
+	r.mu.Lock()
+	defer r.mu.Unlock()
+	r.fault = errOver
+	r.timer.Stop()
 }
 
 // takesDERPMap says whether a frame may be the one that brings a client its relays:
@@ -88,64 +138,6 @@ func takesDERPMap(text []byte) bool {
 	}
 	var m struct{ KeepAlive bool }
 	return json.Unmarshal(text, &m) != nil || !m.KeepAlive
-}
-
-// A read is a frame's text, or why there is none.
-type read struct {
-	text *bytes.Buffer
-	err  error
-}
-
-// readFrames reads a frame into each buffer that is free.
-func readFrames(ctx context.Context, from io.Reader, frames chan<- read, free <-chan *bytes.Buffer) {
-	for {
-		select {
-		case <-ctx.Done():
-			return
-		case b := <-free:
-			err := readFrame(from, b)
-			select {
-			case <-ctx.Done():
-				return
-			case frames <- read{b, err}:
-			}
-			if err != nil {
-				return
-			}
-		}
-	}
-}
-
-// A quiet is a timer that begins again with each frame.
-type quiet struct {
-	*time.Timer
-	after func() time.Duration
-}
-
-func newQuiet(after func() time.Duration) quiet {
-	if after == nil {
-		return quiet{Timer: &time.Timer{}} // its channel is nil: never
-	}
-	return quiet{time.NewTimer(after()), after}
-}
-
-func (q quiet) Stop() {
-	if q.after != nil {
-		q.Timer.Stop()
-	}
-}
-
-func (q quiet) again() {
-	if q.after == nil {
-		return
-	}
-	if !q.Timer.Stop() {
-		select {
-		case <-q.C:
-		default:
-		}
-	}
-	q.Reset(q.after())
 }
 
 // around is a time at random, at most give more or less than middle, so that

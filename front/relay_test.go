@@ -5,6 +5,7 @@ import (
 	"io"
 	"net/http"
 	"strings"
+	"sync/atomic"
 	"testing"
 	"time"
 
@@ -58,6 +59,83 @@ func TestNoKeepAliveAmidFrames(t *testing.T) {
 	if got := whole(t, poll); got != strings.Repeat(string(frameOf(`{"Seq":1}`)), 15) {
 		t.Errorf("%q", got)
 	}
+}
+
+// A keep-alive that can't be written ends the answer, and nothing is written behind it:
+// not even a frame that was on its way.
+func TestKeepAliveThatFails(t *testing.T) {
+	from, to := io.Pipe()
+	defer from.Close()
+	var wrote atomic.Int32
+	r := &relay{
+		quiet: func() time.Duration { return 10 * time.Millisecond },
+		write: func([]byte) error { wrote.Add(1); return io.ErrClosedPipe },
+		end:   func() { go to.Write(frameOf("{}")) },
+	}
+	ended := make(chan error, 1)
+	go func() { ended <- r.run(from) }()
+	select {
+	case err := <-ended:
+		if err != io.ErrClosedPipe || wrote.Load() != 1 {
+			t.Errorf("%v, after %d writes", err, wrote.Load())
+		}
+	case <-time.After(10 * time.Second):
+		t.Error("it goes on")
+	}
+}
+
+// A keep-alive goes between two frames, and none goes behind the last.
+func TestKeepAlivesBetweenFrames(t *testing.T) {
+	from, to := io.Pipe()
+	go func() {
+		for n := 0; n < 20; n++ {
+			to.Write(frameOf(`{"Seq":1}`))
+			time.Sleep(3 * time.Millisecond)
+		}
+		to.Close()
+	}()
+	var now, wrote atomic.Int32
+	kept := 0
+	r := &relay{end: func() {}, quiet: func() time.Duration { return time.Millisecond }, write: func(frame []byte) error {
+		if now.Add(1) != 1 {
+			t.Error("two writes at once")
+		}
+		if strings.Contains(string(frame), keepAlive) {
+			kept++
+		}
+		time.Sleep(time.Millisecond)
+		wrote.Add(1)
+		now.Add(-1)
+		return nil
+	}}
+	if err := r.run(from); err != nil {
+		t.Error(err)
+	}
+	last := wrote.Load()
+	if time.Sleep(20 * time.Millisecond); wrote.Load() != last || kept == 0 || int(last)-kept != 20 {
+		t.Errorf("%d writes, then %d, and %d keep-alives among them", last, wrote.Load(), kept)
+	}
+}
+
+// Of a long frame no room is kept for the next one.
+func TestRoomOfALongFrame(t *testing.T) {
+	r := &relay{write: func([]byte) error { return nil }}
+	for _, length := range []int{10, spareBuffer + 1, 10} {
+		if err := r.hand(make([]byte, length)); err != nil || cap(r.frame) > spareBuffer {
+			t.Errorf("%d bytes: %v, and room for %d", length, err, cap(r.frame))
+		}
+	}
+}
+
+// A keep-alive whose time was set anew just as it came isn't sent.
+func TestKeepAliveSetAnew(t *testing.T) {
+	r := &relay{quiet: func() time.Duration { return time.Hour }, write: func([]byte) error {
+		t.Error("it was sent")
+		return nil
+	}}
+	r.begin()
+	defer r.stop()
+	r.keepAlive()
 }
 
 // The first frame that is a map brings the relays: not a keep-alive, and not what is
