@@ -35,38 +35,53 @@ func (q quantiles) String() string {
 	return b.String()
 }
 
-// A round is how late frames were of plain polls and then of polls through the front, of
-// the same changes.
-type round struct {
-	plain, front   quantiles
-	beside, frames int           // how many: of plain polls, and through the front
-	changing       time.Duration // what the front took of a processor meanwhile
+// Seen is what the clients of one leg saw of frames while things changed.
+type seen struct {
+	tapped []time.Duration // from the tap, as a frame's last byte came there, until a client had the frame
+	within []time.Duration // of that, in the tap itself
+	told   []time.Duration // from the change of which a frame tells until a client had it
+	length time.Duration   // until the last frame
+	taken  taken           // of processors meanwhile
 }
 
-// table says what each round saw, and what the front adds: for each quantile the
-// difference in each round, and of these the least, the middle and the most. So a frame
-// that is late in one leg by chance doesn't decide it.
+func (s *seen) add(more seen) {
+	s.tapped = append(s.tapped, more.tapped...)
+	s.within = append(s.within, more.within...)
+	s.told = append(s.told, more.told...)
+	s.length += more.length
+	s.taken = s.taken.and(more.taken)
+}
+
+// A round is what clients saw of plain polls, and then of polls through the front.
+type round struct{ plain, front seen }
+
+// table says what the clients saw: how long the front had each frame, in each round and in
+// all, what a tap and a client take without it, and how late frames were in all.
 func table(rounds []round) string {
 	var b strings.Builder
-	line := func(name string, q quantiles, behind string) {
-		b.WriteString(strings.TrimRight(fmt.Sprintf("%-22s%s  %s", name, q, behind), " ") + "\n")
+	line := func(name string, all []time.Duration, host time.Duration) {
+		fmt.Fprintf(&b, "%-36s%s %8d %6d\n", name, quantilesOf(all), len(all), host.Milliseconds())
 	}
-	fmt.Fprintf(&b, "%-22s   median     99 %%   99.9 %%    worst\n", "milliseconds")
-	var added [len(quantiles{})][]time.Duration
+	fmt.Fprintf(&b, "%-36s   median     99 %%   99.9 %%    worst   frames stolen\n", "milliseconds")
+	var plain, front seen
 	for n, r := range rounds {
-		line(fmt.Sprintf("round %d: plain", n+1), r.plain, fmt.Sprintf("%d frames", r.beside))
-		line("  through the front", r.front, fmt.Sprintf("%d frames", r.frames))
-		for at := range r.front {
-			added[at] = append(added[at], r.front[at]-r.plain[at])
-		}
+		line(fmt.Sprintf("round %d: from the tap by the front", n+1), r.front.tapped, r.front.taken.host)
+		plain.add(r.plain)
+		front.add(r.front)
 	}
-	var least, middle, most quantiles
-	for at, all := range added {
-		q := quantilesOf(all)
-		least[at], middle[at], most[at] = all[0], q.median(), q.worst()
-	}
-	line("the front adds: least", least, "")
-	line("  in the middle", middle, fmt.Sprintf("of %d rounds", len(rounds)))
-	line("  most", most, "")
+	line("all: from the tap by the front", front.tapped, front.taken.host)
+	line("     of that in the tap", front.within, front.taken.host)
+	line("     from the tap without the front", plain.tapped, plain.taken.host)
+	line("     from the change by the front", front.told, front.taken.host)
+	line("     from the change without it", plain.told, plain.taken.host)
+	fmt.Fprintf(&b, "while things changed, for %v in all, the front took %.1f %% of a processor; clients, tap and all else here %.1f %%, and %.1f %% without the front\n", front.length.Round(100*time.Millisecond),
+		percent(front.taken.front, front.length), percent(front.taken.bench, front.length), percent(plain.taken.bench, plain.length))
 	return b.String()
+}
+
+func percent(part, whole time.Duration) float64 {
+	if whole <= 0 {
+		return 0
+	}
+	return 100 * part.Seconds() / whole.Seconds()
 }

@@ -22,17 +22,25 @@ func TestQuantilesOf(t *testing.T) {
 	}
 }
 
-// A frame that is late in one leg alone doesn't decide what the front adds.
+// The worst of all rounds is the worst of any, and what the host kept is the sum.
 func TestTable(t *testing.T) {
-	of := func(worst time.Duration) quantiles {
-		return quantiles{time.Millisecond, 2 * time.Millisecond, 3 * time.Millisecond, worst * time.Millisecond}
+	of := func(all ...time.Duration) (s seen) {
+		for _, one := range all {
+			s.tapped = append(s.tapped, one*time.Millisecond)
+		}
+		s.length = 2 * time.Second
+		s.taken.front = time.Second / 2
+		return s
 	}
-	got := table([]round{{plain: of(4), front: of(5)}, {plain: of(90), front: of(6)}, {plain: of(4), front: of(7)}})
+	held := of(90, 1)
+	held.taken.host = 70 * time.Millisecond
+	got := table([]round{{of(1), of(2, 3, 4)}, {of(1), held}})
 	for _, want := range []string{
-		"round 2: plain             1.00     2.00     3.00    90.00",
-		"the front adds: least      0.00     0.00     0.00   -84.00\n",
-		"  in the middle            0.00     0.00     0.00     1.00  of 3 rounds\n",
-		"  most                     0.00     0.00     0.00     3.00\n",
+		"round 1: from the tap by the front       3.00     4.00     4.00     4.00        3      0\n",
+		"round 2: from the tap by the front      90.00    90.00    90.00    90.00        2     70\n",
+		"all: from the tap by the front           3.00    90.00    90.00    90.00        5     70\n",
+		"     from the tap without the front      1.00     1.00     1.00     1.00        2      0\n",
+		"for 4s in all, the front took 25.0 % of a processor;",
 	} {
 		if !strings.Contains(got, want) {
 			t.Errorf("no %q in\n%s", want, got)

@@ -17,6 +17,7 @@ type run struct {
 	front, server string
 	clients       int
 	length        time.Duration
+	each          time.Duration // from one change to the next; 0: as many as usual
 	restarts      int
 	numbers       *int // how many changes there were
 }
@@ -25,6 +26,7 @@ func main() {
 	r := run{numbers: new(int)}
 	flag.StringVar(&r.front, "front", "", "the built front")
 	flag.StringVar(&r.server, "server", "", "the built server, or stub")
+	flag.DurationVar(&r.each, "each", 0, "from one change to the next")
 	flag.Parse()
 	var err error
 	numbers := [3]int{}
@@ -39,7 +41,7 @@ func main() {
 		}
 	}
 	if err != nil || flag.NArg() < 2 {
-		fmt.Fprintln(os.Stderr, "bench/front: N SECONDS [RESTARTS]:", err)
+		fmt.Fprintln(os.Stderr, "bench/front: [--each TIME] N SECONDS [RESTARTS]:", err)
 		os.Exit(2)
 	}
 	r.clients, r.length, r.restarts = numbers[0], time.Duration(numbers[1])*time.Second, numbers[2]

@@ -23,10 +23,13 @@ const (
 	leastIdle = 60 * time.Second
 )
 
-// every is from one change to the next: the longer the more clients are told, so that
-// frames come as often.
+// every is from one change to the next. Unless the words say it, it is the longer the more
+// clients are told, so that frames come as often.
 func (r run) every() time.Duration {
-	if r.isStubbed() {
+	switch {
+	case r.each > 0:
+		return r.each
+	case r.isStubbed():
 		return each
 	}
 	return each * time.Duration((r.clients+manyTold-1)/manyTold)
@@ -35,11 +38,11 @@ func (r run) every() time.Duration {
 // measure has rounds of polls beside the front and through it, and prints what they saw.
 // The last polls are then held while nothing changes.
 func (r run) measure(ctx context.Context, folder string, to io.Writer) error {
-	s, err := r.subject(ctx, folder, manyTold)
+	t, err := newTap()
 	if err != nil {
 		return err
 	}
-	defer s.close()
+	defer t.close()
 	count := int(r.length / leastLeg)
 	if count > mostRounds {
 		count = mostRounds
@@ -47,20 +50,23 @@ func (r run) measure(ctx context.Context, folder string, to io.Writer) error {
 		count = 1
 	}
 	r.length /= time.Duration(count)
-	fmt.Fprintf(to, "%d clients of %s, a change each %v, for %v in each of %d rounds, without the front and through it\n", r.clients, s.name(), r.every(), r.length, count)
 	loadLine(to, "at the start")
-	rounds, last, err := r.rounds(ctx, s, count)
+	began := time.Now()
+	s, err := r.subject(ctx, folder, manyTold, t.address())
+	if err != nil {
+		return err
+	}
+	defer s.close()
+	t.before(string(s.operator()))
+	fmt.Fprintf(to, "%d clients of %s, there after %v; a change each %v, for %v in each of %d rounds, without the front and through it\n",
+		r.clients, s.name(), time.Since(began).Round(10*time.Millisecond), r.every(), r.length, count)
+	rounds, last, err := r.rounds(ctx, s, t, count)
 	defer last.end()
 	if err != nil {
 		return err
 	}
 	io.WriteString(to, table(rounds))
-	var changing time.Duration
-	for _, one := range rounds {
-		changing += one.changing
-	}
-	fmt.Fprintf(to, "the front brought %d polls up with %.2f s of a processor, took %.1f %% of one while things changed, and holds %s\n", r.clients, last.beginning.Seconds(),
-		100*changing.Seconds()/(r.length*time.Duration(count)).Seconds(), office.Memory(s.through().Pid()))
+	fmt.Fprintf(to, "the front brought %d polls up in %v with %.2f s of a processor, and holds %s\n", r.clients, last.up.Round(10*time.Millisecond), last.beginning.Seconds(), office.Memory(s.through().Pid()))
 	err = r.idle(ctx, s, to)
 	loadLine(to, "at the end")
 	return err
@@ -68,28 +74,28 @@ func (r run) measure(ctx context.Context, folder string, to io.Writer) error {
 
 // rounds are legs beside the front and through it, in turn. The polls of the last one
 // are left as they are.
-func (r run) rounds(ctx context.Context, s subject, count int) (all []round, last leg, err error) {
+func (r run) rounds(ctx context.Context, s subject, t *tap, count int) (all []round, last leg, err error) {
 	for len(all) < count {
 		last.end()
-		plain, err := r.leg(ctx, s, false)
+		plain, err := r.leg(ctx, s, t, false)
 		plain.end()
 		if err != nil {
 			return all, leg{}, err
 		}
-		if last, err = r.leg(ctx, s, true); err != nil {
+		if last, err = r.leg(ctx, s, t, true); err != nil {
 			return all, last, err
 		}
-		all = append(all, round{quantilesOf(plain.late), quantilesOf(last.late), len(plain.late), len(last.late), last.changing})
+		all = append(all, round{plain.seen, last.seen})
 	}
 	return all, last, nil
 }
 
-// A leg is polls of one way, how late their frames were, and what the front took of a
-// processor until they were there, and while things changed.
+// A leg is polls of one way and what they saw, how long they took to be there, and what
+// the front took of a processor for it.
 type leg struct {
 	*polls
-	late                []time.Duration
-	beginning, changing time.Duration
+	seen
+	up, beginning time.Duration
 }
 
 // end ends its polls, if there are any, and waits until the server has noticed.
@@ -102,26 +108,28 @@ func (l leg) end() {
 }
 
 // leg has polls up and makes changes for a while.
-func (r run) leg(ctx context.Context, s subject, front bool) (leg, error) {
-	l := leg{polls: newPolls(s, r.clients, front, r.numbers)}
-	taken := func() time.Duration { return office.Processor(s.through().Pid()) }
-	before := taken()
-	if err := l.up(ctx); err != nil {
+func (r run) leg(ctx context.Context, s subject, t *tap, front bool) (l leg, err error) {
+	l.polls = newPolls(s, t, r.clients, front, r.numbers)
+	began, taken := time.Now(), takenBy(s)
+	if err := l.begin(ctx); err != nil {
 		return l, err
 	}
+	l.up = time.Since(began)
 	if err := l.settle(ctx); err != nil {
 		return l, err
 	}
-	began := taken()
-	l.beginning = began - before
+	l.beginning = takenBy(s).front - taken.front
+	began, taken = time.Now(), takenBy(s)
 	if err := r.changes(ctx, s, l.polls); err != nil {
 		return l, err
 	}
-	l.changing = taken() - began
 	if err := l.settle(ctx); err != nil {
 		return l, err
 	}
-	l.late = l.times()
+	if l.seen, err = l.matched(); err != nil {
+		return l, err
+	}
+	l.taken, l.length = takenBy(s).since(taken), l.lastCame().Sub(began)
 	return l, nil
 }
 
@@ -151,13 +159,13 @@ func (r run) idle(ctx context.Context, s subject, to io.Writer) error {
 	if length < leastIdle {
 		length = leastIdle
 	}
-	before := office.Processor(s.through().Pid())
+	before := takenBy(s).front
 	select {
 	case <-ctx.Done():
 		return ctx.Err()
 	case <-time.After(length):
 	}
-	took := office.Processor(s.through().Pid()) - before
+	took := takenBy(s).front - before
 	fmt.Fprintf(to, "idle for %v, %d clients cost the front %.2f %% of a processor; it holds %s\n", length, r.clients, 100*took.Seconds()/length.Seconds(), office.Memory(s.through().Pid()))
 	return nil
 }

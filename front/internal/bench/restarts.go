@@ -26,7 +26,7 @@ func (r run) restart(ctx context.Context, folder string, to io.Writer) error {
 	if err := os.Mkdir(folder, 0o700); err != nil {
 		return err
 	}
-	s, err := r.subject(ctx, folder, 0)
+	s, err := r.subject(ctx, folder, 0, "")
 	if err != nil {
 		return err
 	}

@@ -14,8 +14,8 @@ type served struct {
 	all []*office.Machine
 }
 
-func (r run) served(ctx context.Context, folder string) (*served, error) {
-	o, err := office.Open(ctx, r.server, r.front, folder, r.clients)
+func (r run) served(ctx context.Context, folder, tapped string) (*served, error) {
+	o, err := office.Open(ctx, r.server, r.front, folder, r.clients, tapped)
 	if err != nil {
 		return nil, err
 	}

@@ -39,7 +39,7 @@ type told struct {
 	written chan struct{}
 }
 
-func (r run) stubbed(ctx context.Context, folder string, most int) (*stub, error) {
+func (r run) stubbed(ctx context.Context, folder string, most int, tapped string) (*stub, error) {
 	s := &stub{at: map[string]int{}, polls: map[*told]struct{}{}, most: most}
 	for n := 0; n < r.clients; n++ {
 		m := office.NewMachine(tailclient.Dialer{Version: 113})
@@ -57,7 +57,10 @@ func (r run) stubbed(ctx context.Context, folder string, most int) (*stub, error
 	if err := s.begin(); err != nil {
 		return nil, err
 	}
-	s.front, err = office.Start(ctx, s.outside, r.front, "--listen", s.outside, "--server", s.address, "--key", filepath.Join(folder, "front.key"),
+	if tapped == "" {
+		tapped = s.address
+	}
+	s.front, err = office.Start(ctx, s.outside, r.front, "--listen", s.outside, "--server", tapped, "--key", filepath.Join(folder, "front.key"),
 		"--per-address", "0", "--polls", fmt.Sprint(r.clients), "--log", filepath.Join(folder, "log"))
 	if err != nil {
 		s.server.Close()

@@ -25,10 +25,11 @@ type subject interface {
 // workers.
 func (r run) isStubbed() bool { return r.server == "stub" || r.clients > office.MostPolls }
 
-// subject begins it. A stub tells a change to so many clients at most, 0 for all.
-func (r run) subject(ctx context.Context, folder string, most int) (subject, error) {
+// subject begins it. A stub tells a change to so many clients at most, 0 for all. The front
+// finds it at tapped, or where that is empty at its own address.
+func (r run) subject(ctx context.Context, folder string, most int, tapped string) (subject, error) {
 	if r.isStubbed() {
-		return r.stubbed(ctx, folder, most)
+		return r.stubbed(ctx, folder, most, tapped)
 	}
-	return r.served(ctx, folder)
+	return r.served(ctx, folder, tapped)
 }

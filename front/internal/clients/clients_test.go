@@ -33,7 +33,7 @@ func open(t *testing.T) *opened {
 		t.Skip("TAILNETD and TAILNETD_FRONT don't name the programs")
 	}
 	ctx, cancel := context.WithTimeout(context.Background(), 2*time.Minute)
-	o, err := office.Open(ctx, server, front, t.TempDir(), office.FewPolls)
+	o, err := office.Open(ctx, server, front, t.TempDir(), office.FewPolls, "")
 	if err != nil {
 		cancel()
 		t.Fatal(err)

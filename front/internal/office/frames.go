@@ -17,11 +17,14 @@ func Frame(text []byte) []byte {
 
 // ReadFrames gives each frame of a poll to take, until they end, which is no error.
 func ReadFrames(from io.Reader, compressed bool, take func(frame []byte) error) error {
-	decoder, err := zstd.NewReader(nil, zstd.WithDecoderConcurrency(1), zstd.WithDecoderLowmem(true), zstd.WithDecoderMaxWindow(8<<20))
-	if err != nil {
-		return err
+	var decoder *zstd.Decoder
+	if compressed {
+		var err error
+		if decoder, err = zstd.NewReader(nil, zstd.WithDecoderConcurrency(1), zstd.WithDecoderLowmem(true), zstd.WithDecoderMaxWindow(8<<20)); err != nil {
+			return err
+		}
+		defer decoder.Close()
 	}
-	defer decoder.Close()
 	for {
 		var length [4]byte
 		if _, err := io.ReadFull(from, length[:]); errors.Is(err, io.EOF) {
@@ -34,6 +37,7 @@ func ReadFrames(from io.Reader, compressed bool, take func(frame []byte) error) 
 			return err
 		}
 		if compressed {
+			var err error
 			if frame, err = decoder.DecodeAll(frame, nil); err != nil {
 				return err
 			}

@@ -41,8 +41,9 @@ type Office struct {
 	Log           string
 }
 
-// Open starts both programs in a folder, for so many polls at once.
-func Open(ctx context.Context, server, front, folder string, polls int) (*Office, error) {
+// Open starts both programs in a folder, for so many polls at once. The front finds the
+// server at tapped, or where that is empty at its own address.
+func Open(ctx context.Context, server, front, folder string, polls int, tapped string) (*Office, error) {
 	at, err := FreeAddress()
 	if err != nil {
 		return nil, err
@@ -63,7 +64,10 @@ func Open(ctx context.Context, server, front, folder string, polls int) (*Office
 	if o.Server, err = Start(ctx, at, server, "serve", filepath.Join(folder, "serve.toml")); err != nil {
 		return nil, err
 	}
-	o.Front, err = Start(ctx, outside, front, "--listen", outside, "--server", at, "--key", filepath.Join(folder, "front.key"),
+	if tapped == "" {
+		tapped = at
+	}
+	o.Front, err = Start(ctx, outside, front, "--listen", outside, "--server", tapped, "--key", filepath.Join(folder, "front.key"),
 		"--derp-map", filepath.Join(folder, "derp.json"), "--polls", fmt.Sprint(polls), "--per-address", "0", "--log", o.Log)
 	if err != nil {
 		o.Server.Kill()

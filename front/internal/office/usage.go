@@ -27,6 +27,25 @@ func Processor(pid int) time.Duration {
 	return time.Duration(sum) * 10 * time.Millisecond
 }
 
+// Stolen is the time of processors that the host of a virtual machine has kept from it:
+// proc(5), the eighth number in the first line of /proc/stat.
+func Stolen() time.Duration {
+	text, err := os.ReadFile("/proc/stat")
+	if err != nil {
+		return 0
+	}
+	line, _, _ := strings.Cut(string(text), "\n")
+	fields := strings.Fields(line)
+	if len(fields) < 9 {
+		return 0
+	}
+	n, err := strconv.ParseInt(fields[8], 10, 64)
+	if err != nil {
+		return 0
+	}
+	return time.Duration(n) * 10 * time.Millisecond
+}
+
 // Memory says how much a process holds, and held at most.
 func Memory(pid int) string {
 	text, err := os.ReadFile(fmt.Sprintf("/proc/%d/status", pid))
