@@ -93,6 +93,23 @@ func TestProgram(t *testing.T) {
 	if _, err := d.Connect(within(t, time.Second), fill(2)); err == nil || !strings.Contains(err.Error(), "503") {
 		t.Error("a second connection of one address:", err)
 	}
+	var outside []net.Conn
+	for n := 0; n <= defaultLimits().outsideOne; n++ {
+		c, err := net.Dial("tcp", address)
+		if err != nil {
+			t.Fatal(err)
+		}
+		defer c.Close()
+		outside = append(outside, c)
+	}
+	last := outside[len(outside)-1]
+	last.SetReadDeadline(time.Now().Add(5 * time.Second))
+	if n, err := last.Read(make([]byte, 1)); n != 0 || errors.Is(err, os.ErrDeadlineExceeded) {
+		t.Errorf("a connection too many that isn't upgraded: %d bytes, %v", n, err)
+	}
+	for _, c := range outside {
+		c.Close()
+	}
 	stop()
 	select {
 	case err := <-ended:
@@ -104,6 +121,10 @@ func TestProgram(t *testing.T) {
 	}
 	if _, err := poll.Body.Read(make([]byte, 1)); err == nil {
 		t.Error("the poll goes on")
+	}
+	info, err := os.Stat(filepath.Join(dir, "log"))
+	if err != nil || info.Mode().Perm() != 0o600 {
+		t.Error("the log:", info, err)
 	}
 }
 

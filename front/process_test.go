@@ -1,13 +1,17 @@
 package main
 
 import (
+	"bytes"
 	"io"
 	"net"
 	"net/http"
 	"net/http/httptest"
 	"os"
+	"os/exec"
 	"os/signal"
 	"path/filepath"
+	"runtime"
+	"strings"
 	"syscall"
 	"testing"
 	"time"
@@ -28,8 +32,8 @@ func TestMain(m *testing.M) {
 }
 
 // startProgram runs the program in a process of its own, without TLS, and gives a client's
-// dialer to it.
-func startProgram(t *testing.T, server string) (*office.Process, tailclient.Dialer) {
+// dialer to it. Its log has a line already.
+func startProgram(t *testing.T, server string) (p *office.Process, d tailclient.Dialer, log string) {
 	t.Helper()
 	address, err := office.FreeAddress()
 	if err != nil {
@@ -42,13 +46,14 @@ func startProgram(t *testing.T, server string) (*office.Process, tailclient.Dial
 	signal.Notify(handled, syscall.SIGHUP)
 	defer signal.Stop(handled)
 	dir := t.TempDir()
-	p, err := office.Start(within(t, 10*time.Second), address, os.Args[0], "--listen", address, "--server", server,
-		"--key", filepath.Join(dir, "key"), "--log", filepath.Join(dir, "log"))
+	log = filepath.Join(dir, "log")
+	os.WriteFile(log, []byte("a line\n"), 0o600)
+	p, err = office.Start(within(t, 10*time.Second), address, os.Args[0], "--listen", address, "--server", server, "--key", filepath.Join(dir, "key"), "--log", log)
 	if err != nil {
 		t.Fatal(err)
 	}
 	t.Cleanup(p.Kill)
-	return p, tailclient.Dialer{Address: address, Version: 113}
+	return p, tailclient.Dialer{Address: address, Version: 113}, log
 }
 
 // Without TLS there is nothing to read again, and a hangup ends nothing: a poll goes on,
@@ -66,7 +71,7 @@ func TestHangupWithoutTLS(t *testing.T) {
 		}
 	}))
 	t.Cleanup(stub.Close) // behind the program's end, which ends the poll that it waits for
-	p, d := startProgram(t, stub.Listener.Addr().String())
+	p, d, _ := startProgram(t, stub.Listener.Addr().String())
 	c, err := d.Connect(within(t, 5*time.Second), fill(1))
 	if err != nil {
 		t.Fatal(err)
@@ -93,7 +98,7 @@ func TestHangupWithoutTLS(t *testing.T) {
 
 // Connections that say nothing, or not all, don't hold up the end.
 func TestSilentConnectionsAtTheEnd(t *testing.T) {
-	p, d := startProgram(t, "127.0.0.1:1")
+	p, d, log := startProgram(t, "127.0.0.1:1")
 	for _, begin := range []string{"", "GET /key?v=113 HTTP/1.1\r\nHost"} {
 		c, err := net.Dial("tcp", d.Address)
 		if err != nil {
@@ -107,5 +112,31 @@ func TestSilentConnectionsAtTheEnd(t *testing.T) {
 	}
 	if took, err := p.Stop(within(t, 5*time.Second)); err != nil {
 		t.Errorf("after %v: %v", took, err)
+	}
+	lines, err := os.ReadFile(log)
+	if got := string(lines); err != nil || !strings.HasPrefix(got, "a line\n") || !strings.Contains(got, ` "GET" "/key" 200 `) {
+		t.Errorf("its log: %q, %v", got, err)
+	}
+}
+
+// What the program says where it doesn't serve, and what it ends with.
+func TestWhatTheProgramSays(t *testing.T) {
+	t.Setenv(asProgram, "1")
+	for _, row := range []struct {
+		words       []string
+		status      int
+		out, errors string
+	}{
+		{[]string{"--version"}, 0, "tailnetd-front " + version + " (" + runtime.Version() + ")\n", ""},
+		{[]string{"--polls", "0"}, 2, "", "tailnetd-front: --polls is at least 1; --help names the words\n"},
+		{[]string{"--key", "/none\n/key"}, 1, "", "tailnetd-front: key /none /key: no such file or directory; let the user of the front write its folder, or name another file with --key\n"},
+	} {
+		var out, errors bytes.Buffer
+		command := exec.CommandContext(within(t, 10*time.Second), os.Args[0], row.words...)
+		command.Stdout, command.Stderr = &out, &errors
+		command.Run()
+		if got := command.ProcessState.ExitCode(); got != row.status || out.String() != row.out || errors.String() != row.errors {
+			t.Errorf("%q: status %d, %q, and on standard error %q", row.words, got, out.String(), errors.String())
+		}
 	}
 }
