@@ -30,6 +30,8 @@ func TestTap(t *testing.T) {
 		"\r\n0\r\n\r\n",
 	}
 	passes := [][]int{{}, {0}, {1, 2}, {3, 4}, {}} // of which changes it notes frames with each piece
+	m := &office.Machine{Key: [32]byte{1}}
+	request := "POST /machine/map HTTP/1.1\r\nHost: x\r\nTs-Machine-Key: mkey:" + m.Key.Public().Hex() + "\r\nContent-Length: 2\r\n\r\n{}"
 	l, err := net.Listen("tcp", "127.0.0.1:0")
 	if err != nil {
 		t.Fatal(err)
@@ -42,8 +44,8 @@ func TestTap(t *testing.T) {
 			return
 		}
 		defer c.Close()
-		b := make([]byte, 4096)
-		n, _ := io.ReadAtLeast(c, b, 100)
+		b := make([]byte, len(request))
+		n, _ := io.ReadFull(c, b)
 		asked <- string(b[:n])
 		for text := range say {
 			io.WriteString(c, text)
@@ -55,8 +57,6 @@ func TestTap(t *testing.T) {
 	}
 	defer tap.close()
 	tap.before(l.Addr().String())
-	m := &office.Machine{Key: [32]byte{1}}
-	request := "POST /machine/map HTTP/1.1\r\nHost: x\r\nTs-Machine-Key: mkey:" + m.Key.Public().Hex() + "\r\nContent-Length: 2\r\n\r\n{}"
 	near, err := net.Dial("tcp", tap.address())
 	if err != nil {
 		t.Fatal(err)
