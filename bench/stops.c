@@ -1,7 +1,8 @@
 // A disk that fails at a chosen call, loaded in front of the C library's calls.
 // STOPS_FILE names the file of a database: what counts are the writes, truncations and syncs of each file whose name
-// begins so, and of the folder that it stands in. Each is told first, as a line in the file STOPS_TOLD: a letter of its
-// kind, and the file's name. STOPS_AT is the number of the call at which something happens, from 1, and STOPS_HOW what:
+// begins so, and of the folder that it stands in. Each is told first, as a line in the file STOPS_TOLD: its number, from 1,
+// a letter of its kind, and the file's name. STOPS_AT is the number of the call at which something happens, and STOPS_HOW
+// what:
 // - before: the process is killed before it;
 // - within: it is killed within it, which is behind half of a write, and behind all of what has no halves;
 // - once: it fails with EIO, and all others pass;
@@ -36,13 +37,13 @@ static const char *name_of(int fd, char *path, size_t size) {
     return is_folder ? "folder" : NULL;
 }
 
-static void tell(char kind, const char *name) {
+static void tell(long call, char kind, const char *name) {
     const char *told = getenv("STOPS_TOLD");
     if (!told) return;
     int fd = (int)syscall(SYS_openat, AT_FDCWD, told, O_WRONLY | O_CREAT | O_APPEND, 0600);
     if (fd < 0) return;
     char line[300];
-    int length = snprintf(line, sizeof line, "%c %s\n", kind, name);
+    int length = snprintf(line, sizeof line, "%ld %c %s\n", call, kind, name);
     syscall(SYS_write, fd, line, (size_t)length);
     syscall(SYS_close, fd);
 }
@@ -57,10 +58,10 @@ static enum how turn(char kind, int fd) {
     char path[4096];
     const char *name = name_of(fd, path, sizeof path);
     if (!name) return PASSES;
-    tell(kind, name);
+    long call = atomic_fetch_add(&calls, 1) + 1;
+    tell(call, kind, name);
     const char *at = getenv("STOPS_AT");
     const char *how = getenv("STOPS_HOW");
-    long call = atomic_fetch_add(&calls, 1) + 1;
     long chosen = at ? atol(at) : 0;
     if (!how || chosen == 0 || call < chosen) return PASSES;
     if (strcmp(how, "onwards") == 0) return FAILS;
