@@ -7,7 +7,7 @@ from .shown import plain
 
 SYNTAX = {
     "offset": ("a comma before which no value stands; a comment or a string without end", "take the comma out, or close the comment or string that begins there"),
-    "json": ("the text is no JSON in UTF-8 once comments and trailing commas are out", "run it through a JSON reader that shows where it stops; numbers too large for a float, and values that nest deeper than 127, are refused too"),
+    "json": ("the text is no JSON in UTF-8 once comments and trailing commas are out", "run it through a JSON reader that shows where it stops; numbers too large for a float, values that nest deeper than 127, and one half of a pair of surrogates are refused too"),
 }
 SENTENCES = {
     "P2": ("the top isn't an object", "put the sections into braces"),
