@@ -4,3 +4,4 @@ pub mod Exchanges
 pub mod Asked
 pub mod Polled
 pub mod Connection
+pub mod Folded

@@ -1,5 +1,6 @@
 //! A connection over a desk.
 ghost use Rattle.connections.specs.Connection.{IsConnection, told};
+ghost use Rattle.connections.specs.Folded.{AreTurnsFollowed};
 ghost use Rattle.std.specs.Prelude.{◌<◌, []};
 ghost use Rattle.tailnet_desk.specs.Seated.{point_of};
 ghost use Rattle.tailnet_desk.specs.Turns.{IsTurn};
@@ -14,7 +15,9 @@ use std::alloc::Global;
 use tailnet_desk::Desk;
 
 /// Serves a connection over a desk. Its state, and what is known of its keeper, stand at both ends,
-/// joined by the turns of the served requests. Nobody else has the desk, so that no poll waits.
+/// joined by the turns of the served requests. Nobody else has the desk, so that no poll waits. These
+/// turns are a legal history, after each of whose drains the client of the session has folded its
+/// machine's map, computed afresh.
 pub fn serve_desk<K: Keeper, I: Source, O: Sink, C: Clock, N: Entropy>(
     alloc: Global,
     front: &Front,
@@ -33,7 +36,10 @@ pub fn serve_desk<K: Keeper, I: Source, O: Sink, C: Clock, N: Entropy>(
         IsConnection IsTurn front.now 0 result requests []
         (at input.old output.old clock.old entropy.old)
         (at input.new output.new clock.new entropy.new) (point desk.old) (point desk.new) }
+    ensures followed { let point = point_of K.told K.faults K.calls in
+        AreTurnsFollowed (point desk.old) (point desk.new) }
 {
+    desk.rules();
     serve(
         alloc, front, texts, requests, desk, input, output, clock, entropy, &NoPause, 0,
     )

@@ -16,15 +16,19 @@ only answer = record { change = None; policy = None; offline = []; ended = []; a
 abbrev pub changing : {A : Type 0} → Change → A → Decision A
 changing change answer = record { change = Some change; policy = None; offline = []; ended = []; answer = answer }
 
--- the same decision with the answer as another layer has it
-abbrev pub answered : {A B : Type 0} → (A → B) → Decision A → Decision B
-answered view d = record {
+-- the same decision with another answer
+abbrev pub with_answer : {A B : Type 0} → Decision A → B → Decision B
+with_answer d answer = record {
   change = d.change;
   policy = d.policy;
   offline = d.offline;
   ended = d.ended;
-  answer = view d.answer;
+  answer = answer;
 }
+
+-- the same decision with the answer as another layer has it
+abbrev pub answered : {A B : Type 0} → (A → B) → Decision A → Decision B
+answered view d = with_answer d (view d.answer)
 
 -- the rows after a change, or as they are
 abbrev pub rows_after : Rows → Option Change → Rows

@@ -1,6 +1,6 @@
 //! The outcome of an ask, before anything is kept.
 ghost use Rattle.std.specs.Prelude.{◌≡◌};
-ghost use Rattle.desk_state.specs.Decisions.{answered, changing, only};
+ghost use Rattle.desk_state.specs.Decisions.{changing, only, with_answer};
 
 use net_rows::Change;
 use policy_rows::Policy;
@@ -34,6 +34,28 @@ impl<A> Decision<A> {
             offline: Items::new(alloc),
             ended: Items::new(alloc),
             answer,
+        }
+    }
+
+    /// The same with the answer that is made of this one's.
+    pub fn map<B, F: FnOnce(A) -> B>(self, f: F) -> Decision<B>
+        requires callable { F.pre f self.answer }
+        ensures value { result ≡ with_answer self result.answer }
+        ensures answer { F.post f self.answer result.answer }
+    {
+        let Decision {
+            change,
+            policy,
+            offline,
+            ended,
+            answer,
+        } = self;
+        Decision {
+            change,
+            policy,
+            offline,
+            ended,
+            answer: f(answer),
         }
     }
 

@@ -42,7 +42,7 @@ fn add_visible<'b>(
 }
 
 /// The machines that the viewer sees, by id.
-fn visible_of<'b>(
+pub fn visible_of<'b>(
     alloc: Global,
     world: &'b World<'_>,
     viewer: &LiveMachine<'_>,

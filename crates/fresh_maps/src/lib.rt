@@ -11,7 +11,7 @@ mod response;
 mod view;
 
 pub use frame::{first_frame, frame_bytes};
-pub use fresh::{dns_of, fresh_map};
+pub use fresh::{dns_of, fresh_map, visible_of};
 pub use laws::maps_of_sound_tables;
 pub use node_texts::NodeTexts;
 pub use profile::profile_of;

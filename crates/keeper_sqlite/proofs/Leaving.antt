@@ -9,7 +9,7 @@ use Rattle.sqlite.specs.Effect.{Database}
 use Rattle.sqlite.specs.State.{HasCleanDisk, State, Survives}
 use Rattle.sqlite_trees.specs.Tree.{Trees}
 use Rattle.sqlite_trees.proofs.Doubt.{clean_of, no_doubt}
-use Rattle.store_commits.specs.Kept.{AreStored, HoldsMade, Makes}
+use Rattle.store_commits.specs.Kept.{AreStored, HoldsChange, Makes}
 use Rattle.store_commits.specs.Pending.{IsSettled}
 use Rattle.store_loads.specs.Tells.{Holds, IsKnown}
 use Rattle.store_loads.specs.Told.{rows_of, store_tells}
@@ -81,13 +81,13 @@ known_holds s rows known told =
     elim there.stands [ inl holds ↦ holds | inr none ↦ absurd (none_is_not_ours s.now.schema (known there.clean there.opened).1.keeps.schema none.0) ]
 
 -- a commit leaves what a crash left before, or the rows after the change
-pub commit_leaves : (old new : State) (change : Change) (rows : Rows) → store_tells old ≡ Some rows → IsKnown old → HasCleanDisk new → Survives old new (HoldsMade old.now (λ r. after r change)) → IsReadableChange change
+pub commit_leaves : (old new : State) (change : Change) (rows : Rows) → store_tells old ≡ Some rows → IsKnown old → HasCleanDisk new → Survives old new (HoldsChange old.now change)
     → damage (after rows change) ≡ None → (found : Option Rows) → MayBeFound new found → MayBeFound old found ⊎ (found ≡ Some (after rows change))
-commit_leaves old new change rows told known clean survives good none found finds =
+commit_leaves old new change rows told known clean survives none found finds =
     let holds = known_holds old rows known told in
     elim (survives.crash clean finds.trees finds.may) [
       | inl before ↦ inl (record { trees = finds.trees; may = before; is = finds.is })
-      | inr made ↦ inr (sym finds.is ∙ stored_left finds.trees (after rows change) (made rows holds.keeps) (readable_after rows change holds.readable good none) none)
+      | inr whole ↦ inr (sym finds.is ∙ stored_left finds.trees (after rows change) (whole.made rows holds.keeps) (readable_after rows change holds.readable whole.readable none) none)
     ]
 
 -- and behind an Ok nothing but those

@@ -8,17 +8,19 @@ ghost use Rattle.net_rows.specs.declared.change.Kind.{Kind};
 ghost use Rattle.net_rows.specs.Damage.{damage};
 ghost use Rattle.net_rows.specs.Rows.{after, empty_rows};
 ghost use Rattle.net_rows.specs.declared.rows.Rows.{Rows};
-ghost use Rattle.store_commits.specs.Kept.{AreStored, HoldsMade, Keeps, Makes};
+ghost use Rattle.store_commits.specs.Kept.{AreStored, HoldsChange, Keeps, Makes};
 ghost use Rattle.store_commits.specs.Pending.{IsSettled, Leaves};
+ghost use Rattle.store_loads.specs.First.{IsFirstDamage};
 ghost use Rattle.store_loads.specs.Tells.{IsKnown};
 ghost use Rattle.store_loads.specs.Told.{store_tells};
+ghost use Rattle.store_reads.specs.Damages.{NamesDamage};
 ghost use Rattle.store_reads.specs.Readable.{AreReadable, IsOutside};
 ghost use Rattle.store_reads.specs.Seen.{IsSeen};
+ghost use Rattle.store_rows.specs.Readable.{IsReadableChange};
 ghost use Rattle.store_sql.specs.Schema.{no_schema, schema_1};
 ghost use Rattle.sqlite.specs.Held.{state};
 ghost use Rattle.sqlite.specs.State.{HasCleanDisk, Survives};
 
-use crate::written::write_change;
 use io_edge::EdgeFault;
 use net_rows::{Change, Tables};
 use row_keeper::{Keeper, LoadFault};
@@ -26,7 +28,6 @@ use sqlite::{Alter, Connection};
 use std::alloc::Global;
 use store_commits::{Fault, commit};
 use store_loads::load;
-use tail_base::NoMemory;
 
 /// Keeps the tables in the database of a connection, and tells what its store tells. Before it has
 /// loaded them it takes no change; from then on the store, as long as it is clean and open, tells.
@@ -105,6 +106,8 @@ impl<S: Alter> SqliteKeeper<S> {
             IsWhereTold tables.rows (store_tells (state S.Store self.new.conn))) }
         ensures damaged { IfErr result (λ e. (kind : Kind) (id : ℕ)
             → e ≡ LoadFault.Damaged kind id → store_tells (state S.Store self.new.conn) ≡ None) }
+        ensures named { HasCleanDisk (state S.Store self.new.conn)
+            → IfErr result (NamesDamage (IsFirstDamage (state S.Store self.old.conn).now)) }
         ensures still { StillTells (store_tells (state S.Store self.old.conn))
             (store_tells (state S.Store self.new.conn)) }
         ensures clean { HasCleanDisk (state S.Store self.new.conn)
@@ -138,7 +141,8 @@ impl<S: Alter> SqliteKeeper<S> {
         ensures err { HasCleanDisk (state S.Store self.new.conn)
             → OnErr result (Leaves (state S.Store self.old.conn) (state S.Store self.new.conn)) }
         ensures crash { Survives (state S.Store self.old.conn) (state S.Store self.new.conn)
-            (HoldsMade (state S.Store self.old.conn).now (λ rows. after rows change.now)) }
+            (HoldsChange (state S.Store self.old.conn).now change.now) }
+        ensures readable { OnOk result (IsReadableChange change.now) }
         ensures still_ok { OnOk result (StillTells (option_map (λ rows. after rows change.now)
             (store_tells (state S.Store self.old.conn)))
             (store_tells (state S.Store self.new.conn))) }
@@ -181,11 +185,6 @@ impl<S: Alter + Drop> Keeper for SqliteKeeper<S> {
 
     fn commit(&mut self, alloc: Global, change: &Change) -> Result<(), EdgeFault> {
         self.calls = self.calls.saturating_add(1);
-        // First in memory: where the database fails at a change that could be written, what a crash
-        // keeps of it is read again.
-        if let Err(NoMemory) = write_change(alloc, change) {
-            return Err(EdgeFault::NoMemory);
-        }
         self.keep(alloc, change)
     }
 }

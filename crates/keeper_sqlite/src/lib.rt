@@ -5,7 +5,6 @@ mod host_keeper;
 mod host_opener;
 mod keeper;
 mod opener;
-mod written;
 
 pub use host_keeper::HostKeeper;
 pub use host_opener::HostOpener;

@@ -1,5 +1,6 @@
 -- The settings of a load keep their rules.
 use Rattle.std.proofs.Common.{◌≡◌, ◌≤◌, true, refl, arith}
+use Rattle.std.specs.List.Sorted.{IsStrictlySortedBy}
 use Rattle.server_settings.specs.ServerRules.{AreServerSettings}
 use Rattle.server_settings.specs.declared.limits.TheConstants.{COUNT_LIMIT}
 use Rattle.settings.specs.Settings.{AreDnsSettings, AreSettings}
@@ -7,12 +8,14 @@ use Rattle.settings.specs.declared.limits.TheConstants.{DNS_ROUTE_LIMIT, DOMAIN_
 use Rattle.load_run.specs.Given.{dns_settings, load_server, load_settings}
 
 dns_rules : AreDnsSettings dns_settings
+unfolding IsStrictlySortedBy
 dns_rules = record {
   domains = omega arith;
   each_domain = refl;
   resolvers = omega arith;
   routes = omega arith;
   each_route = refl;
+  suffixes = tt;
 }
 
 pub load_rules : AreSettings load_settings

@@ -2,6 +2,7 @@
 ghost use Rattle.std.specs.Prelude.{◌≡◌, ℕ, Some, [], ◌∷◌, IfOk, IfErr, IfSome};
 ghost use Rattle.session_hub.specs.Lines.{AreLegal, IsReplayOf, lines_by, times};
 ghost use Rattle.tailnet_desk.specs.Seated.{point_of};
+ghost use Rattle.tailnet_desk.specs.Sound.{IsSoundState};
 
 use crate::known::Known;
 use crate::plays::HubRule;
@@ -19,7 +20,7 @@ use tailnet_desk::Desk;
 
 /// A desk that seats share. Each seat's call takes its turn: for every schedule of the threads there is
 /// one legal history of which each answer is a step's. Contracts see which hub it is, and where its
-/// desk stood when it was made.
+/// desk stood when it was made, in a state that kept the rules of a desk.
 pub struct Hub<K: Keeper> {
     pub(crate) table: Table<Option<Desk<K>>, Known<Desk<K>>, Snapshot<Desk<K>>, HubRule, Global>,
 }
@@ -28,12 +29,15 @@ impl<K: Keeper> Model for Hub<K> {
     ghost use Rattle.std.specs.Prelude.{◌≡◌, Some};
     ghost use Rattle.session_hub.specs.Seats.{HubView};
     ghost use Rattle.tailnet_desk.specs.Seated.{point_of};
+    ghost use Rattle.tailnet_desk.specs.Sound.{IsSoundState};
 
     ghost Value = { HubView };
 
     ghost view = { λ h. record { table = h.table.shared.table_id; start = Some (point_of K.told K.faults K.calls h.table.shared.key.value) } };
 
-    ghost invariant = { λ h. (h.table.shared.table_id.words ≡ 3) × (h.table.shared.table_id.slots ≡ 1) };
+    ghost invariant = { λ h. (h.table.shared.table_id.words ≡ 3)
+        × (h.table.shared.table_id.slots ≡ 1)
+        × IsSoundState h.table.shared.key.value.state };
 }
 
 impl<K: Keeper> Hub<K> {
@@ -48,6 +52,7 @@ impl<K: Keeper> Hub<K> {
         let Ok(mut slots) = Vec::with_capacity(alloc, 1) else {
             return Err((NoMemory, desk));
         };
+        desk.rules();
         let start = Snapshot::of(&desk);
         slots.push_reserved(Some(desk));
         match Table::new(alloc, &[0, 0, 1], slots, &start) {
@@ -67,6 +72,14 @@ impl<K: Keeper> Hub<K> {
                 Err((NoMemory, desk))
             }
         }
+    }
+
+    /// What holds of every hub: its desk stood in a sound state when it was made. So laws on histories can
+    /// be applied to what its seats have seen.
+    pub fn rules(&self)
+        ensures sound { IfSome self.now.start (λ start. IsSoundState start.state) }
+    {
+        let _table = &self.table;
     }
 
     /// Gives the desk back, which stands at the end of what the seat has seen: that is the whole history.

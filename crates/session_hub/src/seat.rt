@@ -1,6 +1,7 @@
 //! A seat at a hub.
 ghost use Rattle.std.specs.Prelude.{◌≡◌};
 ghost use Rattle.session_hub.specs.Calls.{IsReplyTo, event_of};
+ghost use Rattle.session_hub.specs.Lines.{AreLegal};
 ghost use Rattle.session_hub.specs.Seats.{IsJoin, IsSeatTurn, IsSplit};
 ghost use Rattle.tailnet_desk.specs.Asks.{IsShort, IsShortEvent};
 ghost use Rattle.tailnet_desk.specs.Step.{drain_reply};
@@ -179,6 +180,13 @@ impl<K: Keeper> Seat<K> {
                 moment,
             },
         );
+    }
+
+    /// What holds of every seat: the history that it has seen is legal from where the hub's desk stood.
+    pub fn rules(&self)
+        ensures legal { AreLegal self.now.hub.start self.now.seen }
+    {
+        let _name = self.name;
     }
 
     /// Another seat of the hub, which has seen as much and has a name of its own. It takes no memory.

@@ -1,6 +1,10 @@
 -- The rules of a tailnet's settings.
 use Rattle.std.specs.Prelude.{◌≡◌, ◌≤◌, ℕ, Bool, true, List, [], ◌∷◌, ◌++◌, length, if◌then◌else◌, nat_le, ◌&&◌, ◌==◌}
+use Rattle.std.specs.Cmp.Lexicographic.{slice_cmp}
 use Rattle.std.specs.List.{list_all}
+use Rattle.std.specs.List.Sorted.{IsStrictlySortedBy}
+use Rattle.std.specs.Ordering.{nat_cmp}
+use Rattle.std.specs.declared.cmp.Ordering.{Ordering}
 use Rattle.tail_base.specs.Labels.{is_label}
 use Rattle.net_addr.specs.Blocks.{is_within}
 use Rattle.net_addr.specs.Tailnet.{tailnet_v4, tailnet_v6}
@@ -26,17 +30,23 @@ is_base_domain text = nat_le (length text) BASE_DOMAIN_LIMIT && is_domain text
 abbrev pub is_domain_route : DnsRoute → Bool
 is_domain_route route = is_domain route.suffix && nat_le (length route.resolvers) RESOLVER_LIMIT
 
+-- how routes go by their suffixes in byte order
+abbrev pub suffix_cmp : DnsRoute → DnsRoute → Ordering
+suffix_cmp a b = slice_cmp nat_cmp a.suffix b.suffix
+
 -- a number from the least to the greatest
 abbrev pub IsFrom : ℕ → ℕ → ℕ → Type 0
 IsFrom least greatest n = (least ≤ n) × (n ≤ greatest)
 
--- The DNS settings keep their rules.
+-- The DNS settings keep their rules: each suffix has one route, and they stand in byte order, as the keys of a settings
+-- file's table do.
 pub record AreDnsSettings (dns : DnsSettings) : Type 0 where
   pub domains : length dns.domains ≤ SEARCH_LIMIT
   pub each_domain : list_all is_domain dns.domains ≡ true
   pub resolvers : length dns.resolvers ≤ RESOLVER_LIMIT
   pub routes : length dns.routes ≤ DNS_ROUTE_LIMIT
   pub each_route : list_all is_domain_route dns.routes ≡ true
+  pub suffixes : IsStrictlySortedBy suffix_cmp dns.routes
 
 -- Each field keeps its rule.
 pub record AreSettings (s : SettingsFields) : Type 0 where

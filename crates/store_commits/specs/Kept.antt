@@ -1,5 +1,7 @@
 -- How the rows of the tables stand in the trees of a database, and what a change makes of them.
 use Rattle.std.specs.Prelude.{◌≡◌, ◌+◌, ℕ, List, [], ◌∷◌, map, Option, Some, None, IsPermutation}
+use Rattle.net_rows.specs.Rows.{after}
+use Rattle.net_rows.specs.declared.change.Change.{Change}
 use Rattle.net_rows.specs.declared.rows.Rows.{Rows}
 use Rattle.net_rows.specs.Shelf.{IsAscending}
 use Rattle.sqlite.specs.Effect.{Database}
@@ -7,6 +9,7 @@ use Rattle.sqlite_value.specs.Order.{Row}
 use Rattle.sqlite_value.specs.declared.value.Value.{Value}
 use Rattle.sqlite_value.specs.declared.value.Value.TheVariants as value
 use Rattle.sqlite.specs.Tree.{Trees}
+use Rattle.store_rows.specs.Readable.{IsReadableChange}
 use Rattle.store_rows.specs.Rows.{auth_key_cells, extra_cells, machine_cells, meta_cells, pending_cells, policy_cells, user_cells}
 use Rattle.store_rows.specs.declared.cell.Cell.{Cell}
 use Rattle.store_rows.specs.declared.cell.Cell.TheVariants.{Null, Number, Text, Blob, Other}
@@ -73,6 +76,7 @@ Makes old new f = (rows : Rows) → Keeps old rows → Keeps new (f rows)
 abbrev pub IsAdded : Row → Database → Database → Type 0
 IsAdded values old new = (count : ℕ) × HasRun INSERT_EXTRAS.now values count old new
 
--- The trees hold what is made of the rows that the database keeps, whatever they are.
-abbrev pub HoldsMade : Database → (Rows → Rows) → Trees → Type 0
-HoldsMade old f trees = (rows : Rows) → Keeps old rows → AreStored trees (f rows)
+-- The trees hold the rows after the change, whatever rows the database keeps, and what the change puts can be read again.
+pub record HoldsChange (old : Database) (change : Change) (trees : Trees) : Type 0 where
+  pub made : (rows : Rows) → Keeps old rows → AreStored trees (after rows change)
+  pub readable : IsReadableChange change

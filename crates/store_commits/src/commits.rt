@@ -10,7 +10,7 @@ ghost use Rattle.sqlite.specs.State.{HasCleanDisk, Survives};
 ghost use Rattle.sqlite.specs.Held.{state};
 ghost use Rattle.store_sql.specs.Ran.{IsPutBy};
 ghost use Rattle.store_commits.specs.Gone.{gone_text, gone_id};
-ghost use Rattle.store_commits.specs.Kept.{HoldsMade, IsAdded, Makes, value_of};
+ghost use Rattle.store_commits.specs.Kept.{HoldsChange, IsAdded, Makes, value_of};
 ghost use Rattle.store_commits.specs.Pending.{IsPending, IsSettled, Leaves};
 
 use crate::database_row::DatabaseRow;
@@ -258,7 +258,7 @@ pub fn commit<S: Alter>(
         → IsTrue (state S.Store conn.new).is_open → IsTrue (state S.Store conn.old).is_open }
     ensures readable { OnOk result (IsReadableChange change.now) }
     ensures crash { Survives (state S.Store conn.old) (state S.Store conn.new)
-        (HoldsMade (state S.Store conn.old).now (λ rows. after rows change.now)) }
+        (HoldsChange (state S.Store conn.old).now change.now) }
 {
     if !conn.is_autocommit() {
         return Err(Fault::Failed);

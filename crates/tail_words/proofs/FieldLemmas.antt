@@ -2,6 +2,7 @@
 use Rattle.std.proofs.Common.{◌≡◌, ℕ, ℤ, pos, negsuc, Bool, true, false, ◌&&◌, ◌≤◌, nat_le, List, [], ◌∷◌, length, Option, Some, None, option_map, cond, refl, sym, ap, ◌∙◌, arith}
 use Rattle.std.specs.Prelude.{Ok, codes, option_and_then, unwrap_or}
 use Rattle.std.specs.List.{list_all}
+use Rattle.std.specs.List.Sorted.{IsStrictlySortedBy}
 use Rattle.std.specs.Result.{result_ok}
 use Rattle.std.proofs.lemmas.Bool.{and_parts}
 use Rattle.std.proofs.lemmas.Bool.Decides.{nat_tests}
@@ -13,7 +14,7 @@ use Rattle.net_addr.specs.Tailnet.{tailnet_v4, tailnet_v6}
 use Rattle.server_settings.specs.ServerRules.{AreServerSettings, is_visible}
 use Rattle.server_settings.specs.declared.defaults.TheConstants.{CONNECTIONS_DEFAULT, POLL_TURNS_DEFAULT, REQUESTS_DEFAULT}
 use Rattle.server_settings.specs.declared.limits.TheConstants.{COUNT_LIMIT}
-use Rattle.settings.specs.Settings.{AreDnsSettings, AreSettings, IsFrom, is_base_domain, is_domain, is_domain_route}
+use Rattle.settings.specs.Settings.{AreDnsSettings, AreSettings, IsFrom, is_base_domain, is_domain, is_domain_route, suffix_cmp}
 use Rattle.settings.specs.declared.defaults.TheConstants.{EPHEMERAL_SECONDS_DEFAULT, KEY_SECONDS_DEFAULT, PENDING_SECONDS_DEFAULT, WORKERS_DEFAULT}
 use Rattle.settings.specs.declared.limits.TheConstants.{DNS_ROUTE_LIMIT, PREFIX_V4_LEN_LIMIT, PREFIX_V6_LEN_LIMIT, RESOLVER_LIMIT, SEARCH_LIMIT, SECONDS_LIMIT, WORKER_LIMIT}
 use Rattle.tailcfg.specs.declared.dns.DnsRoute.{DnsRoute}
@@ -40,11 +41,11 @@ found_by : {A B : Type 0} (f : A → Option B) (o : Option A) (b : B) → option
 found_by f None b h = absurd (cc)
 found_by f (Some a) b h = (a, h, refl)
 
-if_parts : {A : Type 0} (b : Bool) (o : Option A) (a : A) → cond {A = Option A} b o None ≡ Some a → (b ≡ true) × (o ≡ Some a)
+pub if_parts : {A : Type 0} (b : Bool) (o : Option A) (a : A) → cond {A = Option A} b o None ≡ Some a → (b ≡ true) × (o ≡ Some a)
 if_parts true o a h = (refl, h)
 if_parts false o a h = absurd (cc)
 
-map_parts : {A B : Type 0} (f : A → B) (o : Option A) (b : B) → option_map f o ≡ Some b → (a : A) × (o ≡ Some a) × (f a ≡ b)
+pub map_parts : {A B : Type 0} (f : A → B) (o : Option A) (b : B) → option_map f o ≡ Some b → (a : A) × (o ≡ Some a) × (f a ≡ b)
 map_parts f None b h = absurd (cc)
 map_parts f (Some a) b h = (a, refl, cc)
 
@@ -105,7 +106,7 @@ short_addresses ts made h =
     let found = found_by (passing (λ l. nat_le (length l) RESOLVER_LIMIT)) (each_address ts) made h in
     passed (λ l. nat_le (length l) RESOLVER_LIMIT) found.0 made found.1
 
-abbrev made_route : RouteTexts → List Address → DnsRoute
+abbrev pub made_route : RouteTexts → List Address → DnsRoute
 made_route r l = record { suffix = r.suffix; resolvers = l }
 
 route_fits : (r : RouteTexts) (made : DnsRoute) → route r ≡ Some made → is_domain_route made ≡ true
@@ -114,7 +115,7 @@ route_fits r made h =
     let mapped = map_parts (made_route r) (addresses r.resolvers) made parts.1 in
     ap is_domain_route (sym mapped.2) ∙ both (is_domain r.suffix) (nat_le (length mapped.0) RESOLVER_LIMIT) parts.0 (short_addresses r.resolvers mapped.0 mapped.1)
 
-before_parts : {A : Type 0} (o : Option A) (others : Option (List A)) (made : List A) → before o others ≡ Some made
+pub before_parts : {A : Type 0} (o : Option A) (others : Option (List A)) (made : List A) → before o others ≡ Some made
     → (a : A) × (more : List A) × (o ≡ Some a) × (others ≡ Some more) × (a ∷ more ≡ made)
 before_parts None others made h = absurd (cc)
 before_parts (Some a) None made h = absurd (cc)
@@ -157,8 +158,9 @@ search_in base table good =
     let read = read_by (passing are_domains) (texts found.0) made found.1 in
     passed are_domains read.0 made read.1)
 
-dns_fits : (base : List ℕ) (table : Members) → is_domain base ≡ true → AreDnsSettings (dns_settings_of base table)
-dns_fits base table good =
+dns_fits : (base : List ℕ) (table : Members) → is_domain base ≡ true → IsStrictlySortedBy suffix_cmp (dns_settings_of base table).routes
+    → AreDnsSettings (dns_settings_of base table)
+dns_fits base table good suffixes =
     let found = and_parts _ _ (search_in base table good) in
     record {
       domains = small _ SEARCH_LIMIT found.0;
@@ -166,16 +168,18 @@ dns_fits base table good =
       resolvers = resolvers_in base table;
       routes = (routes_in base table).0;
       each_route = (routes_in base table).1;
+      suffixes = suffixes;
     }
 
-pub tailnet_fits : (base : List ℕ) (table : Members) → is_base_domain base ≡ true → AreSettings (tailnet_fields_of base table)
+pub tailnet_fits : (base : List ℕ) (table : Members) → is_base_domain base ≡ true
+    → IsStrictlySortedBy suffix_cmp (tailnet_fields_of base table).dns.routes → AreSettings (tailnet_fields_of base table)
 unfolding rule_of
-tailnet_fits base table good_base =
+tailnet_fits base table good_base suffixes =
     let v4 = and_parts _ _ (prefix_in (codes "prefix_v4") false tailnet_v4 table refl refl) in
     let v6 = and_parts _ _ (prefix_in (codes "prefix_v6") true tailnet_v6 table refl refl) in
     record {
       base_domain = good_base;
-      dns = dns_fits base table (and_parts _ _ good_base).1;
+      dns = dns_fits base table (and_parts _ _ good_base).1 suffixes;
       ephemeral_seconds = number_in (codes "ephemeral_seconds") 1 SECONDS_LIMIT EPHEMERAL_SECONDS_DEFAULT table refl (omega arith, omega arith);
       key_seconds = (number_in (codes "key_seconds") 0 SECONDS_LIMIT KEY_SECONDS_DEFAULT table refl (omega arith, omega arith)).1;
       pending_seconds = number_in (codes "pending_seconds") 1 SECONDS_LIMIT PENDING_SECONDS_DEFAULT table refl (omega arith, omega arith);

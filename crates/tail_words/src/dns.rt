@@ -1,6 +1,8 @@
 //! The table `dns` of a settings file.
 ghost use Rattle.std.specs.Prelude.{◌≡◌, ◌++◌, List, ℕ, [], IfOk, codes, option_and_then, option_map, unwrap_or};
+ghost use Rattle.std.specs.List.Sorted.{IsStrictlySortedBy};
 ghost use Rattle.std.specs.Result.{result_ok};
+ghost use Rattle.settings.specs.Settings.{suffix_cmp};
 ghost use Rattle.toml.specs.View.{table_view, view};
 ghost use Rattle.tail_words.specs.SettingsValues.{resolvers, routes, search_domains};
 ghost use Rattle.tail_base.specs.Steps.{Gives};
@@ -90,6 +92,7 @@ fn resolvers_of(alloc: Global, table: &Table) -> Result<Items<Addr>, NoMemory>
 fn routes_of(alloc: Global, table: &Table) -> Result<Items<DnsRoute>, NoMemory>
     ensures value { IfOk result (λ made. made
         ≡ (dns_settings_of [] (table_view table.now)).routes) }
+    ensures suffixes { IfOk result (IsStrictlySortedBy suffix_cmp) }
 {
     match dns_at(table, "routes") {
         Some(value) => Ok(routes(alloc, value)?.unwrap_or(Items::new(alloc))),
@@ -119,6 +122,7 @@ pub(crate) fn dns_settings_of(
 ) -> Result<DnsSettings, NoMemory>
     ensures value { IfOk result (λ made. made
         ≡ dns_settings_of base_domain.now (table_view table.now)) }
+    ensures suffixes { IfOk result (λ made. IsStrictlySortedBy suffix_cmp made.routes) }
 {
     Ok(DnsSettings {
         domains: domains_of(alloc, base_domain, table)?,

@@ -2,7 +2,10 @@
 //! elements' types, or that of its key.
 ghost use Rattle.std.specs.Prelude.{◌≡◌, IfOk};
 ghost use Rattle.std.specs.List.{list_all};
-ghost use Rattle.settings.specs.Settings.{is_domain};
+ghost use Rattle.std.specs.List.Sorted.{IsStrictlySortedBy};
+ghost use Rattle.std.specs.Map.{keys_of};
+ghost use Rattle.std.specs.String.{string_cmp};
+ghost use Rattle.settings.specs.Settings.{is_domain, suffix_cmp};
 ghost use Rattle.toml.specs.View.{items_view, table_view, view};
 ghost use Rattle.tail_words.specs.SettingsValues.{addresses, are_domains, each_address, each_route, item_texts, member_texts, resolvers, route, routes, routes_within, search_domains, table_texts, texts};
 
@@ -122,6 +125,7 @@ pub(crate) fn search_domains(
 #[tactic(auto, using(crate::proofs::ListLemmas::onto_start, crate::proofs::ListLemmas::onto_one, crate::proofs::ListLemmas::onto_end))]
 fn member_texts(alloc: Global, table: &Table) -> Result<Option<Items<RouteTexts>>, NoMemory>
     ensures value { IfOk result (λ made. made ≡ member_texts (table_view table.now)) }
+    ensures ordered { IfOk result (λ _. IsStrictlySortedBy string_cmp (keys_of table.now.entries)) }
 {
     let mut made = Items::new(alloc);
     for (key, value) in table.iter() {
@@ -169,6 +173,7 @@ pub(crate) fn routes(
     value: &Value,
 ) -> Result<Result<Items<DnsRoute>, SettingsRule>, NoMemory>
     ensures value { IfOk result (λ read. read ≡ routes (view value.now)) }
+    ensures suffixes { IfOk result (λ read. IfOk read (IsStrictlySortedBy suffix_cmp)) }
 {
     let Some(table) = value.as_table() else {
         return Ok(Err(SettingsRule::KeyType));

@@ -1,5 +1,7 @@
 //! The settings file.
 ghost use Rattle.std.specs.Prelude.{◌≡◌, IfOk, unwrap_or};
+ghost use Rattle.std.specs.List.Sorted.{IsStrictlySortedBy};
+ghost use Rattle.settings.specs.Settings.{suffix_cmp};
 ghost use Rattle.toml.specs.View.{table_view, view};
 ghost use Rattle.tail_base.specs.Steps.{Gives};
 ghost use Rattle.tail_words.specs.SettingsText.{checked, entry_checked, required, server_fields_of, settings_at, settings_of, tailnet_fields_of, text_at};
@@ -77,6 +79,7 @@ fn tailnet_fields_of(
 ) -> Result<SettingsFields, NoMemory>
     ensures value { IfOk result (λ made. made
         ≡ tailnet_fields_of base_domain (table_view table.now)) }
+    ensures suffixes { IfOk result (λ made. IsStrictlySortedBy suffix_cmp made.dns.routes) }
 {
     Ok(SettingsFields {
         dns: dns_settings_of(alloc, &base_domain, table)?,

@@ -1,28 +1,19 @@
 -- What holds of each legal history, said of a connection over a desk and of a run of `pipe`.
 use Rattle.std.specs.Prelude.{ℕ, Option, List}
 use Rattle.desk_front.specs.declared.front_settings.FrontSettings.{FrontSettings}
-use Rattle.desk_state.specs.State.{State}
 use Rattle.exit_status.specs.declared.closed.Closed.{Closed}
-use Rattle.net_rows.specs.Sound.{AreSound}
 use Rattle.server_settings.specs.declared.file_settings.FileSettings.{FileSettings}
-use Rattle.settings.specs.Settings.{AreSettings}
 use Rattle.tailnet_desk.specs.Chains.{IsHistory}
-use Rattle.tailnet_desk.specs.Seated.{IsInForce, Point}
+use Rattle.tailnet_desk.specs.Seated.{Point}
 use Rattle.tailnet_desk.specs.Turns.{IsTurn}
 use Rattle.tailnet_laws.specs.Followed.{AreFollowed}
 use Rattle.tailnet_laws.specs.Gone.{IsGoneMachine}
-use Rattle.tailnet_laws.specs.Sessions.{AreSoundSessions, sent_to}
+use Rattle.tailnet_desk.specs.Sessions.{AreSoundSessions, sent_to}
+use Rattle.tailnet_desk.specs.Sound.{IsSoundState}
 use Rattle.connections.specs.Connection.{IsConnection, Told}
 use Rattle.connections.specs.Exchanges.{turns_of}
 use Rattle.tailnet_commands.specs.Outside.{Outside}
 use Rattle.tailnet_commands.specs.Run.{Conversation}
-
--- Settings, tables and sessions keep their rules, and the policy in force is that of the tables.
-pub record IsSoundState (s : State) : Type 0 where
-  pub settings : AreSettings s.settings
-  pub rows : AreSound s.rows
-  pub in_force : IsInForce s.rows s.policy
-  pub sessions : AreSoundSessions s
 
 -- The turns of a connection over a desk are a legal history, after each of whose drains the client of the session has
 -- folded its machine's map, computed afresh; and sessions keep their rules in it.

@@ -5,5 +5,7 @@ pub mod Crashes
 pub mod History
 pub mod Opening
 pub mod Seated
+pub mod Sessions
+pub mod Sound
 pub mod Step
 pub mod Turns

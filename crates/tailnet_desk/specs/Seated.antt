@@ -1,10 +1,12 @@
 -- What contracts see of a desk, and what its objects tell.
-use Rattle.std.specs.Prelude.{◌≡◌, ℕ, Option}
+use Rattle.std.specs.Prelude.{◌≡◌, ℕ, List, Option}
 use Rattle.io_edge.specs.Edge.{IsWhereTold}
 use Rattle.net_rows.specs.declared.rows.Rows.{Rows}
 use Rattle.policy_rows.specs.declared.policy.Policy.{Policy}
 use Rattle.desk_state.specs.State.{State}
+use Rattle.desk_state.specs.declared.session.Session.{Session}
 use Rattle.policy_asks.specs.Kept.{policy_in}
+use Rattle.tailnet_desk.specs.Sessions.{KeepSessionRules}
 
 -- the state of the Tailnet machine, and who keeps its tables
 pub record Seated (K : Type 0) : Type 0 where
@@ -15,10 +17,12 @@ pub record Seated (K : Type 0) : Type 0 where
 abbrev pub IsInForce : Rows → Option Policy → Type 0
 IsInForce rows policy = policy ≡ policy_in rows
 
--- What a desk holds: its keeper has its rows, where it tells them, and their policy is in force.
-pub record IsHeld (rows : Rows) (policy : Option Policy) (told : Option Rows) : Type 0 where
+-- What a desk holds: its keeper has its rows, where it tells them, their policy is in force, and its sessions keep their
+-- rules.
+pub record IsHeld (rows : Rows) (policy : Option Policy) (told : Option Rows) (base : List ℕ) (next : ℕ) (held : List Session) : Type 0 where
   pub kept : IsWhereTold rows told
   pub in_force : IsInForce rows policy
+  pub sessions : KeepSessionRules base next held
 
 -- what is known of a keeper: its rows, if it tells them, how often a call has failed, and how often it was called
 pub record Keeping : Type 0 where

@@ -4,7 +4,6 @@ ghost use Rattle.io_edge.specs.Edge.{IsWhereTold, Rose, StillTells};
 ghost use Rattle.net_rows.specs.Damage.{damage};
 ghost use Rattle.net_rows.specs.Held.{Suffices};
 ghost use Rattle.net_rows.specs.Rows.{after};
-ghost use Rattle.settings.specs.Settings.{AreSettings};
 ghost use Rattle.row_keeper.specs.Before.{ToldBefore};
 ghost use Rattle.row_keeper.specs.Calls.{one_more};
 ghost use Rattle.std.specs.Option.{option_or};
@@ -14,12 +13,13 @@ ghost use Rattle.tailnet_desk.specs.Carried.{Carried, Kept, reply_of};
 ghost use Rattle.tailnet_desk.specs.Crashes.{IfDone, IsSafeTurn, LeavesAlso, LeavesOnly};
 ghost use Rattle.tailnet_desk.specs.Opening.{opening, unread_policy};
 ghost use Rattle.tailnet_desk.specs.Seated.{IsInForce, keeping_of, point_of};
+ghost use Rattle.tailnet_desk.specs.Sound.{IsSoundState};
 ghost use Rattle.tailnet_desk.specs.Turns.{IsTurn};
 ghost use Rattle.tailnet_desk.specs.declared.entry.Event.TheVariants as event;
 
 use crate::ask::Ask;
 use crate::deciding::decide;
-use crate::kept::{apply_change, let_rest};
+use crate::kept::{apply_change, end_presence_and_sessions};
 use crate::opening::{Beginning, load_beginning};
 use crate::reply::{Answer, Loss, Reply};
 use crate::settling::put_in_force;
@@ -72,7 +72,8 @@ impl<K: Keeper> Model for Desk<K> {
       keeper = d.keeper;
     } };
 
-    ghost invariant = { λ d. IsHeld d.tables.rows d.policy (K.told d.keeper) };
+    ghost invariant = { λ d. IsHeld d.tables.rows d.policy (K.told d.keeper)
+        d.settings.base_domain d.sessions.next d.sessions.rows.0 };
 }
 
 /// Why a desk didn't open.
@@ -126,7 +127,7 @@ fn unless_decided<A>(moment: Option<Moment>, decision: &Decision<A>) -> Option<M
 }
 
 /// An answer that isn't given is dropped here.
-fn let_go(_answer: Answer) {}
+fn drop_answer(_answer: Answer) {}
 
 /// The reply to an ask whose decision was carried out, or wasn't.
 fn reply_of(kept: Result<(), EdgeFault>, answer: Answer) -> Reply
@@ -135,11 +136,11 @@ fn reply_of(kept: Result<(), EdgeFault>, answer: Answer) -> Reply
     match kept {
         Ok(()) => Reply::Done(answer),
         Err(EdgeFault::NoMemory) => {
-            let_go(answer);
+            drop_answer(answer);
             Reply::Lost(Loss::NoMemory)
         }
         Err(EdgeFault::Failed) => {
-            let_go(answer);
+            drop_answer(answer);
             Reply::Lost(Loss::KeeperFault)
         }
     }
@@ -223,7 +224,7 @@ impl<K: Keeper> Desk<K> {
         }
         let Some(change) = change else {
             put_in_force(&mut self.policy, policy);
-            let_rest(
+            end_presence_and_sessions(
                 &mut self.presence,
                 &mut self.sessions,
                 ended,
@@ -240,7 +241,7 @@ impl<K: Keeper> Desk<K> {
             change,
         );
         put_in_force(&mut self.policy, policy);
-        let_rest(
+        end_presence_and_sessions(
             &mut self.presence,
             &mut self.sessions,
             ended,
@@ -330,7 +331,7 @@ impl<K: Keeper> Desk<K> {
         }
     }
 
-    fn asked(&mut self, alloc: Global, ask: &Ask, moment: Moment, words: Option<[u64; 4]>) -> Reply
+    fn ask_at(&mut self, alloc: Global, ask: &Ask, moment: Moment, words: Option<[u64; 4]>) -> Reply
         requires short { IsShort ask.now }
         ensures turn { IsTurn (point_of K.told K.faults K.calls self.old)
             (event.Ask ask.now moment words) result (point_of K.told K.faults K.calls self.new) }
@@ -366,7 +367,7 @@ impl<K: Keeper> Desk<K> {
             (event.Ask ask.now moment words) result self.new }
     {
         self.expand_for(alloc, ask, moment);
-        self.asked(alloc, ask, moment, words)
+        self.ask_at(alloc, ask, moment, words)
     }
 
     /// The tables, which keep their rules.
@@ -378,13 +379,13 @@ impl<K: Keeper> Desk<K> {
         &self.tables
     }
 
-    /// What holds of every desk: its settings keep their rules, and the policy in force is that of its
-    /// tables. So laws on histories can be applied from here on.
+    /// What holds of every desk: its settings, its tables and its sessions keep their rules, and the
+    /// policy in force is that of its tables. So laws on histories can be applied from here on.
     pub fn rules(&self)
-        ensures settings { AreSettings self.now.state.settings }
-        ensures in_force { IsInForce self.now.state.rows self.now.state.policy }
+        ensures sound { IsSoundState self.now.state }
     {
         let _fields = self.settings.fields();
+        let _rows = self.tables();
     }
 
     /// Gives the keeper back.

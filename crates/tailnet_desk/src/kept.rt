@@ -36,7 +36,7 @@ pub(crate) fn apply_change(
 
 /// Those of `ended` are offline if they were online, those of `offline` in any case, and the sessions
 /// of both end.
-pub(crate) fn let_rest(
+pub(crate) fn end_presence_and_sessions(
     presence: &mut Shelf<MachinePresence>,
     sessions: &mut Sessions,
     ended: &[u32],

@@ -2,9 +2,11 @@
 ghost use Rattle.std.specs.Prelude.{◌≡◌, ◌≤◌, IfSome, IsSome, OnOk};
 ghost use Rattle.io_edge.specs.Edge.{IsWhereTold};
 ghost use Rattle.desk_state.specs.Sessions.{session_of};
+ghost use Rattle.machine_asks.specs.Attach.{attached_state};
 ghost use Rattle.machine_asks.specs.Detach.{detached_state};
 ghost use Rattle.tailnet_desk.specs.Carried.{AttachCarried};
 ghost use Rattle.tailnet_desk.specs.Seated.{point_of};
+ghost use Rattle.tailnet_desk.specs.Sessions.{AreSoundSessions};
 ghost use Rattle.tailnet_desk.specs.Step.{drain_reply, drain_turn};
 ghost use Rattle.tailnet_desk.specs.Turns.{IsAttachReply, IsTurn};
 ghost use Rattle.tailnet_desk.specs.declared.entry.Event.TheVariants as event;
@@ -14,7 +16,7 @@ use crate::desk::Desk;
 use crate::reply::{Drained, Loss, Reply};
 use crate::sessions::{attach_session, put_session};
 use crate::settling::end_presence;
-use desk_state::{Attachment, MachinePresence, Presence, Sessions};
+use desk_state::{Attachment, MachinePresence, Presence, Sessions, keep_rules};
 use machine_asks::{AttachDecision, DrainDecision, attach, detach, drain};
 use net_addr::Moment;
 use net_rows::Shelf;
@@ -43,6 +45,7 @@ fn make_places(
 impl<K: Keeper> Desk<K> {
     /// The session begins or goes on, and its machine is online. It takes all memory first.
     fn enter(&mut self, decision: AttachDecision) -> Reply
+        requires sessions { AreSoundSessions (attached_state self.old.state decision) }
         ensures entered { AttachCarried self.old.state decision result self.new.state }
         ensures keeper { self.new.keeper ≡ self.old.keeper }
         ensures told { IsWhereTold self.new.state.rows (K.told self.new.keeper) }
@@ -103,6 +106,7 @@ impl<K: Keeper> Desk<K> {
     fn send(&mut self, decision: Option<DrainDecision>) -> Drained
         requires found { IfSome decision
             (λ d. IsSome (session_of self.old.state.sessions d.session.id)) }
+        requires sessions { AreSoundSessions (drain_turn self.old.state decision).state }
         ensures state { self.new.state ≡ (drain_turn self.old.state decision).state }
         ensures reply { drain_reply result ≡ (drain_turn self.old.state decision).reply }
         ensures keeper { self.new.keeper ≡ self.old.keeper }
@@ -117,7 +121,7 @@ impl<K: Keeper> Desk<K> {
         }
     }
 
-    fn drained(
+    fn drain_at(
         &mut self,
         alloc: Global,
         machine: &MachineKey,
@@ -131,6 +135,7 @@ impl<K: Keeper> Desk<K> {
     {
         self.time = self.time.or_later(moment);
         let at = self.snapshot();
+        keep_rules(&at);
         match drain(alloc, &at, machine, handle) {
             Ok(decision) => self.send(decision),
             Err(NoMemory) => Drained::NoMemory,
@@ -151,11 +156,11 @@ impl<K: Keeper> Desk<K> {
         ensures keeper { self.new.keeper ≡ self.old.keeper }
     {
         self.expand(alloc, moment);
-        self.drained(alloc, machine, handle, moment)
+        self.drain_at(alloc, machine, handle, moment)
     }
 
     /// The machine of this id, if one is meant, goes offline, and no poll holds its session.
-    fn let_off(&mut self, id: Option<u32>)
+    fn take_offline(&mut self, id: Option<u32>)
         ensures state { self.new.state ≡ detached_state self.old.state id }
         ensures keeper { self.new.keeper ≡ self.old.keeper }
         ensures told { IsWhereTold self.new.state.rows (K.told self.new.keeper) }
@@ -178,6 +183,6 @@ impl<K: Keeper> Desk<K> {
         self.time = self.time.or_later(moment);
         let at = self.snapshot();
         let id = detach(&at, machine, handle);
-        self.let_off(id);
+        self.take_offline(id);
     }
 }

@@ -1,16 +1,12 @@
 -- Clients have the maps computed afresh after each drain that sends something.
-use Rattle.std.proofs.Common.{◌≡◌, ◌^◌, ◌==◌, ℕ, ℤ, Bool, true, false, List, [], ◌∷◌, Option, Some, None, Result, Ok, Err, inl, inr, refl, sym, ap, subst, ltb, if◌then◌else◌}
-use Rattle.std.specs.Prelude.{Contains, filter}
+use Rattle.std.proofs.Common.{◌≡◌, ℕ, ℤ, Bool, true, false, List, [], ◌∷◌, Option, Some, None, Result, Ok, Err, refl, sym, subst, if◌then◌else◌}
+use Rattle.std.specs.Prelude.{filter}
 use Rattle.std.specs.Result.{result_ok}
 use Rattle.std.specs.Str.{bytes_eq}
-use Rattle.std.proofs.lemmas.Bool.{and_parts, eq-eqb}
 use Rattle.tail_base.specs.declared.key.MachineKey.{MachineKey}
-use Rattle.tail_base.proofs.Bools.{bytes_eq-true}
 use Rattle.net_rows.specs.Damage.{damage}
-use Rattle.net_rows.specs.Rows.{machine_of}
 use Rattle.net_rows.specs.declared.machine.Machine.{Machine}
 use Rattle.net_rows.specs.declared.rows.Rows.{Rows}
-use Rattle.net_rows.proofs.Members.{list_any_is}
 use Rattle.policy_rows.specs.declared.fault.PolicyFault.{PolicyFault}
 use Rattle.policy_rows.specs.declared.policy.Policy.{Policy}
 use Rattle.policy_doc.specs.Document.{policy_of_text}
@@ -18,44 +14,34 @@ use Rattle.policy_sites.specs.Grants.{rules_of}
 use Rattle.policy_sites.specs.Reach.{AreSoundRules}
 use Rattle.settings.specs.Settings.{AreSettings}
 use Rattle.settings.specs.declared.fields.SettingsFields.{SettingsFields}
-use Rattle.peer_view.specs.Seen.{live_node}
-use Rattle.peer_view.proofs.ListLemmas.{filtered_member, map_member}
-use Rattle.policy_sites.specs.Sites.{is_among}
 use Rattle.fresh_maps.specs.Granted.{MeetsPolicy}
-use Rattle.fresh_maps.specs.InOrder.{IsInOrder}
 use Rattle.fresh_maps.specs.declared.view.View.{View}
 use Rattle.fresh_maps.proofs.FilterLemmas.{map_admits}
-use Rattle.fresh_maps.proofs.OrderLemmas.{map_in_order}
 use Rattle.map_delta.specs.Delta.{responses_for}
 use Rattle.map_delta.specs.Fold.{fold_all}
 use Rattle.policy_asks.specs.Kept.{policy_of_kept}
-use Rattle.desk_state.specs.Sessions.{session_of}
-use Rattle.desk_state.specs.State.{State, at_moment, is_live, live_ids}
-use Rattle.desk_state.specs.declared.decision.Decision.{Decision}
-use Rattle.desk_state.specs.declared.refusal.Refusal.{Refusal}
+use Rattle.desk_state.specs.State.{State, at_moment, live_ids}
 use Rattle.desk_state.specs.declared.session.Session.{Session}
-use Rattle.machine_asks.specs.Attach.{attach, attached_state}
-use Rattle.machine_asks.specs.Detach.{detach, is_held_under}
-use Rattle.machine_asks.specs.Drain.{drain, drain_machine, drain_session, drained_state, if_live, is_drained, session_at, session_drained}
+use Rattle.machine_asks.specs.Attach.{attach}
+use Rattle.machine_asks.specs.Detach.{detach}
+use Rattle.machine_asks.specs.Drain.{drain, drained_state, session_at}
 use Rattle.machine_asks.specs.OneMap.{IsLiveRow, fresh_for, node_in, online_ids, world_of}
-use Rattle.machine_asks.specs.declared.attaching.AttachDecision.{AttachDecision}
 use Rattle.machine_asks.specs.declared.draining.DrainDecision.{DrainDecision}
-use Rattle.machine_asks.proofs.Drains.{live_row}
 use Rattle.tailnet_desk.specs.Asks.{IsShortEvent}
 use Rattle.tailnet_desk.specs.History.{IsReply, Legal, replay, state_after}
 use Rattle.tailnet_desk.specs.Opening.{opening}
 use Rattle.tailnet_desk.specs.Seated.{IsInForce}
-use Rattle.tailnet_desk.specs.Step.{attach_turn, decision, detach_turn, drain_turn, moment_of, outcome, step}
+use Rattle.tailnet_desk.specs.Step.{decision, drain_turn, moment_of, step}
 use Rattle.tailnet_desk.specs.declared.entry.Entry.{Entry}
 use Rattle.tailnet_desk.specs.declared.entry.Event.{Event}
 use Rattle.tailnet_desk.specs.declared.entry.Event.TheVariants as event
-use Rattle.tailnet_desk.specs.declared.reply.Answer.{Answer}
 use Rattle.tailnet_desk.specs.declared.reply.Reply.{Reply}
 use Rattle.tailnet_desk.specs.declared.reply.Reply.TheVariants.{Attached, Detached, Done, Ended, Frames, Lost, Refused}
 use Rattle.tailnet_desk.proofs.SoundHistories.{after_any, after_better, after_in_force, after_settings}
 use Rattle.tailnet_laws.specs.Followed.{AreFollowed, IsFreshAt, IsFreshIf, frames_in, sent_under, views_after, views_at}
-use Rattle.tailnet_laws.proofs.Attaches.{IsEither, attach_either}
-use Rattle.tailnet_laws.proofs.SessionRules.{AreKept, begun_kept, drained_kept, drained_map, folded_under, same_kept, settled_kept, taken_kept}
+use Rattle.tailnet_desk.proofs.Attaches.{attach_either}
+use Rattle.tailnet_desk.proofs.SessionRules.{AreKept, drained_kept, drained_map, folded_under, same_kept}
+use Rattle.tailnet_desk.proofs.SessionSteps.{Drains, attach_kept, detach_kept, drains, fresh_order, live_inside, moment_kept, outcome_kept}
 use Rattle.tailnet_laws.proofs.SoundRules.{open_sound, policy_rules}
 
 -- ---- the policy in force
@@ -74,94 +60,8 @@ force_sound rows policy e = subst (λ (p : Option Policy). AreSoundRules (rules_
 
 -- ---- fresh maps
 
--- a live machine is seen
-live_inside : (s : State) (m : Machine) → IsLiveRow s m → Contains (world_of s).nodes (node_in s m)
-live_inside s m h =
-    let ids = live_ids s in
-    let machines = s.rows.machines in
-    let alive : Contains (filter (is_live s) machines) m = filtered_member (is_live s) machines m h.inside h.live in
-    let inside : Contains ids m.id = map_member (λ (r : Machine). r.id) (filter (is_live s) machines) m alive in
-    let listed : is_among ids m ≡ true = list_any_is (λ (other : ℕ). other == m.id) ids m.id inside (eq-eqb m.id m.id refl) in
-    let here : Contains (filter (is_among ids) machines) m = filtered_member (is_among ids) machines m h.inside listed in
-    map_member (live_node s.policy s.rows.users (online_ids s.presence)) (filter (is_among ids) machines) m here
-
-fresh_order : (s : State) (m : Machine) → damage s.rows ≡ None → IsLiveRow s m → IsInOrder (fresh_for s m)
-fresh_order s m kept h = map_in_order s.settings s.policy s.rows (live_ids s) (online_ids s.presence) (node_in s m) kept (live_inside s m h)
-
 fresh_filter : (s : State) (m : Machine) → damage s.rows ≡ None → AreSoundRules (rules_of s.policy) → IsLiveRow s m → MeetsPolicy (world_of s) (node_in s m) (fresh_for s m).filter
 fresh_filter s m kept sound h = map_admits s.settings s.policy s.rows (live_ids s) (online_ids s.presence) (node_in s m) kept sound (live_inside s m h)
-
--- ---- decisions and attaches
-
-outcome_kept : (s : State) (r : Result (Decision Answer) Refusal) (maps : List ℕ → Option View) → AreKept s maps → AreKept (outcome s r).state maps
-outcome_kept s (Err e) maps h = h
-outcome_kept s (Ok d) maps h = settled_kept s d.change d.policy d.ended d.offline maps h
-
-either_kept : (s : State) (d : AttachDecision) (maps : List ℕ → Option View) → IsEither s d → AreKept s maps → AreKept (attached_state s d) maps
-either_kept s d maps (inl on) h = subst (λ (x : AttachDecision). AreKept (attached_state s x) maps) on.2 (taken_kept s on.0 maps h)
-either_kept s d maps (inr begins) h = subst (λ (x : AttachDecision). AreKept (attached_state s x) maps) begins.3 (begun_kept s begins.0 begins.1 begins.2 maps h)
-
-attach_kept : (s : State) (r : Result AttachDecision Refusal) (maps : List ℕ → Option View) → ((d : AttachDecision) → r ≡ Ok d → IsEither s d) → AreKept s maps → AreKept (attach_turn s r).state maps
-attach_kept s (Err e) maps either h = h
-attach_kept s (Ok d) maps either h = either_kept s d maps (either d refl) h
-
-detach_kept : (s : State) (o : Option ℕ) (maps : List ℕ → Option View) → AreKept s maps → AreKept (detach_turn s o).state maps
-detach_kept s None maps h = h
-detach_kept s (Some id) maps h = record {
-  sessions = record { rise = h.sessions.rise; given = h.sessions.given; apart = h.sessions.apart; order = h.sessions.order; domain = h.sessions.domain; unsent = h.sessions.unsent };
-  held = record { sent = h.held.sent; coming = h.held.coming };
-}
-
-moment_kept : (s : State) (m : ℤ) (maps : List ℕ → Option View) → AreKept s maps → AreKept (at_moment s m) maps
-moment_kept s m maps h = record {
-  sessions = record { rise = h.sessions.rise; given = h.sessions.given; apart = h.sessions.apart; order = h.sessions.order; domain = h.sessions.domain; unsent = h.sessions.unsent };
-  held = record { sent = h.held.sent; coming = h.held.coming };
-}
-
--- ---- drains
-
--- a value behind a test
-some_if : {A : Type 0} (b : Bool) (x y : A) → (if b then Some x else None) ≡ Some y → (b ≡ true) × (x ≡ y)
-some_if true x y h = (refl, cc)
-some_if false x y h = absurd (cc)
-
--- whose session is drained, and which
-pub record Drains (s : State) (mk : MachineKey) (handle : List ℕ) (d : DrainDecision) : Type 0 where
-  pub machine : Machine
-  pub session : Session
-  pub row : machine_of s.rows.machines mk.0 ≡ Some machine
-  pub live : IsLiveRow s machine
-  pub found : session_of s.sessions machine.id ≡ Some session
-  pub under : session.handle ≡ handle
-  pub is : session_drained s machine session ≡ d
-
-live_if : (s : State) (o : Option Machine) (m : Machine) → if_live s o ≡ Some m → o ≡ Some m
-live_if s None m h = absurd (cc)
-live_if s (Some r) m h = ap (λ (x : Machine). Some x) (some_if (is_live s r) r m h).1
-
-session_drains : (s : State) (mk : MachineKey) (handle : List ℕ) (m : Machine) (o : Option Session) (d : DrainDecision) → if_live s (machine_of s.rows.machines mk.0) ≡ Some m
-    → session_of s.sessions m.id ≡ o → drain_session s handle m o ≡ Some d → Drains s mk handle d
-session_drains s mk handle m None d here is h = absurd (cc)
-session_drains s mk handle m (Some x) d here is h =
-    let parts = some_if (is_drained s handle x) (session_drained s m x) d h in
-    let tests = and_parts (is_held_under s handle x) (ltb x.seq (2 ^ 63)) parts.0 in
-    let holds = and_parts _ (bytes_eq x.handle handle) tests.0 in
-    record {
-      machine = m;
-      session = x;
-      row = live_if s (machine_of s.rows.machines mk.0) m here;
-      live = live_row s mk m here;
-      found = is;
-      under = bytes_eq-true x.handle handle holds.1;
-      is = parts.1;
-    }
-
-machine_drains : (s : State) (mk : MachineKey) (handle : List ℕ) (o : Option Machine) (d : DrainDecision) → if_live s (machine_of s.rows.machines mk.0) ≡ o → drain_machine s handle o ≡ Some d → Drains s mk handle d
-machine_drains s mk handle None d is h = absurd (cc)
-machine_drains s mk handle (Some m) d is h = session_drains s mk handle m (session_of s.sessions m.id) d is refl h
-
-pub drains : (s : State) (mk : MachineKey) (handle : List ℕ) (d : DrainDecision) → drain s mk handle ≡ Some d → Drains s mk handle d
-drains s mk handle d h = machine_drains s mk handle (if_live s (machine_of s.rows.machines mk.0)) d refl h
 
 -- after a drain that sends something its client has the map computed afresh
 pub record Followed (s : State) (mk : MachineKey) (handle : List ℕ) (reply : Reply) (maps : List ℕ → Option View) : Type 0 where

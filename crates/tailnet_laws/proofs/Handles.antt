@@ -19,9 +19,9 @@ use Rattle.tailnet_desk.specs.declared.reply.Answer.{Answer}
 use Rattle.tailnet_desk.specs.declared.reply.Reply.{Reply}
 use Rattle.tailnet_desk.specs.declared.reply.Reply.TheVariants.{Attached, Detached, Done, Ended, Frames, Lost, Refused}
 use Rattle.tailnet_desk.proofs.SoundHistories.{after_any}
-use Rattle.tailnet_laws.specs.Sessions.{IsBegunUnder}
-use Rattle.tailnet_laws.proofs.Attaches.{IsEither, attach_either}
-use Rattle.tailnet_laws.proofs.SessionRules.{handle_one}
+use Rattle.tailnet_desk.specs.Sessions.{IsBegunUnder}
+use Rattle.tailnet_desk.proofs.Attaches.{IsEither, attach_either}
+use Rattle.tailnet_desk.proofs.SessionRules.{handle_one}
 
 -- ---- the number of the next session never falls
 

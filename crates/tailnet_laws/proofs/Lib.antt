@@ -1,4 +1,3 @@
-mod Attaches
 mod ClosedRules
 mod Differences
 mod Entered
@@ -13,15 +12,15 @@ mod LiveMachines
 mod LiveRows
 mod MachinePuts
 mod MapAnswers
-mod Numbers
+pub mod Numbers
 mod Online
 mod OperatorPuts
 mod PolicyPuts
 mod Presence
 mod Puts
 mod Replied
-pub mod SessionRules
 mod SoundRules
+pub mod SoundStates
 mod SpentKeys
 mod Steps
 mod Taken

@@ -40,10 +40,11 @@ use Rattle.tailnet_desk.specs.declared.reply.Reply.TheVariants.{Attached, Detach
 use Rattle.tailnet_desk.proofs.SoundHistories.{after_any}
 use Rattle.tailnet_laws.specs.Followed.{frames_in, frames_to, sent_under, views_after}
 use Rattle.tailnet_laws.specs.Numbers.{sent_in}
-use Rattle.tailnet_laws.specs.Sessions.{AreSoundSessions, sent_to}
-use Rattle.tailnet_laws.proofs.Attaches.{IsEither, attach_either}
-use Rattle.tailnet_laws.proofs.Following.{AreRuled, Drains, after_ruled, drains, event_followed, force_sound, opening_kept}
-use Rattle.tailnet_laws.proofs.SessionRules.{AreKept, not_given, one_session, sent_held, session_id, session_put, settled_left}
+use Rattle.tailnet_desk.specs.Sessions.{AreSoundSessions, sent_to}
+use Rattle.tailnet_desk.proofs.Attaches.{IsEither, attach_either}
+use Rattle.tailnet_laws.proofs.Following.{AreRuled, after_ruled, event_followed, force_sound, opening_kept}
+use Rattle.tailnet_desk.proofs.SessionSteps.{Drains, drains}
+use Rattle.tailnet_desk.proofs.SessionRules.{AreKept, not_given, one_session, sent_held, session_id, session_put, settled_left}
 
 -- How many responses were sent under each handle: as many as the number of a session says, and none under a handle that
 -- is still to be given.
@@ -51,7 +52,7 @@ pub record AreCounted (s : State) (counts : List ℕ → ℕ) : Type 0 where
   pub sent : (k : ℕ) (x : Session) → session_of s.sessions k ≡ Some x → counts x.handle ≡ x.seq
   pub coming : (n : ℕ) (words : List ℕ) → s.next_session ≤ n → n < 2 ^ 63 → counts (session_handle n words) ≡ 0
 
-same_counted : (s : State) (counts others : List ℕ → ℕ) → ((handle : List ℕ) → others handle ≡ counts handle) → AreCounted s counts → AreCounted s others
+pub same_counted : (s : State) (counts others : List ℕ → ℕ) → ((handle : List ℕ) → others handle ≡ counts handle) → AreCounted s counts → AreCounted s others
 same_counted s counts others same c = record {
   sent = λ k x f. same x.handle ∙ c.sent k x f;
   coming = λ n words above small. same (session_handle n words) ∙ c.coming n words above small;
@@ -220,7 +221,7 @@ silent_counted s e reply counts same stepped c =
     same_counted (state_after s e reply) counts (counts_after e reply counts) same
     (after_any (λ (t : State). AreCounted t counts) s e reply stepped (moment_counted s (moment_of e) counts c))
 
-event_counted : (s : State) (e : Event) (before after : ℕ) (reply : Reply) (counts : List ℕ → ℕ) → AreSoundSessions s → AreCounted s counts → IsReply s e before after reply
+pub event_counted : (s : State) (e : Event) (before after : ℕ) (reply : Reply) (counts : List ℕ → ℕ) → AreSoundSessions s → AreCounted s counts → IsReply s e before after reply
     → AreCounted (state_after s e reply) (counts_after e reply counts) × ((handle : List ℕ) → AreNumbered (counts handle) (sent_under handle e (frames_in reply)))
 event_counted s (event.Ask x m words) before after reply counts h c is = (
   silent_counted s (event.Ask x m words) reply counts (λ handle. omega arith)
@@ -241,7 +242,7 @@ event_counted s (event.Detach mk handle m) before after reply counts h c is = (
   λ other. tt,
 )
 
-numbers_joined : (n : ℕ) (xs ys : List Response) → AreNumbered n xs → AreNumbered (n + length xs) ys → AreNumbered n (xs ++ ys)
+pub numbers_joined : (n : ℕ) (xs ys : List Response) → AreNumbered n xs → AreNumbered (n + length xs) ys → AreNumbered n (xs ++ ys)
 numbers_joined n [] ys p q =
     let same : n + length no_responses ≡ n = omega arith in
     subst (λ (k : ℕ). AreNumbered k ys) same q

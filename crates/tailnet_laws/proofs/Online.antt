@@ -34,7 +34,7 @@ use Rattle.tailnet_desk.specs.declared.entry.Event.TheVariants as event
 use Rattle.tailnet_desk.specs.declared.reply.Answer.{Answer}
 use Rattle.tailnet_desk.proofs.SoundHistories.{after_any}
 use Rattle.tailnet_laws.specs.Online.{AreOnlineByPolls}
-use Rattle.tailnet_laws.proofs.Attaches.{IsEither, attach_either}
+use Rattle.tailnet_desk.proofs.Attaches.{IsEither, attach_either}
 
 -- the machine of an id is online by these
 abbrev online : List MachinePresence → ℕ → Bool

@@ -28,7 +28,7 @@ use Rattle.tailnet_desk.specs.declared.entry.Event.TheVariants as event
 use Rattle.tailnet_desk.specs.declared.reply.Answer.{Answer}
 use Rattle.tailnet_desk.proofs.SoundHistories.{after_any, after_settings}
 use Rattle.tailnet_laws.specs.Workers.{LeaveWorker, waiting_polls}
-use Rattle.tailnet_laws.proofs.Attaches.{IsEither, attach_either}
+use Rattle.tailnet_desk.proofs.Attaches.{IsEither, attach_either}
 
 -- how many of these may wait
 abbrev waiting : List Attachment → ℕ

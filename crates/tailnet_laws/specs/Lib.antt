@@ -9,6 +9,5 @@ pub mod LiveRows
 pub mod Numbers
 pub mod Online
 pub mod Presence
-pub mod Sessions
 pub mod Shown
 pub mod Workers

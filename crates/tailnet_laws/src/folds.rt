@@ -11,7 +11,7 @@ ghost use Rattle.tailnet_desk.specs.Opening.{opening};
 ghost use Rattle.tailnet_desk.specs.Seated.{IsInForce};
 ghost use Rattle.tailnet_desk.specs.declared.entry.Entry.{Entry};
 ghost use Rattle.tailnet_laws.specs.Followed.{AreFollowed, views_at};
-ghost use Rattle.tailnet_laws.specs.Sessions.{AreHeld, AreSoundSessions, IsBegunUnder, sent_to};
+ghost use Rattle.tailnet_desk.specs.Sessions.{AreHeld, AreSoundSessions, IsBegunUnder, sent_to};
 
 /// After each drain of a legal history that is answered with responses, what the client of its session
 /// has folded is the map of the session's machine, computed afresh from the state there, and its filter

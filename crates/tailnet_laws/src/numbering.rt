@@ -13,7 +13,7 @@ ghost use Rattle.tailnet_desk.specs.Opening.{opening};
 ghost use Rattle.tailnet_desk.specs.Seated.{IsInForce};
 ghost use Rattle.tailnet_desk.specs.declared.entry.Entry.{Entry};
 ghost use Rattle.tailnet_laws.specs.Numbers.{sent_in};
-ghost use Rattle.tailnet_laws.specs.Sessions.{AreSoundSessions};
+ghost use Rattle.tailnet_desk.specs.Sessions.{AreSoundSessions};
 
 /// In a legal history from an opening state the responses that are sent under one handle are numbered one
 /// by one, the first with 1. From any other state those of a session go on behind its last number, which

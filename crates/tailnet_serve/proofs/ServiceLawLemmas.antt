@@ -8,11 +8,11 @@ use Rattle.session_hub.specs.Lines.{AreLegal, LegalFrom, entries_of}
 use Rattle.session_hub.specs.Seats.{SeatView}
 use Rattle.tailnet_laws.specs.Followed.{AreFollowed}
 use Rattle.tailnet_laws.specs.Gone.{IsGoneMachine}
-use Rattle.tailnet_laws.specs.Sessions.{sent_to}
+use Rattle.tailnet_desk.specs.Sessions.{sent_to}
+use Rattle.tailnet_desk.specs.Sound.{IsSoundState}
 use Rattle.tailnet_laws.proofs.Following.{legal_followed}
 use Rattle.tailnet_laws.proofs.GoneIds.{gone_machines_stay}
-use Rattle.tailnet_commands.specs.RunLaws.{IsSoundState}
-use Rattle.tailnet_commands.proofs.RunLawLemmas.{kept, ruled}
+use Rattle.tailnet_laws.proofs.SoundStates.{kept, ruled}
 use Rattle.tailnet_serve.specs.Runs.{IsSeatStep}
 use Rattle.tailnet_serve.specs.ServiceLaws.{SeatIsFollowed, ServiceLeavesMachinesGone}
 use Rattle.tailnet_serve.proofs.SeatRuns.{run_chain}

@@ -8,10 +8,10 @@ use Rattle.session_hub.specs.Lines.{LegalFrom, entries_of}
 use Rattle.session_hub.specs.Seats.{SeatView}
 use Rattle.tailnet_laws.specs.Followed.{AreFollowed}
 use Rattle.tailnet_laws.specs.Gone.{IsGoneMachine}
-use Rattle.tailnet_laws.specs.Sessions.{sent_to}
+use Rattle.tailnet_desk.specs.Sessions.{sent_to}
+use Rattle.tailnet_desk.specs.Sound.{IsSoundState}
 use Rattle.connections.specs.Connection.{IsConnection, Told}
 use Rattle.tailnet_commands.specs.Outside.{Outside}
-use Rattle.tailnet_commands.specs.RunLaws.{IsSoundState}
 use Rattle.tailnet_serve.specs.Runs.{IsSeatStep}
 use Rattle.tailnet_serve.specs.Service.{Service}
 

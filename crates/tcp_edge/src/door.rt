@@ -94,8 +94,11 @@ impl<R: Clock + Copy> Door for TcpDoor<R> {
         Err(Failed)
     }
 
-    fn finish(&mut self, input: TcpSource<R>, _output: TcpSink<R>) {
+    /// An answer that wasn't taken isn't waited for either.
+    fn finish(&mut self, input: TcpSource<R>, output: TcpSink<R>) {
         let mut input = input;
-        input.linger();
+        if !output.has_failed() {
+            input.linger();
+        }
     }
 }

@@ -10,7 +10,8 @@ pub struct TcpLimits {
     pub request: u64,
     /// Until a piece that is written is taken.
     pub write: u64,
-    /// How long input is read on when a connection is given back, so that the last answer arrives.
+    /// How long input is read on when a connection is given back at which nothing failed, so that the last
+    /// answer arrives.
     pub linger: u64,
     /// How many bytes are read on then.
     pub linger_bytes: usize,
@@ -20,11 +21,12 @@ pub struct TcpLimits {
     pub tries: u32,
 }
 
-/// The limits of a server: accepting is tried for a minute.
+/// The limits of a server. None of the first three is longer than the system's queue of 128 connections has
+/// room for where ten come in a second. Accepting is tried for a minute.
 pub const TCP_LIMITS: TcpLimits = TcpLimits {
-    idle: 5_000,
-    request: 20_000,
-    write: 20_000,
+    idle: 2_000,
+    request: 10_000,
+    write: 10_000,
     linger: 2_000,
     linger_bytes: 1 << 20,
     retry: 100,

@@ -1,5 +1,5 @@
 //! The half of a connection that is written.
-ghost use Rattle.std.specs.Prelude.{◌≡◌, ◌≤◌, ◌<◌, None, length, IfOk};
+ghost use Rattle.std.specs.Prelude.{◌≡◌, ◌≤◌, ◌<◌, ◌↔◌, None, length, IfOk, IsTrue};
 ghost use Rattle.io_edge.specs.Edge.{nothing_besides};
 
 use crate::limits::{INTERRUPTIONS, TcpLimits, is_interrupted};
@@ -60,6 +60,13 @@ impl<R: Clock> TcpSink<R> {
             written,
             failed: 0,
         }
+    }
+
+    /// Whether a call has failed: the client has left, or takes nothing.
+    pub(crate) fn has_failed(&self) -> bool
+        ensures value { IsTrue result ↔ (0 < self.now.failed) }
+    {
+        self.failed > 0
     }
 
     /// Writes a piece from the front, whole or not at all.

@@ -33,10 +33,11 @@ impl<R: Clock> TcpSource<R> {
         }
     }
 
-    /// Ends what is sent and reads on for a while, unless the end was read, so that the last answer isn't
-    /// lost.
+    /// Ends what is sent and reads on for a while, so that the last answer isn't lost. Not where the end was
+    /// read, and not where a read failed: then all that had come was read, and what was answered before that
+    /// read has had its time.
     pub(crate) fn linger(&mut self) {
-        if !self.ended && self.stream.shutdown(Shutdown::Write).is_ok() {
+        if !self.ended && self.failed == 0 && self.stream.shutdown(Shutdown::Write).is_ok() {
             if let Ok(end) = self.patience.linger_end() {
                 read_on(&mut self.stream, &self.patience, end);
             }

@@ -10,9 +10,10 @@ use Rattle.tailcfg.specs.declared.patch.Patch.{Patch}
 use Rattle.tailcfg.specs.declared.profile.Profile.{Profile}
 use Rattle.wire_write.specs.Nodes.{host_data, keyed_members, named_members, node_data, patch_data, profile_data}
 use Rattle.wire_write.specs.Parts.{array_data, disco_key_data, endpoint_data, machine_key_data, moment_data, node_key_data, number_data, prefix_data, time_data}
-use Rattle.wire_laws.specs.Nodes.{IsWrittenNode, IsWrittenPatch, IsWrittenProfile}
-use Rattle.wire_laws.specs.Trees.{HaveTrees, FitsWord, IsTree}
-use Rattle.wire_laws.specs.Values.{IsWrittenEndpoint}
+use Rattle.response_values.specs.Nodes.{IsTypedNode, IsTypedPatch, IsTypedProfile}
+use Rattle.response_values.specs.Values.{FitsWord, IsTypedEndpoint}
+use Rattle.wire_laws.specs.Nodes.{IsWrittenNode}
+use Rattle.wire_laws.specs.Trees.{HaveTrees, IsTree}
 use Rattle.wire_laws.proofs.FormLemmas.{Grows, Tells, arrays_grow, arrays_tell, booleans_tell, members_tell, numbers_tell, objects_tell, options_grow, options_tell, strings_tell, texts_grow, texts_tell}
 use Rattle.wire_laws.proofs.MemberLemmas.{Named, optional_grow, optional_tell}
 use Rattle.wire_laws.proofs.ValueForms.{disco_keys_tell, endpoints_tell, machine_keys_tell, moments_tell, node_keys_tell, prefixes_tell, times_tell}
@@ -31,7 +32,7 @@ profiles_tell a b e =
       display = strings_tell a.display b.display display.0 i;
     }
 
-pub profiles_grow : (n : ℕ) → Grows profile_data IsWrittenProfile (suc n)
+pub profiles_grow : (n : ℕ) → Grows profile_data IsTypedProfile (suc n)
 unfolding profile_data
 profiles_grow n p h = (tt, (h, (tt, tt)))
 
@@ -50,13 +51,13 @@ pub always : {X : Type 0} (o : Option X) → IfSome o (λ x. ⊤)
 always None = tt
 always (Some x) = tt
 
-pub patches_tell : Tells patch_data IsWrittenPatch
+pub patches_tell : Tells patch_data IsTypedPatch
 unfolding patch_data
 patches_tell a b p q e =
     let same = optional_tell (patch_list a) (patch_list b) refl refl refl (objects_tell _ _ e) in
     let derp = options_tell number_data FitsWord (λ m n h k. numbers_tell m n) a.derp b.derp p.derp q.derp same.0 in
     let disco = options_tell disco_key_data (λ key. IsBytes key.0) disco_keys_tell a.disco b.disco p.disco q.disco same.1.0 in
-    let endpoints = options_tell (array_data endpoint_data) (AllByRecursion IsWrittenEndpoint) (arrays_tell endpoint_data IsWrittenEndpoint endpoints_tell) a.endpoints b.endpoints p.endpoints q.endpoints same.1.1.0 in
+    let endpoints = options_tell (array_data endpoint_data) (AllByRecursion IsTypedEndpoint) (arrays_tell endpoint_data IsTypedEndpoint endpoints_tell) a.endpoints b.endpoints p.endpoints q.endpoints same.1.1.0 in
     let online = options_tell boolean (λ x. ⊤) (λ x y h k. booleans_tell x y) a.online b.online (always a.online) (always b.online) same.1.1.1.1.0 in
     λ i. record {
       id = some_number a.id b.id same.1.1.1.0 i;
@@ -66,7 +67,7 @@ patches_tell a b p q e =
       online = online i;
     }
 
-pub patches_grow : (n : ℕ) → Grows patch_data IsWrittenPatch (suc (suc n))
+pub patches_grow : (n : ℕ) → Grows patch_data IsTypedPatch (suc (suc n))
 unfolding patch_data disco_key_data endpoint_data
 patches_grow n p h =
     optional_grow (suc n) (patch_list p) (
@@ -74,7 +75,7 @@ patches_grow n p h =
       (
         options_grow disco_key_data (λ key. IsBytes key.0) (suc n) (λ key k. tt) p.disco h.disco,
         (
-          options_grow (array_data endpoint_data) (AllByRecursion IsWrittenEndpoint) (suc n) (arrays_grow endpoint_data IsWrittenEndpoint n (λ e k. tt)) p.endpoints h.endpoints,
+          options_grow (array_data endpoint_data) (AllByRecursion IsTypedEndpoint) (suc n) (arrays_grow endpoint_data IsTypedEndpoint n (λ e k. tt)) p.endpoints h.endpoints,
           (
             h.id,
             (options_grow boolean (λ x. ⊤) (suc n) (λ x k. tt) p.online (always p.online), tt),
@@ -129,9 +130,9 @@ keys_tell a b p q e =
     record {
       host = host_tells a.host b.host host.0;
       id = numbers_tell a.id b.id id.0;
-      key = node_keys_tell a.key b.key p.key q.key key.0;
-      expiry = times_tell a.expiry b.expiry p.expiry q.expiry expiry.0;
-      machine = machine_keys_tell a.machine b.machine p.machine q.machine machine.0;
+      key = node_keys_tell a.key b.key p.0.key q.0.key key.0;
+      expiry = times_tell a.expiry b.expiry p.0.expiry q.0.expiry p.1 q.1 expiry.0;
+      machine = machine_keys_tell a.machine b.machine p.0.machine q.0.machine machine.0;
       rest = names_tell a b machine.1;
     }
 
@@ -150,15 +151,15 @@ nodes_tell a b p q e =
       user = keys.rest.user i;
       key = keys.key i;
       machine = keys.machine i;
-      disco = disco_keys_tell a.disco b.disco p.disco q.disco disco.0 i;
+      disco = disco_keys_tell a.disco b.disco p.0.disco q.0.disco disco.0 i;
       name = keys.rest.name i;
       host = keys.host i;
-      addresses = arrays_tell prefix_data IsBlock prefixes_tell a.addresses b.addresses p.addresses q.addresses addresses.0 i;
-      allowed = arrays_tell prefix_data IsBlock prefixes_tell a.allowed b.allowed p.allowed q.allowed allowed.0 i;
-      endpoints = arrays_tell endpoint_data IsWrittenEndpoint endpoints_tell a.endpoints b.endpoints p.endpoints q.endpoints endpoints.0 i;
+      addresses = arrays_tell prefix_data IsBlock prefixes_tell a.addresses b.addresses p.0.addresses q.0.addresses addresses.0 i;
+      allowed = arrays_tell prefix_data IsBlock prefixes_tell a.allowed b.allowed p.0.allowed q.0.allowed allowed.0 i;
+      endpoints = arrays_tell endpoint_data IsTypedEndpoint endpoints_tell a.endpoints b.endpoints p.0.endpoints q.0.endpoints endpoints.0 i;
       derp = numbers_tell a.derp b.derp derp.0 i;
       tags = keys.rest.tags i;
-      created = moments_tell a.created b.created p.created q.created created.0 i;
+      created = moments_tell a.created b.created p.0.created q.0.created created.0 i;
       expiry = keys.expiry i;
       online = keys.rest.online i;
     }
@@ -168,26 +169,26 @@ unfolding moment_data
 time_grows n None = tt
 time_grows n (Some t) = tt
 
-names_grow : (n : ℕ) (r : NodeRow) → IsWrittenNode r → HaveTrees (suc n) (named_members r)
+names_grow : (n : ℕ) (r : NodeRow) → IsTypedNode r → HaveTrees (suc n) (named_members r)
 names_grow n r h = (tt, (tt, (tt, (tt, (texts_grow n r.tags, (h.user, tt))))))
 
-keys_grow : (n : ℕ) (r : NodeRow) → IsWrittenNode r → HaveTrees (suc n) (keyed_members r)
+keys_grow : (n : ℕ) (r : NodeRow) → IsTypedNode r → HaveTrees (suc n) (keyed_members r)
 unfolding node_key_data machine_key_data
 keys_grow n r h = ((tt, tt), (h.id, (tt, (time_grows (suc n) r.expiry, (tt, names_grow n r h)))))
 
 pub nodes_grow : (n : ℕ) → Grows node_data IsWrittenNode (suc (suc n))
 unfolding node_data disco_key_data endpoint_data prefix_data moment_data
 nodes_grow n r h = (
-  arrays_grow prefix_data IsBlock n (λ p k. tt) r.addresses h.addresses,
+  arrays_grow prefix_data IsBlock n (λ p k. tt) r.addresses h.0.addresses,
   (
-    arrays_grow prefix_data IsBlock n (λ p k. tt) r.allowed h.allowed,
+    arrays_grow prefix_data IsBlock n (λ p k. tt) r.allowed h.0.allowed,
     (
       tt,
       (
         tt,
         (
-          arrays_grow endpoint_data IsWrittenEndpoint n (λ e k. tt) r.endpoints h.endpoints,
-          (h.derp, keys_grow n r h),
+          arrays_grow endpoint_data IsTypedEndpoint n (λ e k. tt) r.endpoints h.0.endpoints,
+          (h.0.derp, keys_grow n r h.0),
         ),
       ),
     ),

@@ -8,7 +8,7 @@ use Rattle.std.specs.declared.cmp.Ordering.TheVariants.{Less, Greater}
 use Rattle.std.proofs.lemmas.Cmp.{nat_list_cmp_total}
 use Rattle.tailcfg.specs.declared.dns.DnsRoute.{DnsRoute}
 use Rattle.wire_write.specs.Routes.{by_suffix, placed}
-use Rattle.wire_laws.specs.Dns.{suffix_cmp}
+use Rattle.settings.specs.Settings.{suffix_cmp}
 
 -- the route's suffix comes behind each of theirs
 abbrev IsBehind : List DnsRoute → DnsRoute → Type 0

@@ -24,7 +24,8 @@ use Rattle.tail_base.specs.declared.key.NodeKey.{NodeKey}
 use Rattle.tail_base.proofs.KeyLemmas.{key_text-injective}
 use Rattle.wire_write.specs.Filters.{span_data, span_text}
 use Rattle.wire_write.specs.Parts.{disco_key_data, endpoint_data, machine_key_data, moment_data, node_key_data, prefix_data, time_data}
-use Rattle.wire_laws.specs.Values.{IsWrittenAddr, IsWrittenEndpoint, IsWrittenExpiry}
+use Rattle.response_values.specs.Values.{IsTypedAddr, IsTypedEndpoint}
+use Rattle.wire_laws.specs.Nodes.{IsLaterMoment}
 use Rattle.wire_laws.proofs.FormLemmas.{Tells, strings_tell}
 
 -- ---- keys
@@ -53,7 +54,7 @@ pub prefixes_tell : Tells prefix_data IsBlock
 unfolding prefix_data
 prefixes_tell a b p q e = prefix_text-injective a b p q (strings_tell _ _ e)
 
-pub endpoints_tell : Tells endpoint_data IsWrittenEndpoint
+pub endpoints_tell : Tells endpoint_data IsTypedEndpoint
 unfolding endpoint_data
 endpoints_tell a b p q e = endpoint_text-injective a b p.addr q.addr p.port q.port (strings_tell _ _ e)
 
@@ -70,15 +71,15 @@ zero_time = refl
 first_is : IsMoment first_moment
 first_is = (omega arith, omega arith)
 
-no_zero_time : (t : ℤ) → IsWrittenExpiry t → codes "0001-01-01T00:00:00Z" ≡ moment_text t → ⊥
-no_zero_time t h e = h.later (sym (moment_text-injective first_moment t first_is h.moment (zero_time ∙ e)))
+no_zero_time : (t : ℤ) → IsMoment t → IsLaterMoment t → codes "0001-01-01T00:00:00Z" ≡ moment_text t → ⊥
+no_zero_time t is later e = later (sym (moment_text-injective first_moment t first_is is (zero_time ∙ e)))
 
-pub times_tell : (o p : Option ℤ) → IfSome o IsWrittenExpiry → IfSome p IsWrittenExpiry → time_data o ≡ time_data p → o ≡ p
+pub times_tell : (o p : Option ℤ) → IfSome o IsMoment → IfSome p IsMoment → IfSome o IsLaterMoment → IfSome p IsLaterMoment → time_data o ≡ time_data p → o ≡ p
 unfolding moment_data
-times_tell None None h k e = refl
-times_tell None (Some t) h k e = absurd (no_zero_time t k (strings_tell _ _ e))
-times_tell (Some t) None h k e = absurd (no_zero_time t h (sym (strings_tell _ _ e)))
-times_tell (Some s) (Some t) h k e = ap Some (moment_text-injective s t h.moment k.moment (strings_tell _ _ e))
+times_tell None None h k l m e = refl
+times_tell None (Some t) h k l m e = absurd (no_zero_time t k m (strings_tell _ _ e))
+times_tell (Some t) None h k l m e = absurd (no_zero_time t h l (sym (strings_tell _ _ e)))
+times_tell (Some s) (Some t) h k l m e = ap Some (moment_text-injective s t h k (strings_tell _ _ e))
 
 -- ---- prefixes of one address
 
@@ -94,7 +95,7 @@ digit_other b h = grind (arith, nat_tests)
 slash_foreign : IsForeign 47
 slash_foreign = record { hex = hex_other; digit = digit_other; colon = refl; dot = refl }
 
-no_slash : (a : Address) → IsWrittenAddr a → list_all (is_other 47) (addr_text a) ≡ true
+no_slash : (a : Address) → IsTypedAddr a → list_all (is_other 47) (addr_text a) ≡ true
 no_slash a h = addr_other 47 slash_foreign (addr_text a) a.v6 a.bits (addr_written a.v6 a.bits h)
 
 a_slash : (xs ys : List ℕ) → list_all (is_other 47) (xs ++ 47 ∷ ys) ≡ true → ⊥
@@ -106,7 +107,7 @@ prefix_slash : (p : Block) → list_all (is_other 47) (prefix_text p) ≡ true �
 prefix_slash p h = a_slash (addr_text p.base) (decimal p.len) (ap (list_all (is_other 47)) (sym (append_assoc (addr_text p.base) (codes "/") (decimal p.len))) ∙ h)
 
 -- an address and a prefix have different texts
-apart : (a : Address) (p : Block) → IsWrittenAddr a → addr_text a ≡ prefix_text p → ⊥
+apart : (a : Address) (p : Block) → IsTypedAddr a → addr_text a ≡ prefix_text p → ⊥
 apart a p h e = prefix_slash p (ap (list_all (is_other 47)) (sym e) ∙ no_slash a h)
 
 -- which of both is written
@@ -135,7 +136,7 @@ unfolding span_data
 spans_tell p q h k e = span_texts_tell p q h k (strings_tell _ _ e)
 
 -- no address is written as `*`
-star_address : (a : Address) → IsWrittenAddr a → codes "*" ≡ addr_text a → ⊥
+star_address : (a : Address) → IsTypedAddr a → codes "*" ≡ addr_text a → ⊥
 star_address a h e =
     let bad = ap addr_of_text e ∙ addr_again a h (addr_text a) refl in
     cc (bad)

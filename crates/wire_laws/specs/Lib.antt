@@ -1,7 +1,5 @@
 pub mod Dns
-pub mod Filters
 pub mod Frames
 pub mod Nodes
 pub mod Responses
 pub mod Trees
-pub mod Values

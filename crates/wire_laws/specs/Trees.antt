@@ -1,10 +1,7 @@
 -- JSON that is told by its text.
-use Rattle.std.specs.Prelude.{◌<◌, ◌^◌, ℕ, zero, suc, ⊤}
+use Rattle.std.specs.Prelude.{ℕ, zero, suc, ⊤}
 use Rattle.serde_json.specs.Data.{Num, unsigned, negative, float, Data, null, boolean, number, string, array, object, Items, no_items, item, Members, no_members, member}
-
--- a number of 64 bits, as each number of a message is
-abbrev pub FitsWord : ℕ → Type 0
-FitsWord n = n < 2 ^ 64
+use Rattle.response_values.specs.Values.{FitsWord}
 
 -- a number of 64 bits, neither below zero nor a float
 abbrev pub IsCount : Num → Type 0

@@ -13,9 +13,10 @@ ghost use Rattle.wire_write.specs.Dns.{dns_data};
 ghost use Rattle.wire_write.specs.Filters.{rule_data};
 ghost use Rattle.wire_write.specs.Nodes.{node_data, patch_data, profile_data};
 ghost use Rattle.wire_write.specs.Responses.{response_text};
+ghost use Rattle.response_values.specs.Filters.{IsTypedRule};
+ghost use Rattle.response_values.specs.Nodes.{IsTypedPatch};
 ghost use Rattle.wire_laws.specs.Dns.{IsWrittenDns};
-ghost use Rattle.wire_laws.specs.Filters.{IsWrittenRule};
-ghost use Rattle.wire_laws.specs.Nodes.{IsWrittenNode, IsWrittenPatch};
+ghost use Rattle.wire_laws.specs.Nodes.{IsWrittenNode};
 ghost use Rattle.wire_laws.specs.Responses.{IsWritten};
 ghost use Rattle.wire_laws.specs.Trees.{IsTree};
 
@@ -31,10 +32,10 @@ pub fn json_texts_differ()
 pub fn forms_differ()
     ensures nodes { (a b : NodeRow) → IsWrittenNode a → IsWrittenNode b
         → node_data a ≡ node_data b → a ≡ b }
-    ensures patches { (a b : Patch) → IsWrittenPatch a → IsWrittenPatch b
+    ensures patches { (a b : Patch) → IsTypedPatch a → IsTypedPatch b
         → patch_data a ≡ patch_data b → a ≡ b }
     ensures profiles { (a b : Profile) → profile_data a ≡ profile_data b → a ≡ b }
-    ensures rules { (a b : FilterRule) → IsWrittenRule a → IsWrittenRule b
+    ensures rules { (a b : FilterRule) → IsTypedRule a → IsTypedRule b
         → rule_data a ≡ rule_data b → a ≡ b }
     ensures dns { (a b : Dns) → IsWrittenDns a → IsWrittenDns b
         → dns_data a ≡ dns_data b → a ≡ b }

@@ -1,6 +1,5 @@
 use Rattle.std.proofs.Common.{◌≡◌, refl, sym, subst, rules, arith, IsTrue}
 use Rattle.net_rows.specs.Rows.{after}
-use Rattle.net_rows.specs.declared.rows.Rows.{Rows}
 use Rattle.sqlite.specs.Effect.{Database}
 use Rattle.sqlite.specs.Held.{state}
 use Rattle.sqlite.specs.State.{HasCleanDisk, Survives}
@@ -8,7 +7,7 @@ use Rattle.sqlite.specs.Tree.{Trees}
 use Rattle.sqlite.proofs.Callers.{survives_begin}
 use Rattle.sqlite.proofs.StateLemmas.{survives_then}
 use Rattle.store_commits.proofs.Pending.{opened_err}
-use Rattle.store_commits.specs.Kept.{AreStored, HoldsMade, Keeps}
+use Rattle.store_commits.specs.Kept.{AreStored, HoldsChange, Keeps}
 use Rattle.store_commits.proofs.commits.commit.Goals as goal
 
 pub returns-clause-made : goal.returns-clause-made
@@ -25,12 +24,15 @@ returns-clause-crash g c =
     let old = c.args.conn.now in
     let last = c.write.new.tx.conn.now in
     let end = c.commit.new.self.0 in
-    let P = HoldsMade (state g.S.Store old).now (λ (rows : Rows). after rows c.args.change.now) in
+    let P = HoldsChange (state g.S.Store old).now c.args.change.now in
     let inside : Survives (state g.S.Store c.transaction-tx.result.conn.now) (state g.S.Store last) (λ _. ⊥) = c.write.ensures.pending.survives in
     let whole = survives_then (state g.S.Store old) (state g.S.Store last) (state g.S.Store end) _ _ P (λ _ db none. absurd none)
-    (λ clean db is rows keeps.
+    (λ clean db is.
     let made = rw c.transaction-tx.ensures.begun at (c.in_ok-write.ensures.made (omega (arith, c.commit.ensures.survives.clean))) in
-    subst (λ (t : Trees). AreStored t (after rows c.args.change.now)) (sym is) (made rows keeps).stored)
+    record {
+      made = λ rows keeps. subst (λ (t : Trees). AreStored t (after rows c.args.change.now)) (sym is) (made rows keeps).stored;
+      readable = c.in_ok-write.ensures.readable;
+    })
     (survives_begin g.S.Store old (state g.S.Store last) _ (rw c.transaction-tx.ensures.begun at inside)) c.commit.ensures.survives in
     let same : end ≡ c.conn-2-1.given.0 = search rules in
     subst (λ h. Survives (state g.S.Store old) (state g.S.Store h) P) same whole
@@ -40,12 +42,15 @@ returns-in_err-commit-clause-crash g c =
     let old = c.args.conn.now in
     let last = c.write.new.tx.conn.now in
     let end = c.commit.new.self.0 in
-    let P = HoldsMade (state g.S.Store old).now (λ (rows : Rows). after rows c.args.change.now) in
+    let P = HoldsChange (state g.S.Store old).now c.args.change.now in
     let inside : Survives (state g.S.Store c.transaction-tx.result.conn.now) (state g.S.Store last) (λ _. ⊥) = c.write.ensures.pending.survives in
     let whole = survives_then (state g.S.Store old) (state g.S.Store last) (state g.S.Store end) _ _ P (λ _ db none. absurd none)
-    (λ clean db is rows keeps.
+    (λ clean db is.
     let made = rw c.transaction-tx.ensures.begun at (c.in_ok-write.ensures.made (omega (arith, c.commit.ensures.survives.clean))) in
-    subst (λ (t : Trees). AreStored t (after rows c.args.change.now)) (sym is) (made rows keeps).stored)
+    record {
+      made = λ rows keeps. subst (λ (t : Trees). AreStored t (after rows c.args.change.now)) (sym is) (made rows keeps).stored;
+      readable = c.in_ok-write.ensures.readable;
+    })
     (survives_begin g.S.Store old (state g.S.Store last) _ (rw c.transaction-tx.ensures.begun at inside)) c.commit.ensures.survives in
     let same : end ≡ c.conn-2-1.given.0 = search rules in
     subst (λ h. Survives (state g.S.Store old) (state g.S.Store h) P) same whole

@@ -1,6 +1,8 @@
 use Rattle.std.proofs.Common.{sym, subst}
 use Rattle.server_settings.specs.ServerRules.{AreServerSettings}
-use Rattle.settings.specs.Settings.{AreSettings}
+use Rattle.std.specs.List.Sorted.{IsStrictlySortedBy}
+use Rattle.settings.specs.Settings.{AreSettings, suffix_cmp}
+use Rattle.settings.specs.declared.fields.SettingsFields.{SettingsFields}
 use Rattle.toml.specs.Data.{Members}
 use Rattle.toml.specs.View.{table_view}
 use Rattle.tail_words.proofs.FieldLemmas.{base_domain_in, server_fits, server_url_in, tailnet_fits, token_in}
@@ -10,7 +12,9 @@ pub new-tailnet-requires : goal.new-tailnet-requires
 new-tailnet-requires c =
     let table : Members = table_view c.args.table.now in
     let base = base_domain_in table _ c.in_ok-base_domain.ensures.value in
-    record { rules = subst AreSettings (sym c.in_ok-tailnet_fields_of.ensures.value) (tailnet_fits _ table base) }
+    let made = c.in_ok-tailnet_fields_of.ensures.value in
+    let suffixes = subst (λ (s : SettingsFields). IsStrictlySortedBy suffix_cmp s.dns.routes) made c.in_ok-tailnet_fields_of.ensures.suffixes in
+    record { rules = subst AreSettings (sym made) (tailnet_fits _ table base suffixes) }
 
 pub new-server-requires : goal.new-server-requires
 new-server-requires c =

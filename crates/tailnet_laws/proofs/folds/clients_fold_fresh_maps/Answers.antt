@@ -1,7 +1,7 @@
 use Rattle.net_rows.proofs.Sounds.{no_damage}
-use Rattle.tailnet_laws.specs.Sessions.{sent_to}
+use Rattle.tailnet_desk.specs.Sessions.{sent_to}
 use Rattle.tailnet_laws.proofs.Following.{legal_followed, opening_followed}
-use Rattle.tailnet_laws.proofs.SessionRules.{sent_held}
+use Rattle.tailnet_desk.proofs.SessionRules.{sent_held}
 use Rattle.tailnet_laws.proofs.folds.clients_fold_fresh_maps.Goals as goal
 
 pub returns : goal.returns

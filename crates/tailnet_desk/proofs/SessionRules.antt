@@ -30,7 +30,7 @@ use Rattle.desk_state.proofs.TextLemmas.{names_one, row_text_names}
 use Rattle.machine_asks.specs.Attach.{attached_state, new_session, session_begun, session_taken_up}
 use Rattle.machine_asks.specs.Drain.{drained_state, session_at}
 use Rattle.tailnet_desk.specs.Step.{left_after, sessions_after, settled}
-use Rattle.tailnet_laws.specs.Sessions.{AreHeld, AreSoundSessions, IsGiven, sent_to}
+use Rattle.tailnet_desk.specs.Sessions.{AreHeld, AreSoundSessions, IsGiven, sent_to}
 
 -- Sessions keep their rules, and clients have what was sent to them.
 pub record AreKept (s : State) (maps : List ℕ → Option View) : Type 0 where

@@ -20,17 +20,20 @@ pub record IsGiven (next : ℕ) (handle : List ℕ) : Type 0 where
   pub small : number < 2 ^ 63
   pub is : handle ≡ session_handle number words
 
--- Sessions rise by the ids of their machines, each has a handle that was given, no two have the same, the map that was
--- sent is in order and of the settings' domain, and where none was sent the last number is 0.
-pub record AreSoundSessions (s : State) : Type 0 where
-  pub rise : IsAscending (λ (x : Session). x.id) s.sessions
-  pub given : (k : ℕ) (x : Session) → session_of s.sessions k ≡ Some x → IsGiven s.next_session x.handle
-  pub apart : (j k : ℕ) (x y : Session) → session_of s.sessions j ≡ Some x → session_of s.sessions k ≡ Some y
+-- Under a domain and a number that is next: sessions rise by the ids of their machines, each has a handle that was given,
+-- no two have the same, the map that was sent is in order and of the domain, and where none was sent the last number is 0.
+pub record KeepSessionRules (base : List ℕ) (next : ℕ) (sessions : List Session) : Type 0 where
+  pub rise : IsAscending (λ (x : Session). x.id) sessions
+  pub given : (k : ℕ) (x : Session) → session_of sessions k ≡ Some x → IsGiven next x.handle
+  pub apart : (j k : ℕ) (x y : Session) → session_of sessions j ≡ Some x → session_of sessions k ≡ Some y
       → x.handle ≡ y.handle → j ≡ k
-  pub order : (k : ℕ) (x : Session) (map : View) → session_of s.sessions k ≡ Some x → x.sent ≡ Some map → IsInOrder map
-  pub domain : (k : ℕ) (x : Session) (map : View) → session_of s.sessions k ≡ Some x → x.sent ≡ Some map
-      → map.domain ≡ s.settings.base_domain
-  pub unsent : (k : ℕ) (x : Session) → session_of s.sessions k ≡ Some x → x.sent ≡ None → x.seq ≡ 0
+  pub order : (k : ℕ) (x : Session) (map : View) → session_of sessions k ≡ Some x → x.sent ≡ Some map → IsInOrder map
+  pub domain : (k : ℕ) (x : Session) (map : View) → session_of sessions k ≡ Some x → x.sent ≡ Some map → map.domain ≡ base
+  pub unsent : (k : ℕ) (x : Session) → session_of sessions k ≡ Some x → x.sent ≡ None → x.seq ≡ 0
+
+-- the sessions of a state keep these rules under its domain
+abbrev pub AreSoundSessions : State → Type 0
+AreSoundSessions s = KeepSessionRules s.settings.base_domain s.next_session s.sessions
 
 -- the reply begins a session under this handle
 abbrev pub IsBegunUnder : List ℕ → Reply → Type 0

@@ -6,21 +6,21 @@ use Rattle.tailcfg.specs.declared.filter.DestRange.{DestRange}
 use Rattle.tailcfg.specs.declared.filter.FilterRule.{FilterRule}
 use Rattle.tailcfg.specs.declared.filter.Sources.{Sources}
 use Rattle.tailcfg.specs.declared.filter.Sources.TheVariants.{Any, Only}
-use Rattle.wire_laws.specs.Trees.{FitsWord}
+use Rattle.response_values.specs.Values.{FitsWord}
 
 -- a prefix, and numbers of ports
-pub record IsWrittenDest (d : DestRange) : Type 0 where
+pub record IsTypedDest (d : DestRange) : Type 0 where
   pub to : IsBlock d.to
   pub first : FitsWord d.ports.first
   pub last : FitsWord d.ports.last
 
 -- every address, or prefixes
-abbrev pub AreWrittenSources : Sources → Type 0
-AreWrittenSources Any = ⊤
-AreWrittenSources (Only ps) = AllByRecursion IsBlock ps
+abbrev pub AreTypedSources : Sources → Type 0
+AreTypedSources Any = ⊤
+AreTypedSources (Only ps) = AllByRecursion IsBlock ps
 
 -- The fields have values of their types.
-pub record IsWrittenRule (r : FilterRule) : Type 0 where
-  pub sources : AreWrittenSources r.sources
-  pub dests : AllByRecursion IsWrittenDest r.dests
+pub record IsTypedRule (r : FilterRule) : Type 0 where
+  pub sources : AreTypedSources r.sources
+  pub dests : AllByRecursion IsTypedDest r.dests
   pub protos : AllByRecursion FitsWord r.protos

@@ -7,7 +7,7 @@ use Rattle.tailnet_desk.specs.Step.{decision}
 use Rattle.tailnet_desk.proofs.CrashLemmas.{carried_safe}
 use Rattle.tailnet_desk.proofs.Decisions.{decision_in_force, decision_sound}
 use Rattle.tailnet_desk.proofs.TurnLemmas.{at_later, carried_at, each_holds, each_of, state_with}
-use Rattle.tailnet_desk.proofs.desk.Desk.asked.Goals as goal
+use Rattle.tailnet_desk.proofs.desk.Desk.ask_at.Goals as goal
 
 pub carry-requires : goal.carry-requires
 carry-requires g c =
