@@ -12,7 +12,7 @@ use http::StatusCode;
 use path_routes::text_of;
 use policy_asks::PolicyAsk;
 use std::alloc::Global;
-use tail_base::{Bytes, Failure, NoMemory, Text};
+use tail_base::{Bytes, Failure, NoMemory, Text, is_same_secret};
 use tailnet_desk::Ask;
 use wire_admin::{
     AdmitForm, read_admit_form, read_empty_form, read_expiry_form, read_extras_form, read_key_form,
@@ -28,7 +28,7 @@ pub(crate) fn is_authorized(token: &Text, given: &Option<Bytes>) -> bool
         None => false,
         Some(given) => match given.as_slice().strip_prefix(b"Bearer ") {
             None => false,
-            Some(rest) => rest == token.as_slice(),
+            Some(rest) => is_same_secret(rest, token.as_slice()),
         },
     }
 }

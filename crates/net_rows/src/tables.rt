@@ -18,7 +18,7 @@ use crate::shelf::row_of;
 use crate::user::User;
 use std::alloc::Global;
 use std::marker::Model;
-use tail_base::{Duplicate, MachineKey, NoMemory, Text};
+use tail_base::{Duplicate, MachineKey, NoMemory, Text, is_same_secret};
 use tailcfg::DnsExtra;
 
 /// The tables of a tailnet: rows without damage, and spare places. Only `reserve` and the condition of
@@ -177,11 +177,13 @@ impl Tables {
         row_of(self.lists.keys(), id)
     }
 
-    /// The pre-auth key of a text.
+    /// The pre-auth key of a text. Each text is compared in a time that doesn't tell where they differ.
     pub fn key_of(&self, text: &str) -> Option<&AuthKey>
         ensures value { option_copied result ≡ key_of self.now.rows.keys text.now }
     {
-        self.keys().iter().find(|row| row.text.as_str() == text)
+        self.keys()
+            .iter()
+            .find(|row| is_same_secret(row.text.as_slice(), text.as_bytes()))
     }
 
     /// The pending entry of a machine key.
