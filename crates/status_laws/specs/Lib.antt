@@ -1,0 +1,3 @@
+pub mod Causes
+pub mod Complete
+pub mod Answers
