@@ -1,5 +1,5 @@
 -- Each status of each command has its cause.
-use Rattle.std.proofs.Common.{◌≡◌, ◌⊎◌, ◌≤◌, ◌<◌, ℕ, Bool, true, false, Option, None, Some, List, [], length, Result, Ok, Err, inl, inr, refl, sym, ap, ◌∙◌, subst, if◌then◌else◌}
+use Rattle.std.proofs.Common.{◌≡◌, ◌⊎◌, ◌≤◌, ◌<◌, ℕ, Bool, true, false, Option, None, Some, List, [], length, Result, Ok, Err, inl, inr, refl, sym, ap, ◌∙◌, subst, arith, if◌then◌else◌}
 use Rattle.std.specs.Prelude.{IfSome, IsSomeAnd}
 use Rattle.io_edge.specs.Edge.{Counted, IsWhereTold, Rose}
 use Rattle.io_edge.specs.Linked.{LinkTold}
@@ -81,12 +81,12 @@ serve_caused s name old new o = subst (λ (x : Status). ServeCause x name old ne
 -- ---- `explain` and `reach`
 
 -- how an answer ended whose writing failed or not
-written_as : Bool → Ended
+abbrev written_as : Bool → Ended
 written_as failed = ended.Closed (if failed then closed.WriteFault else closed.End)
 
 never_closed : (c : Closed) (failed : Bool) → ended.Closed c ≡ written_as failed → (c ≡ closed.End) ⊎ ((c ≡ closed.WriteFault) × (failed ≡ true))
-never_closed c true e = inr (cc, refl)
-never_closed c false e = inl (cc)
+never_closed c true e = let same : ended.Closed c ≡ ended.Closed closed.WriteFault = e in inr (cc, refl)
+never_closed c false e = let same : ended.Closed c ≡ ended.Closed closed.End = e in inl (cc)
 
 explain_ended : (e : Ended) (question : Question) (name : List ℕ) (old new : Outside) → Explained e question name old new → ExplainCause (status_of e) question name old new
 explain_ended (ended.Closed closed.End) question name old new p = p
