@@ -1,8 +1,8 @@
 -- What answers name as failed has counted it.
-use Rattle.std.proofs.Common.{◌≡◌, ◌≤◌, ◌+◌, ℕ, true, None, List, [], ◌∷◌, inl, inr, ap, ◌∙◌, subst, arith}
+use Rattle.std.proofs.Common.{◌≡◌, ◌≤◌, true, List, [], ◌∷◌, inl, inr, ap, ◌∙◌, subst, arith}
 use Rattle.io_edge.specs.Edge.{Rose}
 use Rattle.io_edge.proofs.Told.{rose_earlier, rose_later}
-use Rattle.connections.specs.Tellings.{Giving, TurnsTook, count_failed, failed_draws, failed_for}
+use Rattle.connections.specs.Tellings.{count_failed, failed_draws, failed_for}
 use Rattle.tailnet_desk.specs.Asks.{event_words}
 use Rattle.tailnet_desk.specs.Chains.{Chain, Turned}
 use Rattle.tailnet_desk.specs.History.{IsReply}

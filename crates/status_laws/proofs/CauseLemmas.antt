@@ -1,14 +1,11 @@
 -- Each status of each command has its cause.
-use Rattle.std.proofs.Common.{◌≡◌, ◌⊎◌, ◌≤◌, ◌<◌, ℕ, Bool, true, false, Option, None, Some, List, [], length, Result, Ok, Err, inl, inr, refl, sym, ap, ◌∙◌, subst, arith, if◌then◌else◌}
+use Rattle.std.proofs.Common.{◌≡◌, ◌⊎◌, ◌≤◌, ℕ, Bool, true, false, Option, None, Some, List, length, Result, Ok, Err, inl, inr, refl, sym, subst, arith, if◌then◌else◌}
 use Rattle.std.specs.Prelude.{IfSome, IsSomeAnd}
-use Rattle.io_edge.specs.Edge.{Counted, IsWhereTold, Rose}
-use Rattle.io_edge.specs.Linked.{LinkTold}
 use Rattle.io_edge.proofs.Told.{rose_earlier}
 use Rattle.command_words.specs.declared.invocation.Invocation.{Invocation}
 use Rattle.command_words.specs.declared.invocation.Invocation.TheVariants as asked
 use Rattle.command_words.specs.declared.invocation.OperatorCall.{OperatorCall}
 use Rattle.exit_status.specs.Lines.{Noted}
-use Rattle.exit_status.specs.Pieces.{Wrote}
 use Rattle.exit_status.specs.Statuses.{status_of}
 use Rattle.exit_status.specs.declared.closed.Closed.{Closed}
 use Rattle.exit_status.specs.declared.closed.Closed.TheVariants as closed
@@ -16,7 +13,7 @@ use Rattle.exit_status.specs.declared.ended.Ended.{Ended}
 use Rattle.exit_status.specs.declared.ended.Ended.TheVariants as ended
 use Rattle.exit_status.specs.declared.status.Status.{Status}
 use Rattle.exit_status.specs.declared.status.Status.TheVariants as status
-use Rattle.explain_commands.specs.Explained.{ExplainOutcome, Explained, IsAnswerWritten}
+use Rattle.explain_commands.specs.Explained.{ExplainOutcome, Explained}
 use Rattle.explain_commands.specs.declared.question.Question.{Question}
 use Rattle.explain_commands.specs.declared.question.Question.TheVariants as question
 use Rattle.http_client.specs.declared.answer.ServerAnswer.{ServerAnswer}
@@ -25,19 +22,18 @@ use Rattle.load_run.specs.declared.task.LoadPlan.{LoadPlan}
 use Rattle.operator_commands.specs.Exchange.{Exchanged, IsAnswerRead, IsConnected, ReadNone, ReadWhole, call_bytes}
 use Rattle.operator_commands.specs.Filed.{IsFileRead}
 use Rattle.operator_commands.specs.Operated.{IsAskedAfter, IsEndOf, IsToldAs, Operated, ServerAsked, SinkPoint, is_success, status_unanswered}
-use Rattle.operator_commands.specs.declared.filing.TheConstants.{SENT_LIMIT}
 use Rattle.operator_commands.specs.declared.unanswered.Unanswered.{Unanswered}
 use Rattle.operator_commands.specs.declared.unanswered.Unanswered.TheVariants as fault
 use Rattle.operator_requests.specs.Requests.{file_of}
 use Rattle.policy_rows.specs.declared.fault.PolicyFault.{PolicyFault}
-use Rattle.tailnet_commands.specs.Check.{Checked, Judged, verdict_of, verdict_status}
+use Rattle.tailnet_commands.specs.Check.{Checked, verdict_of, verdict_status}
 use Rattle.tailnet_commands.specs.Outside.{Outside}
 use Rattle.tailnet_commands.specs.Pipe.{Outcome, Piped}
 use Rattle.tailnet_commands.specs.declared.limits.TheConstants.{FILE_LIMIT}
 use Rattle.tailnet_serve.specs.Serve.{ServeDone, ServeOutcome, serve_status}
 use Rattle.tailnet_serve.specs.declared.serve_end.ServeEnd.{ServeEnd}
 use Rattle.tailnet_serve.specs.declared.serve_end.ServeEnd.TheVariants as end
-use Rattle.top_call.specs.Top.{Top, operator_point_of}
+use Rattle.top_call.specs.Top.{operator_point_of}
 use Rattle.status_laws.specs.Causes.{CheckCause, ExplainCause, HasRisen, HaveCauses, HasGivenAnswer, HasItsCause, IsSentTooLarge, LoadCause, OperatorCause, PipeCause, ServeCause}
 
 -- ---- `pipe`

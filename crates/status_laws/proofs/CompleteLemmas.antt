@@ -1,7 +1,6 @@
 -- Commands in whose way nothing stands end well.
-use Rattle.std.proofs.Common.{◌≡◌, ◌⊎◌, ◌≤◌, ◌<◌, ℕ, Bool, true, false, Option, None, Some, List, [], ◌++◌, length, Result, Ok, Err, inl, inr, refl, sym, ap, ◌∙◌, subst, arith, if◌then◌else◌, append-nil}
+use Rattle.std.proofs.Common.{◌≡◌, ◌⊎◌, ◌≤◌, ℕ, Bool, true, false, Option, None, Some, List, [], ◌++◌, length, Result, inl, inr, refl, sym, ap, ◌∙◌, subst, arith, if◌then◌else◌, append-nil}
 use Rattle.std.specs.Prelude.{IfSome, IsSomeAnd}
-use Rattle.io_edge.specs.Edge.{IsWhereTold, and_then_left}
 use Rattle.command_words.specs.declared.invocation.Invocation.TheVariants as asked
 use Rattle.command_words.specs.declared.invocation.OperatorCall.{OperatorCall}
 use Rattle.exit_status.specs.declared.status.Status.{Status}
@@ -11,14 +10,12 @@ use Rattle.http_client.specs.declared.answer.ServerAnswer.{ServerAnswer}
 use Rattle.http_client.proofs.AnswerLaws.{bad_stays, whole_once, whole_or_bad, whole_or_part, whole_stays}
 use Rattle.operator_commands.specs.Exchange.{ReadNone, ReadWhole}
 use Rattle.operator_commands.specs.Operated.{is_success}
-use Rattle.operator_commands.specs.declared.filing.TheConstants.{SENT_LIMIT}
 use Rattle.operator_requests.specs.Requests.{file_of}
 use Rattle.policy_rows.specs.declared.fault.PolicyFault.{PolicyFault}
 use Rattle.tailnet_commands.specs.Check.{Checked, verdict_of, verdict_status}
 use Rattle.tailnet_commands.specs.Outside.{Outside}
 use Rattle.tailnet_commands.specs.declared.limits.TheConstants.{FILE_LIMIT}
 use Rattle.tailnet_commands.proofs.CompleteLemmas.{rest_of}
-use Rattle.top_call.specs.Top.{Top}
 use Rattle.status_laws.specs.Causes.{HasRisen, IsSentTooLarge, LoadCause, OperatorCause}
 use Rattle.status_laws.specs.Complete.{EndsWith, IsAnswerable, IsCheckable, IsCheckingComplete, IsLoadingComplete, IsOperatingComplete, IsSendable}
 use Rattle.status_laws.proofs.CauseLemmas.{have_causes}
