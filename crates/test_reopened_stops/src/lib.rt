@@ -1,0 +1,9 @@
+//! Tests of a desk over a database whose disks stop, and stop again while it is opened.
+#![tactic(auto)]
+
+#[cfg(test)]
+mod reopening;
+#[cfg(test)]
+mod small_pages;
+#[cfg(test)]
+mod starts;
