@@ -1,7 +1,6 @@
 //! Each call of both disks fails once.
-use crate::failing_once::{Hiccup, HiccupEnd, hiccups};
 use harness_disks::{CallKind, Image};
-use harness_stops::{KINDS, Script};
+use harness_stops::{Hiccup, HiccupEnd, KINDS, Script, hiccups};
 use std::test::Fail;
 
 /// The asks in which a sync failed are lost with all behind them. Those in which another call failed are lost alone, or so,

@@ -3,5 +3,3 @@
 
 #[cfg(test)]
 mod failed_once;
-#[cfg(test)]
-mod failing_once;

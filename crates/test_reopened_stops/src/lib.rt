@@ -2,8 +2,4 @@
 #![tactic(auto)]
 
 #[cfg(test)]
-mod reopening;
-#[cfg(test)]
-mod small_pages;
-#[cfg(test)]
 mod starts;

@@ -1,8 +1,6 @@
 //! The start behind a stop stops at each of its own calls.
-use crate::reopening::{Chosen, SecondStops, second_stops};
-use crate::small_pages::small_pages;
 use harness_disks::{CallKind, Image};
-use harness_stops::{Ending, KINDS, MANY, Script};
+use harness_stops::{Chosen, Ending, KINDS, MANY, Script, SecondStops, second_stops, small_pages};
 use std::ops::Range;
 use std::test::Fail;
 
