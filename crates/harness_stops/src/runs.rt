@@ -20,9 +20,9 @@ fn options() -> Options {
 
 /// What is asked, and how it goes on behind a fault.
 #[derive(Clone, Copy)]
-pub(crate) struct Asked<'a> {
-    pub(crate) asks: &'a [&'a str],
-    pub(crate) manner: Manner,
+pub struct Asked<'a> {
+    pub asks: &'a [&'a str],
+    pub manner: Manner,
 }
 
 /// The asks over a database.
@@ -94,26 +94,26 @@ fn run_over<D: Disk + Drop>(
 
 /// What was seen of a run, and its disks.
 #[derive(Drop)]
-pub(crate) struct Run {
-    pub(crate) seen: DeskRun,
+pub struct Run {
+    pub seen: DeskRun,
     files: Files<Faulty<Recorded>>,
 }
 
 impl Run {
     /// The call that failed, if one did.
-    pub(crate) fn failed(&self) -> Option<FailedCall> {
+    pub fn failed(&self) -> Option<FailedCall> {
         self.files.log.failed()
     }
 
     /// What is left of the disks.
-    pub(crate) fn image(&self, alloc: Global, left: Left) -> Result<Image, Fail> {
+    pub fn image(&self, alloc: Global, left: Left) -> Result<Image, Fail> {
         Ok(Image::left_on(alloc, &self.files, left)?)
     }
 }
 
 /// A run over disks that hold this and fail so. It is the one place that calls `run_over` at them, since a call at a
 /// type this large costs a proof half a minute.
-pub(crate) fn run_from(
+pub fn run_from(
     alloc: Global,
     front: &Front,
     image: &Image,

@@ -7,7 +7,7 @@ use std::test::Fail;
 /// What is asked, one ask after the other.
 #[derive(Drop)]
 pub struct Script {
-    pub(crate) front: Front,
+    pub front: Front,
     asks: Vec<&'static str>,
     /// The tables before the asks and behind each of them, as texts, as a desk in memory has them.
     texts: Vec<String>,

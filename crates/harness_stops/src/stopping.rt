@@ -7,7 +7,7 @@ use std::alloc::Global;
 use std::test::Fail;
 
 /// What may be left of the disks behind a stop.
-pub(crate) const LEFTS: [Left; 4] = [
+pub const LEFTS: [Left; 4] = [
     Left::Written,
     Left::Synced,
     Left::EverySecond { has_first: true },
@@ -50,7 +50,7 @@ pub(crate) fn count_done(answers: &[ReplyKind]) -> usize {
 
 /// The outcome of a run that ends at its first fault. None if the tables were damaged, or an ask wasn't done
 /// whose keeper didn't fail.
-pub(crate) fn ending_of(seen: &DeskRun) -> Option<Ending> {
+pub fn ending_of(seen: &DeskRun) -> Option<Ending> {
     let done = count_done(seen.answers.as_slice());
     match seen.reached {
         Reached::Unopened => Some(Ending::Unopened),
@@ -68,7 +68,7 @@ pub(crate) fn ending_of(seen: &DeskRun) -> Option<Ending> {
 
 impl Ending {
     /// How many asks of a script were acknowledged.
-    pub(crate) fn done(self, script: &Script) -> usize {
+    pub fn done(self, script: &Script) -> usize {
         match self {
             Ending::Unopened => 0,
             Ending::Stopped(done) => done,
@@ -87,7 +87,7 @@ impl Ending {
 
 /// What a start finds.
 #[derive(Clone, Copy, PartialEq, Eq, Drop)]
-pub(crate) enum StartFinds {
+pub enum StartFinds {
     /// The tables behind all that was acknowledged.
     Acknowledged,
     /// Those behind the ask that was under way, too.
@@ -96,7 +96,7 @@ pub(crate) enum StartFinds {
 }
 
 /// What a start finds behind such an ending.
-pub(crate) fn found_by(script: &Script, ending: Ending, seen: &DeskRun) -> StartFinds {
+pub fn found_by(script: &Script, ending: Ending, seen: &DeskRun) -> StartFinds {
     let done = ending.done(script);
     match &seen.found {
         Some(text) if script.is_text(done, text) => StartFinds::Acknowledged,
@@ -130,7 +130,7 @@ fn has_gone_on(script: &Script, ending: Ending, seen: &DeskRun) -> bool {
 
 /// Whether a new start over these disks finds what it may behind such an ending, and goes on from there to the
 /// last tables.
-pub(crate) fn goes_on(
+pub fn goes_on(
     alloc: Global,
     script: &Script,
     ending: Ending,
@@ -156,7 +156,7 @@ fn all_go_on(alloc: Global, script: &Script, ending: Ending, run: &Run) -> Resul
 }
 
 /// A run from these disks that stops so.
-pub(crate) fn stopped(
+pub fn stopped(
     alloc: Global,
     script: &Script,
     image: &Image,
@@ -170,7 +170,7 @@ pub(crate) fn stopped(
 }
 
 /// Whether a stop of this kind is the same as one before the call.
-fn is_tried_elsewhere(fault: DiskFault, failed: FailedCall) -> bool {
+pub fn is_tried_elsewhere(fault: DiskFault, failed: FailedCall) -> bool {
     fault == DiskFault::HalfWritten && failed.kind != CallKind::Write
 }
 

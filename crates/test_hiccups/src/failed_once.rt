@@ -1,6 +1,7 @@
 //! Each call of both disks fails once.
 use harness_disks::{CallKind, Image};
-use harness_stops::{Hiccup, HiccupEnd, KINDS, Script, hiccups};
+use harness_faults::{Hiccup, HiccupEnd, hiccups};
+use harness_stops::{KINDS, Script};
 use std::test::Fail;
 
 /// The asks in which a sync failed are lost with all behind them. Those in which another call failed are lost alone, or so,

@@ -1,6 +1,7 @@
 //! The start behind a stop stops at each of its own calls.
 use harness_disks::{CallKind, Image};
-use harness_stops::{Chosen, Ending, KINDS, MANY, Script, SecondStops, second_stops, small_pages};
+use harness_faults::{Chosen, SecondStops, second_stops, small_pages};
+use harness_stops::{Ending, KINDS, MANY, Script};
 use std::ops::Range;
 use std::test::Fail;
 

@@ -1,9 +1,9 @@
 //! A stop of a start over disks that a stop left, and what the start behind it finds.
-use crate::runs::{Asked, Run, run_from};
-use crate::script::Script;
-use crate::stopping::{Ending, LEFTS, MANY, StartFinds, ending_of, found_by, stopped};
 use harness_desk::{DeskRun, Manner, Reached};
 use harness_disks::{CallKind, DiskFault, Disks, FailedCall, FaultPlan, Image};
+use harness_stops::{
+    Asked, Ending, LEFTS, MANY, Run, Script, StartFinds, ending_of, found_by, run_from, stopped,
+};
 use std::alloc::Global;
 use std::ops::Range;
 use std::test::Fail;

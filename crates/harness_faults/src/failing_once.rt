@@ -1,9 +1,7 @@
 //! Runs in which one call fails and all others pass, and what a new start finds behind them.
-use crate::runs::{Asked, Run, run_from};
-use crate::script::Script;
-use crate::stopping::{Ending, LEFTS, MANY, goes_on};
 use harness_desk::{DeskRun, LAST_CHANGE, Manner, QUESTION, Reached, ReplyKind, asked_in_memory};
 use harness_disks::{DiskFault, Disks, FailedCall, FaultPlan, Image};
+use harness_stops::{Asked, Ending, LEFTS, MANY, Run, Script, goes_on, run_from};
 use std::alloc::Global;
 use std::test::Fail;
 use tail_base::NoMemory;
