@@ -195,15 +195,23 @@ fn limits_of_lists_before_elements(rt: HostRuntime) -> Result<(), Fail> {
     Ok(())
 }
 
-/// What a text of so many spaces results in.
-fn blanks_come_to(alloc: Global, count: usize, want: &str) -> Result<bool, Fail> {
-    let blanks = vec![in alloc; b' '; count]?;
-    Ok(comes_to(alloc, &blanks, want))
+/// What a text of one byte, so many times, results in.
+fn bytes_come_to(alloc: Global, byte: u8, count: usize, want: &str) -> Result<bool, Fail> {
+    let bytes = vec![in alloc; byte; count]?;
+    Ok(comes_to(alloc, &bytes, want))
 }
 
 #[test]
 fn long_texts(rt: HostRuntime) -> Result<(), Fail> {
-    assert!(rt; blanks_come_to(rt.alloc(), 262144, "P1 json")?);
-    assert!(rt; blanks_come_to(rt.alloc(), 262145, "P19 text")?);
+    assert!(rt; bytes_come_to(rt.alloc(), b' ', 262144, "P1 json")?);
+    assert!(rt; bytes_come_to(rt.alloc(), b' ', 262145, "P19 text")?);
+    Ok(())
+}
+
+/// A text that opens a list with each byte: it nests no deeper than a reader of JSON goes.
+#[test]
+fn deep_texts(rt: HostRuntime) -> Result<(), Fail> {
+    assert!(rt; bytes_come_to(rt.alloc(), b'[', 200, "P1 json")?);
+    assert!(rt; bytes_come_to(rt.alloc(), b'[', 262144, "P1 json")?);
     Ok(())
 }

@@ -1,9 +1,10 @@
 //! Policies, and why flows are granted and who reaches whom under each.
-use crate::tailnet::{LIVE, OFFICE_LIVE, office, small};
 use harness_conversations::OFFICE;
+use harness_tailnets::{
+    EXIT_RULES, OFFICE_LIVE, ROUTER_RULES, SMALL_LIVE, office_tables, small_tables, stated_policy,
+};
 use net_addr::Addr;
 use net_rows::Tables;
-use policy_doc::read_policy;
 use policy_rows::Policy;
 use reach_report::{explain, explain_text, report, report_text};
 use std::alloc::Global;
@@ -48,11 +49,6 @@ fd7a:115c:a1e0::1 fd7a:115c:a1e0::3 tcp 22 => granted rule 1 entry 1
 100.64.0.1 100.64.0.7 tcp 22 => denied
 reach => 1,2,2 1,3,0 1,4,1 1,5,2 1,6,0 2,1,2 2,3,0 2,4,1 2,5,2 2,6,0 3,1,2 3,2,2 3,4,2 3,5,2 3,6,2 4,1,2 4,2,2 4,3,2 4,5,2 4,6,2 5,1,2 5,2,2 5,3,2 5,4,2 5,6,2 6,1,2 6,2,2 6,3,2 6,4,2 6,5,2";
 
-const ROUTER_RULES: &str = r#"{"acls":[
-  {"action":"accept","src":["bob@"],"dst":["10.2.0.0/16:*"]},
-  {"action":"accept","src":["bob@"],"dst":["10.1.0.0/16:22"]},
-  {"action":"accept","src":["seed@"],"dst":["10.1.128.0/17:*"]}]}"#;
-
 /// The router is reached by its approved route, and not by the one beside it.
 const ROUTER: &str = "100.64.0.3 10.1.2.3 tcp 22 => granted rule 1 entry 0
 100.64.0.3 10.2.0.1 tcp 22 => granted rule 0 entry 0
@@ -60,11 +56,6 @@ const ROUTER: &str = "100.64.0.3 10.1.2.3 tcp 22 => granted rule 1 entry 0
 100.64.0.1 10.1.200.3 tcp 22 => granted rule 2 entry 0
 100.64.0.3 100.64.0.5 tcp 22 => denied
 reach => 1,5,2 2,5,2 3,5,1 6,5,1";
-
-const EXIT_RULES: &str = r#"{"tagOwners":{"tag:web":[]},"acls":[
-  {"action":"accept","src":["tag:web"],"dst":["8.8.8.0/24:53"]},
-  {"action":"accept","src":["seed@"],"dst":["autogroup:internet:*"]},
-  {"action":"accept","src":["autogroup:member"],"dst":["autogroup:self:*"]}]}"#;
 
 /// An exit node, and own devices.
 const EXIT: &str = "100.64.0.1 1.1.1.1 tcp 443 => granted rule 1 entry 0
@@ -106,17 +97,6 @@ const OFFICE_LINES: &str = "100.64.0.1 100.64.0.2 tcp 22 => granted rule 0 entry
 100.64.0.2 1.1.1.1 tcp 443 => granted rule 3 entry 1
 100.64.0.9 100.64.0.2 tcp 22 => denied
 reach => 1,2,0 1,3,0 1,4,0 1,5,0 1,6,0 1,7,0 1,8,0 1,9,0 2,3,1 2,5,1 2,6,3 2,8,3 2,9,1 3,4,2 4,3,4 5,3,4 6,3,4 7,3,4 8,2,3 8,3,1 8,5,1 8,6,3 8,9,1 9,3,4 9,6,3";
-
-/// The policy that the text states; `-` is none.
-fn stated(alloc: Global, text: &str) -> Result<Option<Policy>, NoMemory> {
-    if text == "-" {
-        return Ok(None);
-    }
-    match read_policy(alloc, text.as_bytes()) {
-        Ok(policy) => Ok(Some(policy)),
-        Err(_) => Err(NoMemory),
-    }
-}
 
 fn protocol(name: &str) -> u8 {
     match name {
@@ -220,7 +200,7 @@ fn first_unheld_under(
     text: &str,
     lines: &str,
 ) -> Result<Option<usize>, NoMemory> {
-    let policy = stated(alloc, text)?;
+    let policy = stated_policy(alloc, text)?;
     first_unheld(alloc, tables, live, policy.as_ref(), lines)
 }
 
@@ -230,8 +210,8 @@ fn first_unheld_of_small(
     text: &str,
     lines: &str,
 ) -> Result<Option<usize>, NoMemory> {
-    let tables = small(alloc)?;
-    first_unheld_under(alloc, &tables, &LIVE, text, lines)
+    let tables = small_tables(alloc)?;
+    first_unheld_under(alloc, &tables, &SMALL_LIVE, text, lines)
 }
 
 /// The same of the office's.
@@ -240,7 +220,7 @@ fn first_unheld_of_office(
     text: &str,
     lines: &str,
 ) -> Result<Option<usize>, NoMemory> {
-    let tables = office(alloc)?;
+    let tables = office_tables(alloc)?;
     first_unheld_under(alloc, &tables, &OFFICE_LIVE, text, lines)
 }
 

@@ -2,9 +2,9 @@
 //! admits it.
 ghost use Rattle.std.specs.Prelude.{Contains};
 
-use crate::tailnet::{OFFICE_LIVE, office};
 use filter_compile::filter_for;
 use harness_conversations::OFFICE;
+use harness_tailnets::{OFFICE_LIVE, office_tables};
 use net_addr::Addr;
 use net_rows::Tables;
 use policy_doc::read_policy;
@@ -162,7 +162,7 @@ fn first_apart_in(
 }
 
 fn first_apart_of_office(alloc: Global, policy: &Policy) -> Result<Option<u32>, NoMemory> {
-    let tables = office(alloc)?;
+    let tables = office_tables(alloc)?;
     first_apart_in(alloc, policy, &tables)
 }
 

@@ -5,5 +5,3 @@
 mod cases;
 #[cfg(test)]
 mod filters;
-#[cfg(test)]
-mod tailnet;

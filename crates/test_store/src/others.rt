@@ -5,6 +5,7 @@ use net_rows::Kind;
 use row_keeper::LoadFault;
 use sqlite::{Alter, Connection, FileStore};
 use sqlite_disk::Disk;
+use std::alloc::Global;
 use std::fs;
 use std::test::Fail;
 
@@ -71,11 +72,11 @@ fn make_notes(rt: &HostRuntime) -> Result<(), Fail> {
     }
 }
 
-/// Why the notes aren't loaded, and whether they stay as they are.
-fn fault_and_sameness(rt: &HostRuntime) -> Result<(Option<LoadFault>, bool), Fail> {
-    let before = fs::read(rt, NOTES)?;
-    let fault = fault_of_load(rt.alloc(), &mut HostOpener::new(*rt), NOTES)?;
-    let after = fs::read(rt, NOTES)?;
+/// Why what is kept by this name isn't loaded, and whether it stays as it is.
+fn fault_and_sameness(rt: &HostRuntime, name: &str) -> Result<(Option<LoadFault>, bool), Fail> {
+    let before = fs::read(rt, name)?;
+    let fault = fault_of_load(rt.alloc(), &mut HostOpener::new(*rt), name)?;
+    let after = fs::read(rt, name)?;
     Ok((fault, before.as_slice() == after.as_slice()))
 }
 
@@ -83,12 +84,56 @@ fn fault_and_sameness(rt: &HostRuntime) -> Result<(Option<LoadFault>, bool), Fai
 fn another_programs_database_stays(rt: HostRuntime) -> Result<(), Fail> {
     make_folder(&rt, ANOTHER)?;
     make_notes(&rt)?;
-    let (fault, is_same) = fault_and_sameness(&rt)?;
+    let (fault, is_same) = fault_and_sameness(&rt, NOTES)?;
     let damaged = LoadFault::Damaged {
         kind: Kind::Meta,
         id: 0,
     };
     assert!(rt; fault == Some(damaged) && is_same);
     fs::remove_dir_all(&rt, ANOTHER)?;
+    Ok(())
+}
+
+const TRIGGERED: &str = "store_cases_triggered";
+
+const TOLD: &str = "store_cases_triggered/told.db";
+
+/// The bytes of a file of another program, whose only table has a trigger, so that the store reads no table in it: each part,
+/// and how many zeros stand behind it. `sqlite3` has made it.
+const TOLD_PARTS: [(&[u8], usize); 5] = [
+    (
+        b"SQLite format 3\x00\x02\x00\x02\x02\x00@  \x00\x00\x00\x02\x00\x00\x00\x02",
+        11,
+    ),
+    (b"\x02\x00\x00\x00\x04", 11),
+    (b"\x01", 35),
+    (
+        b"\x02\x00.c\x01\r\x00\x00\x00\x02\x01t\x00\x01\xca\x01t",
+        260,
+    ),
+    (
+        b"T\x02\x07\x1b\x15\x17\x08\x81\x07triggertoldnotesCREATE TRIGGER told AFTER INSERT ON notes BEGIN SELECT 1; END4\x01\x06\x17\x17\x17\x01Itablenotesnotes\x02CREATE TABLE notes (note TEXT)\r\x00\x00\x00\x00\x02",
+        506,
+    ),
+];
+
+fn told(alloc: Global) -> Result<Vec<u8>, Fail> {
+    let mut bytes = Vec::new(alloc);
+    for (part, zeros) in TOLD_PARTS {
+        bytes.extend_from_slice(part)?;
+        for _zero in 0..zeros {
+            bytes.push(0)?;
+        }
+    }
+    Ok(bytes)
+}
+
+#[test]
+fn a_database_with_a_trigger_stays(rt: HostRuntime) -> Result<(), Fail> {
+    make_folder(&rt, TRIGGERED)?;
+    fs::write(&rt, TOLD, told(rt.alloc())?.as_slice())?;
+    let (fault, is_same) = fault_and_sameness(&rt, TOLD)?;
+    assert!(rt; fault == Some(LoadFault::Failed) && is_same);
+    fs::remove_dir_all(&rt, TRIGGERED)?;
     Ok(())
 }

@@ -10,6 +10,15 @@ fn bodies_that_are_not_utf8(rt: HostRuntime) {
     assert_eq!(rt; fault, Some(Failure::Fault(WireFault::NotJson)));
 }
 
+/// A body that opens a list with each of its 200 bytes.
+#[test]
+fn deep_bodies(rt: HostRuntime) -> Result<(), Fail> {
+    let body = vec![in rt.alloc(); b'['; 200]?;
+    let fault = read_map_request(rt.alloc(), &body).err();
+    assert_eq!(rt; fault, Some(Failure::Fault(WireFault::NotJson)));
+    Ok(())
+}
+
 /// A map request with what a machine tells of itself.
 const WHOLE: &[u8] =
     b"{\"NodeKey\":\"nodekey:aaaaaaaaaaaaaaaaaaaaaaaaaaaaaaaaAAAAAAAAAAAAAAAAAAAAAAAAAAAAAAAA\",\"Endpoints\":[\"1.2.3.4:5\"],\"Hostinfo\":{\"Hostname\":\"h\"}}";

@@ -1,11 +1,11 @@
-//! The tailnets of these tests.
+//! The tables of these tailnets.
 use net_addr::{Addr, Moment, Prefix};
 use net_rows::{Counters, Machine, Rows, Tables, User};
 use std::alloc::Global;
 use tail_base::{DiscoKey, Items, Label, Login, MachineKey, NoMemory, NodeKey, Tag, Text};
 
 /// The ids of the live machines of the small one.
-pub const LIVE: [u32; 6] = [1, 2, 3, 4, 5, 6];
+pub const SMALL_LIVE: [u32; 6] = [1, 2, 3, 4, 5, 6];
 
 /// The same of the office's.
 pub const OFFICE_LIVE: [u32; 9] = [1, 2, 3, 4, 5, 6, 7, 8, 9];
@@ -140,7 +140,7 @@ fn add_small_machines(machines: &mut Items<Machine>, alloc: Global) -> Result<()
 
 /// A small tailnet: 1 and 2 of seed@, 3 of bob@; 4 of bob@ with tag:web; 5 of seed@ with tag:router, which advertises two
 /// routes, of which 10.1.0.0/16 is approved; 6 of bob@, an exit node; and 7 of seed@, which isn't live.
-pub fn small(alloc: Global) -> Result<Tables, NoMemory> {
+pub fn small_tables(alloc: Global) -> Result<Tables, NoMemory> {
     let mut users = Items::new(alloc);
     add_small_users(&mut users, alloc)?;
     let mut machines = Items::new(alloc);
@@ -168,7 +168,7 @@ fn add_office_machines(machines: &mut Items<Machine>, alloc: Global) -> Result<(
 
 /// An office's tailnet: 1 of ann@, 2 and 8 of bob@, 9 of dee@, and between them one with each tag. The router and the exit
 /// node are approved by the office's policy.
-pub fn office(alloc: Global) -> Result<Tables, NoMemory> {
+pub fn office_tables(alloc: Global) -> Result<Tables, NoMemory> {
     let mut users = Items::new(alloc);
     add_office_users(&mut users, alloc)?;
     let mut machines = Items::new(alloc);
