@@ -1,7 +1,7 @@
 //! A connection at a seat.
 ghost use Rattle.connections.specs.Connection.{IsConnection, told};
 ghost use Rattle.std.specs.Prelude.{◌≡◌, ◌<◌, []};
-ghost use Rattle.tailnet_serve.specs.Runs.{IsSeatStep};
+ghost use Rattle.tailnet_serve.specs.Runs.{IsSeatFollowed, IsSeatStep};
 
 use connections::serve;
 use desk_front::Front;
@@ -36,7 +36,10 @@ fn serve_turns<'a, R: Wait, K: Keeper, I: Source, O: Sink, C: Clock, N: Entropy,
         (at input.old output.old clock.old entropy.old)
         (at input.new output.new clock.new entropy.new)
         turns.old.seat.now turns.new.seat.now }
+    ensures followed { IsSeatFollowed turns.new.seat.now }
 {
+    turns.hub.rules();
+    turns.seat.rules();
     serve(
         alloc, front, texts, requests, turns, input, output, clock, entropy, pause, more,
     )
@@ -44,7 +47,9 @@ fn serve_turns<'a, R: Wait, K: Keeper, I: Source, O: Sink, C: Clock, N: Entropy,
 
 /// Serves a connection at a seat of a hub: what the seat has seen before and after it is joined by the
 /// turns of the served requests. A poll that may wait has so many further drains at most; the pause is
-/// what it waits on, and what is known of events that change something.
+/// what it waits on, and what is known of events that change something. What the seat has seen at the
+/// end is a legal history, after each of whose drains the client of the session has folded its machine's
+/// map, computed afresh.
 pub fn serve_seat<R: Wait, K: Keeper, I: Source, O: Sink, C: Clock, N: Entropy, A: Pause>(
     rt: &R,
     alloc: Global,
@@ -67,6 +72,7 @@ pub fn serve_seat<R: Wait, K: Keeper, I: Source, O: Sink, C: Clock, N: Entropy, 
         IsConnection IsSeatStep front.now more result requests []
         (at input.old output.old clock.old entropy.old)
         (at input.new output.new clock.new entropy.new) seat.old seat.new }
+    ensures followed { IsSeatFollowed seat.new }
 {
     let mut turns = HubTurns { rt, hub, seat };
     serve_turns(

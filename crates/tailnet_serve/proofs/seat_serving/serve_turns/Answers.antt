@@ -1,6 +1,7 @@
 use Rattle.connections.proofs.Seen.{serves_map}
 use Rattle.tailnet_serve.specs.Runs.{IsSeatStep}
 use Rattle.tailnet_serve.proofs.SeatRuns.{chain_same}
+use Rattle.tailnet_serve.proofs.ServiceLawLemmas.{seat_folds}
 use Rattle.tailnet_serve.proofs.seat_serving.serve_turns.Goals as goal
 
 pub returns-clause-same : goal.returns-clause-same
