@@ -37,11 +37,7 @@ fn empty_response(alloc: Global) -> Response
 
 /// Reads what an object says of the machine itself.
 #[tactic(auto, unfolding(crate::specs::Responses::with_own))]
-fn read_own(
-    alloc: Global,
-    response: &mut Response,
-    object: &Value,
-) -> Result<(), Failure<Misfit>>
+fn read_own(alloc: Global, response: &mut Response, object: &Value) -> Result<(), Failure<Misfit>>
     ensures value { Gives (λ _. response.new) result (with_own response.old (view object.now)) }
 {
     response.dns = if_given::<DnsObject>(alloc, "DNSConfig", object)?;
@@ -53,11 +49,7 @@ fn read_own(
 
 /// Reads what it says of peers and their users.
 #[tactic(auto, unfolding(crate::specs::Responses::with_peers))]
-fn read_peers(
-    alloc: Global,
-    response: &mut Response,
-    object: &Value,
-) -> Result<(), Failure<Misfit>>
+fn read_peers(alloc: Global, response: &mut Response, object: &Value) -> Result<(), Failure<Misfit>>
     ensures value { Gives (λ _. response.new) result (with_peers response.old (view object.now)) }
 {
     response.peers = all_given::<NodeObject>(alloc, "Peers", object)?;
