@@ -1,7 +1,9 @@
 -- A poll, turn by turn.
 use Rattle.std.proofs.Common.{◌≡◌, ◌<◌, ◌≤◌, ◌-◌, ◌∙◌, ℕ, ℤ, Bool, true, false, Option, None, Some, List, [], ◌∷◌, ◌++◌, Result, Ok, Err, inl, inr, refl, sym, ap, subst, arith, if◌then◌else◌}
 use Rattle.std.proofs.lemmas.List.{append-nil}
-use Rattle.net_addr.specs.Moments.{clamped}
+use Rattle.std.specs.Prelude.{OnOk}
+use Rattle.response_values.specs.Responses.{AreTypedResponses}
+use Rattle.net_addr.specs.Moments.{IsMoment, clamped}
 use Rattle.io_edge.specs.Stream as stream
 use Rattle.tail_base.specs.declared.key.MachineKey.{MachineKey}
 use Rattle.tailcfg.specs.declared.response.Response.{Response}
@@ -17,12 +19,13 @@ use Rattle.desk_front.specs.declared.front_settings.FrontSettings.{FrontSettings
 use Rattle.desk_front.specs.declared.poll.Poll.{Poll}
 use Rattle.exit_status.specs.Pieces.{IsPrefix, Sent}
 use Rattle.exit_status.specs.declared.closed.Closed.{Closed}
+use Rattle.connections.specs.Carried.{AreAllMade, AreFurtherMade, AreMade, AreSized, drained_responses, first_responses, greetings}
 use Rattle.connections.specs.Exchanges.{breaks}
 use Rattle.connections.specs.Polled.{AttachAnswered, Completed, DrainedSent, Followed, FurtherSent, GoesOn, IsPollAnswered, NextSent, TurnedOnce}
 use Rattle.connections.specs.Polls.{AreBehind, AreFurther, IsAttachOf, IsBehindDrain, IsDetachOf, IsDrainOf, IsPollOf, all_but_last, before_last, chunks_for, drained_bytes, further_bytes, heard_behind, heard_drains, heard_of, stream_ending, stream_front, stream_opening, without_last}
 use Rattle.connections.specs.Tellings.{Drew, Giving, TurnsTook, taking}
 use Rattle.connections.proofs.AnswerLemmas.{clamped_told, heard_alone, same_number, took_none}
-use Rattle.connections.proofs.SentLemmas.{broke, heard_completed, heard_then, sent_broken, sent_completed, sent_nothing, sent_then, still_breaks}
+use Rattle.connections.proofs.SentLemmas.{broke, heard_completed, heard_then, made_or_broken, sent_broken, sent_completed, sent_nothing, sent_then, still_breaks}
 use Rattle.connections.proofs.Tellings.{took-append}
 
 -- ---- what was heard
@@ -56,6 +59,9 @@ heard_first handle resumed responses done outcome o mid new n m k (t ∷ ts) a b
     heard_then done outcome o mid new n m k (stream_opening handle resumed ++ chunks_for responses) (further_bytes (t ∷ ts)) (further_bytes (without_last (t ∷ ts))) a b heard
 
 -- ---- one turn
+
+clamped_in_years : (n : ℤ) → IsMoment (clamped n)
+clamped_in_years n = grind arith
 
 took_attach : (p : Poll) (m moment : ℤ) (words : Option (List ℕ)) (reply : Reply) (old new : Giving) → moment ≡ clamped m
     → Drew true words old.words new.words old.word_faults new.word_faults → stream.Took old.answers new.answers m
@@ -120,11 +126,11 @@ module _ {S : Type 0} (turn : S → Event → Reply → S → Type 0) where
   }
 
   pub drained_once : (machine : MachineKey) (handle : List ℕ) (m moment : ℤ) (reply : Reply) (old new : Giving) (s t : S) → moment ≡ clamped m
-      → ((k : ℕ) → new.words k ≡ old.words k) → old.word_faults ≤ new.word_faults → stream.Took old.answers new.answers m
+      → AreTypedResponses (drained_responses reply) → ((k : ℕ) → new.words k ≡ old.words k) → old.word_faults ≤ new.word_faults → stream.Took old.answers new.answers m
       → turn s (event.Drain machine handle moment) reply t → TurnedOnce turn (IsDrainOf machine handle) reply old new s t
-  drained_once machine handle m moment reply old new s t at words faults took leads = record {
+  drained_once machine handle m moment reply old new s t at typed words faults took leads = record {
     turned = record { event = event.Drain machine handle moment; reply = reply };
-    fits = record { moment = moment; event_is = refl };
+    fits = record { moment = moment; in_years = subst IsMoment (sym at) (clamped_in_years m); event_is = refl; typed = typed };
     reply_is = refl;
     leads = leads;
     took = took_drain machine handle m moment reply old new at words faults took;
@@ -145,14 +151,16 @@ module _ {S : Type 0} (turn : S → Event → Reply → S → Type 0) where
 
   pub next_sent : (outcome : Result Bool Closed) (machine : MachineKey) (handle : List ℕ) (reply : Reply) (h k : Option (List ℕ)) (n l : ℕ) (a b : ℕ → Option ℤ)
       (w : ℕ → Option (List ℕ)) (f : ℕ) (s t : S) → TurnedOnce turn (IsDrainOf machine handle) reply (taking h n a w f) (taking h n b w f) s t
-      → Sent outcome h k n l (drained_bytes reply) → GoesOn outcome reply → NextSent turn outcome machine handle (taking h n a w f) (taking k l b w f) s t
-  next_sent outcome machine handle reply h k n l a b w f s t once sent goes_on = record {
+      → Sent outcome h k n l (drained_bytes reply) → GoesOn outcome reply → OnOk outcome (AreSized (drained_responses reply))
+      → NextSent turn outcome machine handle (taking h n a w f) (taking k l b w f) s t
+  next_sent outcome machine handle reply h k n l a b w f s t once sent goes_on made = record {
     drain = once.turned;
     drain_is = once.fits;
     goes_on = subst (λ (r : Reply). GoesOn outcome r) (sym once.reply_is) goes_on;
     leads = once.leads;
     took = took_apart h h h k n n n l a b w w f f (once.turned ∷ []) once.took;
     sent = subst (λ (r : Reply). Sent outcome h k n l (drained_bytes r)) (sym once.reply_is) sent;
+    made = subst (λ (r : Reply). OnOk outcome (AreSized (drained_responses r))) (sym once.reply_is) made;
   }
 
   -- none is left
@@ -165,6 +173,7 @@ module _ {S : Type 0} (turn : S → Event → Reply → S → Type 0) where
     took = took_none g g (λ k. refl) (λ k. refl) (omega arith);
     sent = sent_nothing done g.held g.write_faults;
     heard = heard_nothing _;
+    made = tt;
   }
 
   -- behind a drain that was answered frames, more follow
@@ -208,6 +217,7 @@ module _ {S : Type 0} (turn : S → Event → Reply → S → Type 0) where
     took = took_from h k n l a w f new rest.further rest.took;
     sent = sent_then seen outcome h k new.held n l new.write_faults [] (further_bytes rest.further) wait rest.sent;
     heard = heard_then seen outcome h k new.held n l new.write_faults [] (further_bytes rest.further) (further_bytes (without_last rest.further)) wait rest.sent rest.heard;
+    made = rest.made;
   }
 
   further_gone : {T U : Type 0} (e : Closed) (machine : MachineKey) (handle : List ℕ) (more : ℕ) (h k : Option (List ℕ)) (n l : ℕ) (a : ℕ → Option ℤ)
@@ -222,6 +232,7 @@ module _ {S : Type 0} (turn : S → Event → Reply → S → Type 0) where
         took = took_none (taking h n a w f) (taking k l a w f) (λ i. refl) (λ i. refl) (omega arith);
         sent = sent;
         heard = heard_nothing _;
+        made = tt;
       }
 
   -- the client left while the poll waited
@@ -248,6 +259,7 @@ module _ {S : Type 0} (turn : S → Event → Reply → S → Type 0) where
     sent = sent_then on outcome old.held mid.held new.held old.write_faults mid.write_faults new.write_faults (drained_bytes next.drain.reply) (further_bytes rest.further)
         next.sent rest.sent;
     heard = heard_next on outcome old.held mid.held new.held old.write_faults mid.write_faults new.write_faults next.drain rest.further next.sent rest.sent rest.heard;
+    made = (inr next.made, rest.made);
   }
 
   ended_sent : {T : Type 0} (on : Bool) (done : T) (o new : Option (List ℕ)) (n k : ℕ) (bytes : List ℕ) → Sent (Ok on) o new n k bytes → Sent (Ok done) o new n k (bytes ++ [])
@@ -263,6 +275,7 @@ module _ {S : Type 0} (turn : S → Event → Reply → S → Type 0) where
     took = next.took;
     sent = ended_sent on done old.held new.held old.write_faults new.write_faults (drained_bytes next.drain.reply) next.sent;
     heard = heard_nothing _;
+    made = (inr next.made, tt);
   }
 
   further_broken : {T : Type 0} (e : Closed) (machine : MachineKey) (handle : List ℕ) (more : ℕ) (old new : Giving) (s t : S)
@@ -282,6 +295,7 @@ module _ {S : Type 0} (turn : S → Event → Reply → S → Type 0) where
         took = next.took;
         sent = sent;
         heard = heard_nothing _;
+        made = (inl (holds, refl), tt);
       }
 
   pub further_failed : {T : Type 0} (outcome : Result T Closed) (e : Closed) (machine : MachineKey) (handle : List ℕ) (more : ℕ) (old new : Giving) (s t : S)
@@ -294,16 +308,17 @@ module _ {S : Type 0} (turn : S → Event → Reply → S → Type 0) where
   module _ (given : FrontSettings) (more : ℕ) (close : Bool) (p : Poll) (handle : List ℕ) (resumed : Bool) where
     -- frames went out, and further drains followed
     pub frames_then : {T : Type 0} (done : T) (outcome : Result T Closed) (responses : List Response) (h k l : Option (List ℕ)) (n m j : ℕ) (a b : ℕ → Option ℤ)
-        (w : ℕ → Option (List ℕ)) (f : ℕ) (s t : S) → Sent (Ok done) h k n m (stream_opening handle resumed ++ chunks_for responses)
+        (w : ℕ → Option (List ℕ)) (f : ℕ) (s t : S) → Sent (Ok done) h k n m (stream_opening handle resumed ++ chunks_for responses) → AreSized (greetings handle resumed ++ responses)
         → FurtherSent turn outcome p.machine handle more (taking k m a w f) (taking l j b w f) s t
         → DrainedSent turn given more outcome close p handle resumed (Frames responses) (taking h n a w f) (taking l j b w f) s t
-    frames_then done outcome responses h k l n m j a b w f s t first rest = record {
+    frames_then done outcome responses h k l n m j a b w f s t first sized rest = record {
       further = rest.further;
       are = rest.are;
       chain = rest.chain;
       took = took_apart k l h l m j n j a b w w f f rest.further rest.took;
       sent = sent_then done outcome h k l n m j (stream_opening handle resumed ++ chunks_for responses) (further_bytes rest.further) first rest.sent;
       heard = heard_first handle resumed responses done outcome h k l n m j rest.further first rest.sent rest.heard;
+      made = (inr sized, rest.made);
     }
 
     -- they broke off
@@ -317,19 +332,21 @@ module _ {S : Type 0} (turn : S → Event → Reply → S → Type 0) where
       took = took_none (taking h n a w f) (taking k m a w f) (λ i. refl) (λ i. refl) (omega arith);
       sent = sent_broken {T = T} {U = T} e h k n m (stream_opening handle resumed ++ chunks_for responses) [] first;
       heard = heard_nothing _;
+      made = (inl (broke T e first.written (stream_opening handle resumed ++ chunks_for responses) n m first.is, refl), tt);
     }
 
     -- the session has ended
     pub ended_then : {T : Type 0} (outcome : Result T Closed) (h k : Option (List ℕ)) (n m : ℕ) (a : ℕ → Option ℤ) (w : ℕ → Option (List ℕ)) (f : ℕ) (s : S)
-        → Sent outcome h k n m (stream_opening handle resumed)
+        → Sent outcome h k n m (stream_opening handle resumed) → OnOk outcome (AreSized (greetings handle resumed))
         → DrainedSent turn given more outcome close p handle resumed Ended (taking h n a w f) (taking k m a w f) s s
-    ended_then outcome h k n m a w f s sent = record {
+    ended_then outcome h k n m a w f s sent sized = record {
       further = [];
       are = refl;
       chain = refl;
       took = took_none (taking h n a w f) (taking k m a w f) (λ i. refl) (λ i. refl) (omega arith);
       sent = sent;
       heard = heard_nothing _;
+      made = (made_or_broken outcome (greetings handle resumed) sent.written (stream_opening handle resumed) n m sent.is sized, tt);
     }
 
     -- memory ran out
@@ -343,6 +360,7 @@ module _ {S : Type 0} (turn : S → Event → Reply → S → Type 0) where
       took = took_none (taking h n a w f) (taking k m a w f) (λ i. refl) (λ i. refl) (omega arith);
       sent = sent;
       heard = heard_nothing _;
+      made = (inr tt, tt);
     }
 
     -- ---- from the first drain to the detach
@@ -374,6 +392,17 @@ module _ {S : Type 0} (turn : S → Event → Reply → S → Type 0) where
     behind_still b c (Refused refusal) ts h q = q
     behind_still b c (Lost loss) ts h q = q
 
+    made_in : (b c : Bool) (rs : List Response) (ts : List Turned) → (b ≡ true → c ≡ true) → AreMade b rs ts → AreMade c rs ts
+    made_in b c rs ts h (inl broken) = inl (h broken.0, broken.1)
+    made_in b c rs ts h (inr sized) = inr sized
+
+    further_made : (b c : Bool) (ts : List Turned) → (b ≡ true → c ≡ true) → AreFurtherMade b ts → AreFurtherMade c ts
+    further_made b c [] h made = tt
+    further_made b c (t ∷ ts) h made = (made_in b c (drained_responses t.reply) ts h made.0, further_made b c ts h made.1)
+
+    all_made : (b c : Bool) (reply : Reply) (ts : List Turned) → (b ≡ true → c ≡ true) → AreAllMade b handle resumed reply ts → AreAllMade c handle resumed reply ts
+    all_made b c reply ts h made = (made_in b c (first_responses handle resumed reply) ts h made.0, further_made b c ts h made.1)
+
     pub followed_all : {T : Type 0} (sent outcome : Result T Closed) (reply : Reply) (h k l : Option (List ℕ)) (n m j : ℕ) (a b c d : ℕ → Option ℤ)
         (w : ℕ → Option (List ℕ)) (f : ℕ) (s u v t : S)
         → TurnedOnce turn (IsDrainOf p.machine handle) reply (taking h n a w f) (taking h n b w f) s u
@@ -392,6 +421,7 @@ module _ {S : Type 0} (turn : S → Event → Reply → S → Type 0) where
         let took : TurnsTook g0 g3 later = took-append g0 g1 g3 (drain.turned ∷ []) (ts ++ detach.turned ∷ []) drain.took
         (took-append g1 g2 g3 ts (detach.turned ∷ []) drained.took detach.took) in
         let is = sym drain.reply_is in
+        let still : breaks sent ≡ true → breaks outcome ≡ true = still_breaks sent outcome k l m j (stream_ending reply) completed in
         let front : List ℕ = stream_front given close p handle resumed reply ts in
         let whole : heard_drains handle resumed later ≡ before_last handle resumed reply ts =
         ap (λ (r : Reply). before_last handle resumed r (without_last (ts ++ detach.turned ∷ []))) drain.reply_is
@@ -406,9 +436,10 @@ module _ {S : Type 0} (turn : S → Event → Reply → S → Type 0) where
             later_are = refl;
             drain_is = drain.fits;
             further_are = subst (λ (r : Reply). AreBehind p.machine handle more (breaks outcome) r ts) is
-                (behind_still (breaks sent) (breaks outcome) reply ts (still_breaks sent outcome k l m j (stream_ending reply) completed) drained.are);
+                (behind_still (breaks sent) (breaks outcome) reply ts still drained.are);
             detach_is = detach.fits;
             bytes_are = ap (λ (r : Reply). stream_front given close p handle resumed r ts ++ stream_ending r) is;
+            made = subst (λ (r : Reply). AreAllMade (breaks outcome) handle resumed r ts) is (all_made (breaks sent) (breaks outcome) reply ts still drained.made);
           };
           chain = (u, drain.leads, tail);
           took = took_apart h k h l n m n j a d w w f f later took;

@@ -1,6 +1,8 @@
 -- Bytes sent in pieces.
-use Rattle.std.proofs.Common.{◌≡◌, ◌≤◌, ◌<◌, ◌+◌, ◌∙◌, ℕ, true, Option, List, [], ◌∷◌, ◌++◌, Result, Ok, Err, length, drop, get_or, refl, sym, ap, subst, append_assoc, arith, add-one, drop-cons}
-use Rattle.std.proofs.lemmas.List.{at_drop_all}
+use Rattle.std.proofs.Common.{◌≡◌, ◌≤◌, ◌<◌, ◌+◌, ◌∙◌, ℕ, true, Option, List, [], ◌∷◌, ◌++◌, Result, Ok, Err, length, take, drop, get_or, inl, inr, refl, sym, ap, subst, append_assoc, arith, add-one, drop-cons}
+use Rattle.std.specs.Prelude.{OnOk}
+use Rattle.std.proofs.Math.Seq.{take-length}
+use Rattle.std.proofs.lemmas.List.{at_drop_all, take_more}
 use Rattle.tailcfg.specs.declared.response.Response.{Response}
 use Rattle.fresh_maps.specs.Frames.{frame_of}
 use Rattle.http_front.specs.Streams.{chunk_of}
@@ -10,6 +12,7 @@ use Rattle.exit_status.specs.Pieces.{IsPrefix, IsSent, Sent}
 use Rattle.exit_status.specs.declared.closed.Closed.{Closed}
 use Rattle.exit_status.specs.declared.closed.Closed.TheVariants.{End, Early, ReadFault, WriteFault, NoMemory}
 use Rattle.exit_status.proofs.Writes.{prefix_more}
+use Rattle.connections.specs.Carried.{AreMade, AreSized, IsSized}
 use Rattle.connections.specs.Exchanges.{breaks}
 use Rattle.connections.specs.Polled.{Completed}
 use Rattle.connections.specs.Polls.{chunks_for}
@@ -70,6 +73,28 @@ broke T Early written bytes before now h = absurd h
 broke T ReadFault written bytes before now h = absurd h
 broke T WriteFault written bytes before now h = refl
 broke T NoMemory written bytes before now h = refl
+
+-- what was sent whole was made; what wasn't broke off
+pub made_or_broken : {T : Type 0} (outcome : Result T Closed) (rs : List Response) (written bytes : List ℕ) (before now : ℕ) → IsSent outcome written bytes before now
+    → OnOk outcome (AreSized rs) → AreMade (breaks outcome) rs []
+made_or_broken (Ok done) rs written bytes before now h sized = inr sized
+made_or_broken {T} (Err e) rs written bytes before now h sized = inl (broke T e written bytes before now h, refl)
+
+sized_both : (rs ss : List Response) → AreSized rs → AreSized ss → AreSized (rs ++ ss)
+sized_both [] ss p q = q
+sized_both (r ∷ rs) ss p q = (p.0, sized_both rs ss p.1 q)
+
+-- the first were made, and then others
+pub sized_then : {T : Type 0} (outcome : Result T Closed) (rs ss : List Response) → AreSized rs → OnOk outcome (AreSized ss) → OnOk outcome (AreSized (rs ++ ss))
+sized_then (Ok done) rs ss p q = sized_both rs ss p q
+sized_then (Err e) rs ss p q = tt
+
+pub one_more_sized : (rs : List Response) (i : ℕ) (x : Response) → i < length rs → x ≡ get_or rs i x → AreSized (take i rs) → IsSized x → AreSized (take (i + 1) rs)
+one_more_sized rs i x less is all one =
+    subst AreSized (sym (take_more rs i x less ∙ ap (λ y. take i rs ++ y ∷ []) (sym is))) (sized_both (take i rs) (x ∷ []) all (one, tt))
+
+pub all_sized : (rs : List Response) (i : ℕ) → i ≡ length rs → AreSized (take i rs) → AreSized rs
+all_sized rs i whole all = subst AreSized (ap (λ n. take n rs) whole ∙ take-length rs) all
 
 -- what was sent, and then its ending, unless it broke off
 pub sent_completed : {T : Type 0} (sent outcome : Result T Closed) (o mid new : Option (List ℕ)) (n m k : ℕ) (front ending : List ℕ)

@@ -1,4 +1,5 @@
 pub mod Tellings
+pub mod Carried
 pub mod Polls
 pub mod Exchanges
 pub mod Asked

@@ -1,5 +1,5 @@
 -- What was done for a poll, turn by turn and byte by byte.
-use Rattle.std.specs.Prelude.{◌≡◌, ℕ, Bool, true, false, Option, List, [], ◌∷◌, Result, Ok, Err}
+use Rattle.std.specs.Prelude.{◌≡◌, ℕ, Bool, true, false, Option, List, [], ◌∷◌, Result, Ok, Err, OnOk}
 use Rattle.tail_base.specs.declared.key.MachineKey.{MachineKey}
 use Rattle.tailnet_desk.specs.Chains.{Chain, Turned}
 use Rattle.tailnet_desk.specs.declared.entry.Event.{Event}
@@ -7,6 +7,7 @@ use Rattle.tailnet_desk.specs.declared.reply.Reply.{Reply}
 use Rattle.tailnet_desk.specs.declared.reply.Reply.TheVariants.{Attached, Detached, Done, Ended, Frames, Lost, Refused}
 use Rattle.desk_front.specs.declared.front_settings.FrontSettings.{FrontSettings}
 use Rattle.desk_front.specs.declared.poll.Poll.{Poll}
+use Rattle.connections.specs.Carried.{AreAllMade, AreFurtherMade, AreSized, drained_responses}
 use Rattle.connections.specs.Exchanges.{breaks}
 use Rattle.connections.specs.Polls.{AreBehind, AreFurther, IsDrainOf, IsPoll, IsPollOf, IsStream, before_last, drained_bytes, further_bytes, heard_behind, heard_drains, heard_of, stream_front, without_last}
 use Rattle.connections.specs.Tellings.{Giving, TurnsTook}
@@ -46,6 +47,7 @@ pub record NextSent {S : Type 0} (turn : S → Event → Reply → S → Type 0)
   pub leads : turn s drain.event drain.reply t
   pub took : TurnsTook old new (drain ∷ [])
   pub sent : Sent outcome old.held new.held old.write_faults new.write_faults (drained_bytes drain.reply)
+  pub made : OnOk outcome (AreSized (drained_responses drain.reply))
 
 -- further drains, and their chunks
 pub record FurtherSent {T S : Type 0} (turn : S → Event → Reply → S → Type 0) (outcome : Result T Closed) (machine : MachineKey) (handle : List ℕ) (more : ℕ) (old new : Giving) (s t : S) : Type 0 where
@@ -55,6 +57,7 @@ pub record FurtherSent {T S : Type 0} (turn : S → Event → Reply → S → Ty
   pub took : TurnsTook old new further
   pub sent : Sent outcome old.held new.held old.write_faults new.write_faults (further_bytes further)
   pub heard : IsPrefix (further_bytes (without_last further)) sent.written
+  pub made : AreFurtherMade (breaks outcome) further
 
 -- what follows a drain that was replied so, but for what ends the answer
 pub record DrainedSent {T S : Type 0} (turn : S → Event → Reply → S → Type 0) (given : FrontSettings) (more : ℕ) (outcome : Result T Closed) (close : Bool) (p : Poll) (handle : List ℕ) (resumed : Bool) (reply : Reply) (old new : Giving) (s t : S) : Type 0 where
@@ -64,6 +67,7 @@ pub record DrainedSent {T S : Type 0} (turn : S → Event → Reply → S → Ty
   pub took : TurnsTook old new further
   pub sent : Sent outcome old.held new.held old.write_faults new.write_faults (stream_front given close p handle resumed reply further)
   pub heard : IsPrefix (before_last handle resumed reply further) sent.written
+  pub made : AreAllMade (breaks outcome) handle resumed reply further
 
 -- what was sent is ended so; if its writing broke off, nothing more is written
 abbrev pub Completed : {T : Type 0} → Result T Closed → Result T Closed → Option (List ℕ) → Option (List ℕ) → ℕ → ℕ → List ℕ → Type 0

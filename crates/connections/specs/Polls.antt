@@ -1,7 +1,9 @@
 -- A poll: its turns, and the bytes of its answer.
 use Rattle.std.specs.Prelude.{◌≡◌, ◌<◌, ◌-◌, ◌⊎◌, ℕ, ℤ, Bool, true, Option, List, [], ◌∷◌, ◌++◌, map, if◌then◌else◌}
+use Rattle.net_addr.specs.Moments.{IsMoment}
 use Rattle.tail_base.specs.declared.key.MachineKey.{MachineKey}
 use Rattle.tailcfg.specs.declared.response.Response.{Response}
+use Rattle.response_values.specs.Responses.{AreTypedResponses}
 use Rattle.fresh_maps.specs.Frames.{frame_of}
 use Rattle.map_delta.specs.Delta.{greeting}
 use Rattle.http_front.specs.Streams.{chunk_of, chunks_of, last_chunk, stream_head}
@@ -12,6 +14,7 @@ use Rattle.tailnet_desk.specs.declared.reply.Reply.TheVariants.{Attached, Detach
 use Rattle.desk_front.specs.Replies.{map_ask_of, reply_bytes}
 use Rattle.desk_front.specs.declared.front_settings.FrontSettings.{FrontSettings}
 use Rattle.desk_front.specs.declared.poll.Poll.{Poll}
+use Rattle.connections.specs.Carried.{AreAllMade, drained_responses}
 
 -- the turn attaches the poll
 pub record IsAttachOf (p : Poll) (t : Turned) : Type 0 where
@@ -19,10 +22,12 @@ pub record IsAttachOf (p : Poll) (t : Turned) : Type 0 where
   pub words : Option (List ℕ)
   pub event_is : t.event ≡ event.Attach p.machine p.node p.handle p.seq moment words
 
--- the turn drains the session of this handle
+-- The turn drains the session of this handle, at a moment, and the responses that it was replied have values of their types.
 pub record IsDrainOf (machine : MachineKey) (handle : List ℕ) (t : Turned) : Type 0 where
   pub moment : ℤ
+  pub in_years : IsMoment moment
   pub event_is : t.event ≡ event.Drain machine handle moment
+  pub typed : AreTypedResponses (drained_responses t.reply)
 
 -- the turn detaches it
 pub record IsDetachOf (machine : MachineKey) (handle : List ℕ) (t : Turned) : Type 0 where
@@ -153,6 +158,8 @@ pub record IsStream (given : FrontSettings) (more : ℕ) (close : Bool) (p : Pol
   pub further_are : AreBehind p.machine handle more broken drain.reply further
   pub detach_is : IsDetachOf p.machine handle detach
   pub bytes_are : bytes ≡ stream_front given close p handle resumed drain.reply further ++ stream_ending drain.reply
+  -- each frame was made, but those of the last drain where the writing broke off
+  pub made : AreAllMade broken handle resumed drain.reply further
 
 -- What follows by what the attach was replied. A refusal is answered as that of a whole map. Only a poll that may wait
 -- has further drains.

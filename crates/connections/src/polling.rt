@@ -1,11 +1,13 @@
 //! One poll: an attach, drains, and a detach, whatever ended it.
 ghost use Rattle.std.specs.Prelude.{◌≡◌, ℕ, Option, List, [], true, if◌then◌else◌};
+ghost use Rattle.response_values.specs.Responses.{AreTypedResponses};
 ghost use Rattle.tailnet_desk.specs.Step.{drain_reply};
 ghost use Rattle.tailnet_desk.specs.Turns.{IsAttachReply};
 ghost use Rattle.tailnet_desk.specs.declared.reply.Reply.TheVariants as replies;
 ghost use Rattle.desk_front.specs.Replies.{map_ask_of, reply_bytes};
 ghost use Rattle.desk_front.specs.declared.front_settings.FrontSettings.{FrontSettings};
 ghost use Rattle.exit_status.specs.Pieces.{Sent};
+ghost use Rattle.connections.specs.Carried.{drained_responses};
 ghost use Rattle.connections.specs.Polled.{AttachAnswered, DrainedSent, Followed, FurtherSent, IsPollAnswered, NextSent, TurnedOnce};
 ghost use Rattle.connections.specs.Polls.{IsAttachOf, IsDetachOf, IsDrainOf};
 ghost use Rattle.connections.specs.Tellings.{Drew, Giving, giving, taking, telling, writing};
@@ -17,6 +19,7 @@ use exit_status::Closed;
 use fresh_maps::NodeTexts;
 use io_edge::{Clock, Entropy, Pause, Sink};
 use net_addr::Moment;
+use response_values::known_values;
 use std::alloc::Global;
 use tail_base::{MachineKey, Text};
 use tailcfg::Response;
@@ -59,6 +62,16 @@ fn attach_poll<T: Turns, C: Clock, N: Entropy>(
     )
 }
 
+/// The responses of a drain have values of their types. It changes nothing.
+fn known_drained(drained: &Drained)
+    ensures typed { AreTypedResponses (drained_responses (drain_reply drained.now)) }
+{
+    match drained {
+        Drained::Frames(responses) => known_values(responses.as_slice()),
+        Drained::Ended | Drained::NoMemory => (),
+    }
+}
+
 /// Fetches what is new in the session.
 fn drain_poll<T: Turns, C: Clock>(
     alloc: Global,
@@ -73,7 +86,9 @@ fn drain_poll<T: Turns, C: Clock>(
         turns.old turns.new }
 {
     let moment = Moment::clamp(clock.seconds());
-    turns.drain(alloc, machine, handle, moment)
+    let drained = turns.drain(alloc, machine, handle, moment);
+    known_drained(&drained);
+    drained
 }
 
 /// Detaches the session.

@@ -1,9 +1,10 @@
 //! The bytes of a poll's answer, piece by piece.
-ghost use Rattle.std.specs.Prelude.{◌≡◌, ◌++◌, IfOk};
+ghost use Rattle.std.specs.Prelude.{◌≡◌, ◌++◌, IfOk, OnOk};
 ghost use Rattle.fresh_maps.specs.Frames.{frame_of};
 ghost use Rattle.http_front.specs.Streams as chunks;
 ghost use Rattle.exit_status.specs.Pieces.{Sent};
 ghost use Rattle.tailnet_desk.specs.Step.{drain_reply};
+ghost use Rattle.connections.specs.Carried.{AreSized, IsSized, drained_responses, greetings};
 ghost use Rattle.connections.specs.Polled.{Completed, GoesOn};
 ghost use Rattle.connections.specs.Polls.{chunks_for, drained_bytes, greeting_bytes, stream_ending, stream_opening};
 
@@ -24,8 +25,10 @@ fn response_chunk(
     response: &Response,
 ) -> Result<Vec<u8>, NoMemory>
     ensures value { IfOk result (λ made. made.items ≡ chunks.chunk_of (frame_of response.now)) }
+    ensures sized { OnOk result (IsSized response.now) }
 {
     let frame = frame_bytes(alloc, texts, response)?;
+    let _size = frame.len();
     chunk_of(alloc, &frame)
 }
 
@@ -37,6 +40,7 @@ fn greeting_chunk(
     resumed: bool,
 ) -> Result<Vec<u8>, NoMemory>
     ensures value { IfOk result (λ made. made.items ≡ greeting_bytes handle.now resumed) }
+    ensures sized { OnOk result (AreSized (greetings handle.now resumed)) }
 {
     if !resumed {
         return Ok(Vec::new(alloc));
@@ -53,6 +57,7 @@ fn opening_of(
     resumed: bool,
 ) -> Result<Vec<u8>, NoMemory>
     ensures value { IfOk result (λ made. made.items ≡ stream_opening handle.now resumed) }
+    ensures sized { OnOk result (AreSized (greetings handle.now resumed)) }
 {
     let greeting = greeting_chunk(alloc, texts, handle, resumed)?;
     let mut bytes = Vec::from_slice(alloc, stream_head())?;
@@ -71,6 +76,7 @@ pub(crate) fn send_opening<O: Sink>(
     ensures sent { Sent result (O.holds output.old) (O.holds output.new)
         (O.write_faults output.old) (O.write_faults output.new)
         (stream_opening handle.now resumed) }
+    ensures sized { OnOk result (AreSized (greetings handle.now resumed)) }
 {
     match opening_of(alloc, texts, handle, resumed) {
         Ok(bytes) => send(output, &bytes),
@@ -88,6 +94,7 @@ fn send_response<O: Sink>(
     ensures sent { Sent result (O.holds output.old) (O.holds output.new)
         (O.write_faults output.old) (O.write_faults output.new)
         (chunks.chunk_of (frame_of response.now)) }
+    ensures sized { OnOk result (IsSized response.now) }
 {
     match response_chunk(alloc, texts, response) {
         Ok(bytes) => send(output, &bytes),
@@ -104,6 +111,7 @@ fn send_responses<O: Sink>(
 ) -> Result<(), Closed>
     ensures sent { Sent result (O.holds output.old) (O.holds output.new)
         (O.write_faults output.old) (O.write_faults output.new) (chunks_for responses.now) }
+    ensures sized { OnOk result (AreSized responses.now) }
 {
     for response in responses {
         send_response(alloc, texts, output, response)?;
@@ -123,6 +131,7 @@ pub(crate) fn send_first<O: Sink>(
     ensures sent { Sent result (O.holds output.old) (O.holds output.new)
         (O.write_faults output.old) (O.write_faults output.new)
         (stream_opening handle.now resumed ++ chunks_for responses.now) }
+    ensures sized { OnOk result (AreSized (greetings handle.now resumed ++ responses.now)) }
 {
     match send_opening(alloc, texts, output, handle, resumed) {
         Ok(()) => send_responses(alloc, texts, output, responses),
@@ -141,6 +150,7 @@ pub(crate) fn send_drained<O: Sink>(
         (O.write_faults output.old) (O.write_faults output.new)
         (drained_bytes (drain_reply drained.now)) }
     ensures goes_on { GoesOn result (drain_reply drained.now) }
+    ensures sized { OnOk result (AreSized (drained_responses (drain_reply drained.now))) }
 {
     match drained {
         Drained::Frames(responses) => {

@@ -11,7 +11,8 @@ pub returns-in-Ended : goal.returns-in-Ended
 returns-in-Ended g c = rw c.in-Ended.is (record {
   sent = λ words word_faults.
       let a = c.args.stream.now in
-      ended_then _ c.args.front.now a.more a.close a.poll.now a.handle.now a.resumed c.send_opening.result _ _ _ _ _ words word_faults _ c.send_opening.ensures.sent;
+      ended_then _ c.args.front.now a.more a.close a.poll.now a.handle.now a.resumed c.send_opening.result _ _ _ _ _ words word_faults _ c.send_opening.ensures.sent
+      c.send_opening.ensures.sized;
 })
 
 pub returns-in-NoMemory : goal.returns-in-NoMemory

@@ -10,6 +10,7 @@ pub returns : goal.returns
 returns g c = record {
   drained = λ rest.
       let fits : SFits w64 c.seconds.result = search rules in
-      drained_once _ c.args.machine.now c.args.handle.now c.seconds.result c.clamp-moment.result (drain_reply c.drain.result) _ _ _ _
-      (c.clamp-moment.ensures.value ∙ ap clamped (to_z-of_z w64 c.seconds.result fits)) (λ k. refl) (omega arith) c.seconds.ensures.took c.drain.ensures.turn;
+      drained_once _ c.args.machine.now c.args.handle.now c.seconds.result c.clamp-moment.result (drain_reply c.drain-drained.result) _ _ _ _
+      (c.clamp-moment.ensures.value ∙ ap clamped (to_z-of_z w64 c.seconds.result fits)) c.known_drained.ensures.typed
+      (λ k. refl) (omega arith) c.seconds.ensures.took c.drain-drained.ensures.turn;
 }

@@ -6,7 +6,7 @@ returns-in-Ok g c = record {
   sent = λ given words word_faults.
       let a = c.args.stream.now in
       frames_then _ given a.more a.close a.poll.now a.handle.now a.resumed tt c.send_further.result c.args.responses.now _ _ _ _ _ _ _ _ words word_faults _ _
-      c.in-Ok.ensures.sent (c.send_further.ensures.further words word_faults);
+      c.in-Ok.ensures.sent c.in-Ok.ensures.sized (c.send_further.ensures.further words word_faults);
 }
 
 pub returns-in-Err : goal.returns-in-Err
