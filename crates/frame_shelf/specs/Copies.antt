@@ -1,0 +1,44 @@
+-- A response with parts of another.
+use Rattle.std.specs.Prelude.{ℕ, [], Option, None}
+use Rattle.tailcfg.specs.declared.response.Response.{Response}
+
+-- with a number alone
+abbrev pub bare_response : Option ℕ → Response
+bare_response seq = record {
+  handle = None;
+  seq = seq;
+  node = None;
+  filter = None;
+  dns = None;
+  domain = None;
+  peers = [];
+  changed = [];
+  removed = [];
+  patches = [];
+  profiles = [];
+}
+
+-- what is told of the session and of the machine itself
+abbrev pub with_own : Response → Response → Response
+with_own made response = record made {
+  handle = response.handle;
+  node = response.node;
+  domain = response.domain;
+}
+
+-- what is told of the tailnet
+abbrev pub with_net : Response → Response → Response
+with_net made response = record made {
+  filter = response.filter;
+  dns = response.dns;
+  profiles = response.profiles;
+}
+
+-- what is told of peers
+abbrev pub with_peers : Response → Response → Response
+with_peers made response = record made {
+  peers = response.peers;
+  changed = response.changed;
+  removed = response.removed;
+  patches = response.patches;
+}
