@@ -19,24 +19,24 @@ bare_response seq = record {
 }
 
 -- what is told of the session and of the machine itself
-abbrev pub with_own : Response → Response → Response
-with_own made response = record made {
+abbrev pub with_own_copied : Response → Response → Response
+with_own_copied made response = record made {
   handle = response.handle;
   node = response.node;
   domain = response.domain;
 }
 
 -- what is told of the tailnet
-abbrev pub with_net : Response → Response → Response
-with_net made response = record made {
+abbrev pub with_net_copied : Response → Response → Response
+with_net_copied made response = record made {
   filter = response.filter;
   dns = response.dns;
   profiles = response.profiles;
 }
 
 -- what is told of peers
-abbrev pub with_peers : Response → Response → Response
-with_peers made response = record made {
+abbrev pub with_peers_copied : Response → Response → Response
+with_peers_copied made response = record made {
   peers = response.peers;
   changed = response.changed;
   removed = response.removed;
