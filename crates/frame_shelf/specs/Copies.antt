@@ -19,24 +19,24 @@ bare_response seq = record {
 }
 
 -- what is told of the session and of the machine itself
-abbrev pub with_own_copied : Response → Response → Response
-with_own_copied made response = record made {
+abbrev pub own_added : Response → Response → Response
+own_added made response = record made {
   handle = response.handle;
   node = response.node;
   domain = response.domain;
 }
 
 -- what is told of the tailnet
-abbrev pub with_net_copied : Response → Response → Response
-with_net_copied made response = record made {
+abbrev pub net_added : Response → Response → Response
+net_added made response = record made {
   filter = response.filter;
   dns = response.dns;
   profiles = response.profiles;
 }
 
 -- what is told of peers
-abbrev pub with_peers_copied : Response → Response → Response
-with_peers_copied made response = record made {
+abbrev pub peers_added : Response → Response → Response
+peers_added made response = record made {
   peers = response.peers;
   changed = response.changed;
   removed = response.removed;

@@ -1,6 +1,6 @@
 //! Copies of responses.
 ghost use Rattle.std.specs.Prelude.{◌≡◌, IfOk, OnOk};
-ghost use Rattle.frame_shelf.specs.Copies.{bare_response, with_net_copied, with_own_copied, with_peers_copied};
+ghost use Rattle.frame_shelf.specs.Copies.{bare_response, net_added, own_added, peers_added};
 
 use std::alloc::Global;
 use tail_base::{Duplicate, Items, NoMemory};
@@ -27,7 +27,7 @@ fn bare_response(alloc: Global, seq: Option<u64>) -> Response
 
 /// Copies what a response tells of the session and of the machine itself.
 fn copy_own(alloc: Global, made: &mut Response, response: &Response) -> Result<(), NoMemory>
-    ensures ok { OnOk result (made.new ≡ with_own_copied made.old response.now) }
+    ensures ok { OnOk result (made.new ≡ own_added made.old response.now) }
 {
     made.handle = response.handle.copy(alloc)?;
     made.node = response.node.copy(alloc)?;
@@ -37,7 +37,7 @@ fn copy_own(alloc: Global, made: &mut Response, response: &Response) -> Result<(
 
 /// Copies what a response tells of the tailnet.
 fn copy_net(alloc: Global, made: &mut Response, response: &Response) -> Result<(), NoMemory>
-    ensures ok { OnOk result (made.new ≡ with_net_copied made.old response.now) }
+    ensures ok { OnOk result (made.new ≡ net_added made.old response.now) }
 {
     made.filter = response.filter.copy(alloc)?;
     made.dns = response.dns.copy(alloc)?;
@@ -47,7 +47,7 @@ fn copy_net(alloc: Global, made: &mut Response, response: &Response) -> Result<(
 
 /// Copies what a response tells of peers.
 fn copy_peers(alloc: Global, made: &mut Response, response: &Response) -> Result<(), NoMemory>
-    ensures ok { OnOk result (made.new ≡ with_peers_copied made.old response.now) }
+    ensures ok { OnOk result (made.new ≡ peers_added made.old response.now) }
 {
     made.peers = response.peers.copy(alloc)?;
     made.changed = response.changed.copy(alloc)?;
@@ -59,7 +59,7 @@ fn copy_peers(alloc: Global, made: &mut Response, response: &Response) -> Result
 /// Copies all but the number.
 fn copy_parts(alloc: Global, made: &mut Response, response: &Response) -> Result<(), NoMemory>
     ensures ok { OnOk result (made.new
-        ≡ with_peers_copied (with_net_copied (with_own_copied made.old response.now) response.now) response.now) }
+        ≡ peers_added (net_added (own_added made.old response.now) response.now) response.now) }
 {
     copy_own(alloc, made, response)?;
     copy_net(alloc, made, response)?;
