@@ -98,8 +98,8 @@ const TRIGGERED: &str = "store_cases_triggered";
 
 const TOLD: &str = "store_cases_triggered/told.db";
 
-/// The bytes of a file of another program, whose only table has a trigger, so that the store reads no table in it: each part,
-/// and how many zeros stand behind it. `sqlite3` has made it.
+/// The bytes of a file of another program: each part, and how many zeros stand behind it. `sqlite3` has made it, with one table,
+/// which has a trigger, and a column of a kind that the store doesn't know.
 const TOLD_PARTS: [(&[u8], usize); 5] = [
     (
         b"SQLite format 3\x00\x02\x00\x02\x02\x00@  \x00\x00\x00\x02\x00\x00\x00\x02",
@@ -108,11 +108,11 @@ const TOLD_PARTS: [(&[u8], usize); 5] = [
     (b"\x02\x00\x00\x00\x04", 11),
     (b"\x01", 35),
     (
-        b"\x02\x00.c\x01\r\x00\x00\x00\x02\x01t\x00\x01\xca\x01t",
-        260,
+        b"\x02\x00.c\x01\r\x00\x00\x00\x02\x01W\x00\x01\xad\x01W",
+        231,
     ),
     (
-        b"T\x02\x07\x1b\x15\x17\x08\x81\x07triggertoldnotesCREATE TRIGGER told AFTER INSERT ON notes BEGIN SELECT 1; END4\x01\x06\x17\x17\x17\x01Itablenotesnotes\x02CREATE TABLE notes (note TEXT)\r\x00\x00\x00\x00\x02",
+        b"T\x02\x07\x1b\x15\x17\x08\x81\x07triggertoldnotesCREATE TRIGGER told AFTER INSERT ON notes BEGIN SELECT 1; ENDQ\x01\x07\x17\x17\x17\x01\x81\x01tablenotesnotes\x02CREATE TABLE notes (note TEXT, size INT AS (length(note)))\r\x00\x00\x00\x00\x02",
         506,
     ),
 ];
@@ -133,7 +133,11 @@ fn a_database_with_a_trigger_stays(rt: HostRuntime) -> Result<(), Fail> {
     make_folder(&rt, TRIGGERED)?;
     fs::write(&rt, TOLD, told(rt.alloc())?.as_slice())?;
     let (fault, is_same) = fault_and_sameness(&rt, TOLD)?;
-    assert!(rt; fault == Some(LoadFault::Failed) && is_same);
+    let damaged = LoadFault::Damaged {
+        kind: Kind::Meta,
+        id: 0,
+    };
+    assert!(rt; fault == Some(damaged) && is_same);
     fs::remove_dir_all(&rt, TRIGGERED)?;
     Ok(())
 }
