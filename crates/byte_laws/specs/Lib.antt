@@ -1,0 +1,4 @@
+pub mod Orderly
+pub mod Answers
+pub mod Folding
+pub mod Runs
