@@ -22,7 +22,7 @@ use Rattle.desk_front.specs.declared.want.Wanted.TheVariants as wants
 use Rattle.connections.specs.Carried.{drained_responses, further_responses, greetings}
 use Rattle.connections.specs.Exchanges.{Exchange, IsAnswered, IsExchange}
 use Rattle.connections.specs.Polls.{AreBehind, AreFurther, IsBehindDrain, IsDetachOf, IsDrainOf, IsPoll, IsPollOf, IsStream}
-use Rattle.byte_laws.specs.Answers.{poll_responses, responses_behind}
+use Rattle.byte_laws.specs.Answers.{poll_responses, responses_behind_attach}
 use Rattle.byte_laws.specs.Folding.{BeginsUnder, ClientsFoldWhatTheyRead, IsAttachedAs}
 use Rattle.byte_laws.proofs.Lists.{all_append}
 use Rattle.byte_laws.proofs.Reading.{answer_read_back}
@@ -113,7 +113,7 @@ stream_sent given more close p handle resumed later bytes broken x =
 record IsSentAll (handle : List ℕ) (resumed : Bool) (reply : Reply) (later : List Turned) : Type 0 where
   none : drained_responses reply ≡ []
   sent : AllByRecursion (IsSentUnder handle) later
-  are : responses_behind reply later ≡ greetings handle resumed ++ further_responses later
+  are : responses_behind_attach reply later ≡ greetings handle resumed ++ further_responses later
 
 attached_sent : (given : FrontSettings) (more : ℕ) (close : Bool) (p : Poll) (handle : List ℕ) (resumed : Bool) (reply : Reply) (later : List Turned) (bytes : List ℕ) (broken : Bool)
     → IsPollOf given more close p reply later bytes broken → IsAttachedAs handle resumed reply → IsSentAll handle resumed reply later

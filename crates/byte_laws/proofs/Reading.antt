@@ -18,7 +18,7 @@ use Rattle.desk_front.specs.declared.want.Wanted.TheVariants as wants
 use Rattle.connections.specs.Carried.{AreAllMade, drained_responses, further_responses, greetings}
 use Rattle.connections.specs.Exchanges.{Exchange, IsAnswered, IsExchange}
 use Rattle.connections.specs.Polls.{AreBehind, AreFurther, IsPoll, IsPollOf, IsStream, stream_ending, stream_front}
-use Rattle.byte_laws.specs.Answers.{BeginsStream, BeginsWith, IsAnswerReadBack, IsStreamed, IsStreamedBehind, poll_responses, responses_behind}
+use Rattle.byte_laws.specs.Answers.{BeginsStream, BeginsWith, IsAnswerReadBack, IsStreamed, IsStreamedBehind, poll_responses, responses_behind_attach}
 use Rattle.byte_laws.specs.Orderly.{AreOrderly, IsTurnOrderly}
 use Rattle.byte_laws.proofs.Carrying.{detached_nothing, end_carried, frames_carried, framed, further_framed, greetings_orderly, greetings_typed, sized_of, turn_orderly}
 use Rattle.byte_laws.proofs.Lists.{all_append, all_front}
@@ -85,7 +85,7 @@ module _ (given : FrontSettings) (more : ℕ) (close : Bool) (p : Poll) (handle 
 
 module _ (given : FrontSettings) (more : ℕ) (close : Bool) (p : Poll) (broken : Bool) where
   attached_carries : (reply : Reply) (later : List Turned) (bytes : List ℕ) → IsPollOf given more close p reply later bytes broken → IsStreamedBehind reply later → broken ≡ false
-      → AllByRecursion IsTurnOrderly later → Carries bytes (responses_behind reply later)
+      → AllByRecursion IsTurnOrderly later → Carries bytes (responses_behind_attach reply later)
   attached_carries (Done answer) later bytes follows begins whole orderly = absurd begins
   attached_carries (Attached handle seq resumed may_wait) later bytes follows begins whole orderly =
       stream_carries given (if may_wait then more else 0) close p handle resumed broken later bytes follows begins whole orderly

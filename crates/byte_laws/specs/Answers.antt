@@ -15,18 +15,18 @@ use Rattle.connections.specs.Carried.{further_responses, greetings}
 use Rattle.connections.specs.Exchanges.{Exchange}
 
 -- the responses of a poll's turns behind its attach: the greeting, where its session went on, and what drains were replied
-abbrev pub responses_behind : Reply → List Turned → List Response
-responses_behind (Done answer) later = []
-responses_behind (Attached handle seq resumed may_wait) later = greetings handle resumed ++ further_responses later
-responses_behind (Frames responses) later = []
-responses_behind Ended later = []
-responses_behind Detached later = []
-responses_behind (Refused refusal) later = []
-responses_behind (Lost loss) later = []
+abbrev pub responses_behind_attach : Reply → List Turned → List Response
+responses_behind_attach (Done answer) later = []
+responses_behind_attach (Attached handle seq resumed may_wait) later = greetings handle resumed ++ further_responses later
+responses_behind_attach (Frames responses) later = []
+responses_behind_attach Ended later = []
+responses_behind_attach Detached later = []
+responses_behind_attach (Refused refusal) later = []
+responses_behind_attach (Lost loss) later = []
 
 abbrev pub poll_responses : List Turned → List Response
 poll_responses [] = []
-poll_responses (attach ∷ later) = responses_behind attach.reply later
+poll_responses (attach ∷ later) = responses_behind_attach attach.reply later
 
 -- a stream begins with what the first drain was replied, unless memory ran out
 abbrev pub BeginsStream : Reply → Type 0
