@@ -54,7 +54,7 @@ listed_tell (r ∷ rs) (s ∷ qs) p q e =
     ap₂ (λ t ts. t ∷ ts) one (listed_tell rs qs p.1 q.1 (others_same _ _ _ _ _ _ e))
 
 -- routes whose suffixes rise are written one by one
-in_turn : (rs : List DnsRoute) → IsStrictlySortedBy suffix_cmp rs → routes_data rs ≡ object (route_members rs)
+pub in_turn : (rs : List DnsRoute) → IsStrictlySortedBy suffix_cmp rs → routes_data rs ≡ object (route_members rs)
 unfolding routes_data
 in_turn rs rise = ap object (sym (members_from rs []) ∙ ap route_members (rising_routes rs rise))
 

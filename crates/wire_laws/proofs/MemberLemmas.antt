@@ -28,7 +28,7 @@ behind_cmp k l b h = elim (slice_cmp nat_cmp k l) as (λ o. match_ordering o b f
   | Greater ↦ λ e. absurd (cc (e))
 ] h
 
-behind : (k : List ℕ) (ms : List Named) → before_all k ms ≡ true → AllBehind k (optional_members ms)
+pub behind : (k : List ℕ) (ms : List Named) → before_all k ms ≡ true → AllBehind k (optional_members ms)
 behind k [] h = tt
 behind k (m ∷ ms) h =
     let parts = behind_cmp k m.0 (before_all k ms) h in

@@ -24,13 +24,13 @@ use Rattle.wire_laws.proofs.MemberLemmas.{Named, optional_grow, optional_tell}
 use Rattle.wire_laws.proofs.NodeForms.{always, nodes_grow, nodes_tell, patches_grow, patches_tell, profiles_grow, profiles_tell}
 use Rattle.wire_laws.proofs.TreeLemmas.{texts_tell_trees}
 
-abbrev changed_list : Response → List Named
+abbrev pub changed_list : Response → List Named
 changed_list r =
     (codes "PeersChanged", some_array node_data r.changed) ∷ (codes "PeersChangedPatch", some_array patch_data r.patches)
     ∷ (codes "PeersRemoved", some_array number_data r.removed) ∷ (codes "Seq", option_map number_data r.seq)
     ∷ (codes "UserProfiles", some_array profile_data r.profiles) ∷ []
 
-abbrev response_list : Response → List Named
+abbrev pub response_list : Response → List Named
 response_list r =
     (codes "DNSConfig", option_map dns_data r.dns) ∷ (codes "Domain", option_map string r.domain)
     ∷ (codes "MapSessionHandle", option_map string r.handle) ∷ (codes "Node", option_map node_data r.node)
@@ -42,24 +42,24 @@ text_options_tell o p e = options_tell string (λ s. ⊤) (λ s t h k. strings_t
 
 -- ---- both of what is typed and what else holds
 
-both : {X : Type 0} (P Q : X → Type 0) (o : Option X) → IfSome o P → IfSome o Q → IfSome o (λ x. P x × Q x)
+pub both : {X : Type 0} (P Q : X → Type 0) (o : Option X) → IfSome o P → IfSome o Q → IfSome o (λ x. P x × Q x)
 both P Q None p q = tt
 both P Q (Some x) p q = (p, q)
 
-each_both : {X : Type 0} (P Q : X → Type 0) (xs : List X) → AllByRecursion P xs → AllByRecursion Q xs → AllByRecursion (λ x. P x × Q x) xs
+pub each_both : {X : Type 0} (P Q : X → Type 0) (xs : List X) → AllByRecursion P xs → AllByRecursion Q xs → AllByRecursion (λ x. P x × Q x) xs
 each_both P Q [] p q = tt
 each_both P Q (x ∷ xs) p q = ((p.0, q.0), each_both P Q xs p.1 q.1)
 
-node_written : (r : Response) → IsWritten r → IfSome r.node IsWrittenNode
+pub node_written : (r : Response) → IsWritten r → IfSome r.node IsWrittenNode
 node_written r h = both IsTypedNode EndsLater r.node h.typed.node h.node
 
-dns_written : (r : Response) → IsWritten r → IfSome r.dns IsWrittenDns
+pub dns_written : (r : Response) → IsWritten r → IfSome r.dns IsWrittenDns
 dns_written r h = both IsTypedDns DoSuffixesRise r.dns h.typed.dns h.dns
 
-peers_written : (r : Response) → IsWritten r → AllByRecursion IsWrittenNode r.peers
+pub peers_written : (r : Response) → IsWritten r → AllByRecursion IsWrittenNode r.peers
 peers_written r h = each_both IsTypedNode EndsLater r.peers h.typed.peers h.peers
 
-changed_written : (r : Response) → IsWritten r → AllByRecursion IsWrittenNode r.changed
+pub changed_written : (r : Response) → IsWritten r → AllByRecursion IsWrittenNode r.changed
 changed_written r h = each_both IsTypedNode EndsLater r.changed h.typed.changed h.changed
 
 pub responses_tell : (a b : Response) → IsWritten a → IsWritten b → response_data a ≡ response_data b → a ≡ b
@@ -86,13 +86,13 @@ responses_tell a b p q e =
     }
 
 -- how deep a response nests, and no reader minds
-abbrev deep : ℕ
+abbrev pub deep : ℕ
 deep = 7
 
 text_options_grow : (n : ℕ) (o : Option (List ℕ)) → IfSome (option_map string o) (IsTree n)
 text_options_grow n o = options_grow string (λ s. ⊤) n (λ s k. tt) o (always o)
 
-response_grows : (r : Response) → IsWritten r → IsTree deep (response_data r)
+pub response_grows : (r : Response) → IsWritten r → IsTree deep (response_data r)
 unfolding response_data peer_members changed_members
 response_grows r h =
     optional_grow 6 (response_list r) (

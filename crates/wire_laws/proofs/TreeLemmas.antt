@@ -60,7 +60,7 @@ mutual
   members_back n (member k d ms) h = ap₂ (member k) (data_back n d h.0) (members_back n ms h.1)
 
 mutual
-  has_numbers : (n : ℕ) (d : Data) → IsTree n d → tree.HasNumbers (outline d)
+  pub has_numbers : (n : ℕ) (d : Data) → IsTree n d → tree.HasNumbers (outline d)
   has_numbers n null h = tt
   has_numbers n (boolean b) h = tt
   has_numbers n (number x) h = count_number x h
@@ -79,7 +79,7 @@ mutual
   members_numbers n (member k d ms) h = (has_numbers n d h.0, members_numbers n ms h.1)
 
 mutual
-  shallow : (n : ℕ) (d : Data) → IsTree n d → tree.depth (outline d) ≤ n
+  pub shallow : (n : ℕ) (d : Data) → IsTree n d → tree.depth (outline d) ≤ n
   shallow n null h = omega arith
   shallow n (boolean b) h = omega arith
   shallow n (number x) h = omega arith

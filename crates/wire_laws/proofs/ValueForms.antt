@@ -64,11 +64,11 @@ pub moments_tell : Tells moment_data IsMoment
 unfolding moment_data
 moments_tell a b p q e = moment_text-injective a b p q (strings_tell _ _ e)
 
-zero_time : moment_text first_moment ≡ codes "0001-01-01T00:00:00Z"
+pub zero_time : moment_text first_moment ≡ codes "0001-01-01T00:00:00Z"
 unfolding digits date_after
 zero_time = refl
 
-first_is : IsMoment first_moment
+pub first_is : IsMoment first_moment
 first_is = (omega arith, omega arith)
 
 no_zero_time : (t : ℤ) → IsMoment t → IsLaterMoment t → codes "0001-01-01T00:00:00Z" ≡ moment_text t → ⊥
@@ -92,7 +92,7 @@ hex_other b h = elim (cases_eq b 47) [
 digit_other : (b : ℕ) → is_ascii_digit b ≡ true → is_other 47 b ≡ true
 digit_other b h = grind (arith, nat_tests)
 
-slash_foreign : IsForeign 47
+pub slash_foreign : IsForeign 47
 slash_foreign = record { hex = hex_other; digit = digit_other; colon = refl; dot = refl }
 
 no_slash : (a : Address) → IsTypedAddr a → list_all (is_other 47) (addr_text a) ≡ true
@@ -103,7 +103,7 @@ a_slash [] ys h = cc (h)
 a_slash (x ∷ xs) ys h = a_slash xs ys (and_parts (is_other 47 x) (list_all (is_other 47) (xs ++ 47 ∷ ys)) h).1
 
 -- the text of a prefix has one
-prefix_slash : (p : Block) → list_all (is_other 47) (prefix_text p) ≡ true → ⊥
+pub prefix_slash : (p : Block) → list_all (is_other 47) (prefix_text p) ≡ true → ⊥
 prefix_slash p h = a_slash (addr_text p.base) (decimal p.len) (ap (list_all (is_other 47)) (sym (append_assoc (addr_text p.base) (codes "/") (decimal p.len))) ∙ h)
 
 -- an address and a prefix have different texts
