@@ -13,10 +13,11 @@ use Rattle.tailnet_desk.specs.Chains.{Turned}
 use Rattle.tailnet_desk.specs.declared.entry.Event.{Event}
 use Rattle.tailnet_desk.specs.declared.reply.Reply.{Reply}
 use Rattle.tailnet_desk.specs.declared.reply.Reply.TheVariants.{Attached, Detached, Done, Ended, Frames, Lost, Refused}
-use Rattle.connections.specs.Carried.{AreFurtherMade, AreMade, AreSized, drained_responses, further_responses, greetings}
+use Rattle.connections.specs.Carried.{AreFurtherMade, AreMade, AreSized, further_responses, greetings}
 use Rattle.connections.specs.Polls.{AreFurther, IsBehindDrain, IsDrainOf, chunks_for, drained_bytes, further_bytes, greeting_bytes, stream_opening}
 use Rattle.byte_laws.specs.Orderly.{AreOrderly, IsReplyOrderly, IsTurnOrderly}
 use Rattle.byte_laws.proofs.Lists.{all_append}
+use Rattle.tailnet_laws.specs.Followed.{frames_in}
 
 -- ---- bytes
 
@@ -24,7 +25,7 @@ chunks_both : (rs ss : List Response) → chunks_for (rs ++ ss) ≡ chunks_for r
 chunks_both [] ss = refl
 chunks_both (r ∷ rs) ss = ap (λ bytes. chunk_of (frame_of r) ++ bytes) (chunks_both rs ss) ∙ sym (append_assoc (chunk_of (frame_of r)) (chunks_for rs) (chunks_for ss))
 
-drained_carried : (reply : Reply) → drained_bytes reply ≡ chunks_for (drained_responses reply)
+drained_carried : (reply : Reply) → drained_bytes reply ≡ chunks_for (frames_in reply)
 drained_carried (Done answer) = refl
 drained_carried (Attached handle seq resumed may_wait) = refl
 drained_carried (Frames responses) = refl
@@ -36,8 +37,8 @@ drained_carried (Lost loss) = refl
 further_carried : (ts : List Turned) → further_bytes ts ≡ chunks_for (further_responses ts)
 further_carried [] = refl
 further_carried (t ∷ ts) =
-    ap (λ bytes. bytes ++ further_bytes ts) (drained_carried t.reply) ∙ ap (λ bytes. chunks_for (drained_responses t.reply) ++ bytes) (further_carried ts)
-    ∙ sym (chunks_both (drained_responses t.reply) (further_responses ts))
+    ap (λ bytes. bytes ++ further_bytes ts) (drained_carried t.reply) ∙ ap (λ bytes. chunks_for (frames_in t.reply) ++ bytes) (further_carried ts)
+    ∙ sym (chunks_both (frames_in t.reply) (further_responses ts))
 
 greeting_carried : (handle : List ℕ) (resumed : Bool) → greeting_bytes handle resumed ≡ chunks_for (greetings handle resumed)
 greeting_carried handle true = sym (append-nil (chunk_of (frame_of (greeting handle))))
@@ -73,11 +74,11 @@ end_carried handle resumed = ap (λ bytes. bytes ++ last_chunk) (sym (append-nil
 further_both : (ts us : List Turned) → further_responses (ts ++ us) ≡ further_responses ts ++ further_responses us
 further_both [] us = refl
 further_both (t ∷ ts) us =
-    ap (λ rs. drained_responses t.reply ++ rs) (further_both ts us) ∙ sym (append_assoc (drained_responses t.reply) (further_responses ts) (further_responses us))
+    ap (λ rs. frames_in t.reply ++ rs) (further_both ts us) ∙ sym (append_assoc (frames_in t.reply) (further_responses ts) (further_responses us))
 
 pub detached_nothing : (ts : List Turned) (detach : Turned) → detach.reply ≡ Detached → further_responses (ts ++ detach ∷ []) ≡ further_responses ts
 detached_nothing ts detach is =
-    further_both ts (detach ∷ []) ∙ ap (λ (r : Reply). further_responses ts ++ (drained_responses r ++ [])) is ∙ append-nil (further_responses ts)
+    further_both ts (detach ∷ []) ∙ ap (λ (r : Reply). further_responses ts ++ (frames_in r ++ [])) is ∙ append-nil (further_responses ts)
 
 -- ---- they are such as the server writes
 
@@ -104,7 +105,7 @@ pub sized_of : (broken : Bool) (rs : List Response) (ts : List Turned) → broke
 sized_of broken rs ts whole (inl h) = absurd (let clash : true ≡ false = sym h.0 ∙ whole in cc)
 sized_of broken rs ts whole (inr sized) = sized
 
-pub turn_orderly : (machine : MachineKey) (handle : List ℕ) (t : Turned) → IsDrainOf machine handle t → IsTurnOrderly t → AreOrderly (drained_responses t.reply)
+pub turn_orderly : (machine : MachineKey) (handle : List ℕ) (t : Turned) → IsDrainOf machine handle t → IsTurnOrderly t → AreOrderly (frames_in t.reply)
 turn_orderly machine handle t d orderly = subst (λ (e : Event). IsReplyOrderly e t.reply) d.event_is orderly d.in_years
 
 none_framed : (ts : List Turned) → ts ≡ [] → AreFramed (further_responses ts)
@@ -123,6 +124,6 @@ pub further_framed : (machine : MachineKey) (handle : List ℕ) (more : ℕ) (br
     → AreFurtherMade broken ts → AllByRecursion IsTurnOrderly ts → AreFramed (further_responses ts)
 further_framed machine handle more broken [] whole are made orderly = tt
 further_framed machine handle more broken (t ∷ ts) whole are made orderly =
-    all_append _ (drained_responses t.reply) (further_responses ts)
-    (framed (drained_responses t.reply) are.1.typed (turn_orderly machine handle t are.1 orderly.0) (sized_of broken (drained_responses t.reply) ts whole made.0))
+    all_append _ (frames_in t.reply) (further_responses ts)
+    (framed (frames_in t.reply) are.1.typed (turn_orderly machine handle t are.1 orderly.0) (sized_of broken (frames_in t.reply) ts whole made.0))
     (behind_framed broken t.reply ts (AreFurther machine handle (more - 1) broken ts) (λ rest. further_framed machine handle (more - 1) broken ts whole rest made.1 orderly.1) are.2)

@@ -19,7 +19,7 @@ use Rattle.desk_front.specs.declared.front_settings.FrontSettings.{FrontSettings
 use Rattle.desk_front.specs.declared.poll.Poll.{Poll}
 use Rattle.desk_front.specs.declared.want.Wanted.{Wanted}
 use Rattle.desk_front.specs.declared.want.Wanted.TheVariants as wants
-use Rattle.connections.specs.Carried.{drained_responses, further_responses, greetings}
+use Rattle.connections.specs.Carried.{further_responses, greetings}
 use Rattle.connections.specs.Exchanges.{Exchange, IsAnswered, IsExchange}
 use Rattle.connections.specs.Polls.{AreBehind, AreFurther, IsBehindDrain, IsDetachOf, IsDrainOf, IsPoll, IsPollOf, IsStream}
 use Rattle.byte_laws.specs.Answers.{poll_responses, responses_behind_attach}
@@ -29,28 +29,19 @@ use Rattle.byte_laws.proofs.Reading.{answer_read_back}
 
 -- ---- what is sent under a handle
 
-same_frames : (reply : Reply) → frames_in reply ≡ drained_responses reply
-same_frames (Done answer) = refl
-same_frames (Attached handle seq resumed may_wait) = refl
-same_frames (Frames responses) = refl
-same_frames Ended = refl
-same_frames Detached = refl
-same_frames (Refused refusal) = refl
-same_frames (Lost loss) = refl
-
 -- what the turn was replied is sent under the handle
 abbrev IsSentUnder : List ℕ → Turned → Type 0
-IsSentUnder handle t = sent_under handle t.event (frames_in t.reply) ≡ drained_responses t.reply
+IsSentUnder handle t = sent_under handle t.event (frames_in t.reply) ≡ frames_in t.reply
 
 own_handle : (handle : List ℕ) (rs : List Response) → (if bytes_eq handle handle then rs else []) ≡ rs
 own_handle handle rs = ap (λ (b : Bool). if b then rs else []) (bytes_eq-from handle handle refl)
 
 drain_sent : (machine : MachineKey) (handle : List ℕ) (t : Turned) → IsDrainOf machine handle t → IsSentUnder handle t
 drain_sent machine handle t d =
-    ap (λ (e : Event). sent_under handle e (frames_in t.reply)) d.event_is ∙ own_handle handle (frames_in t.reply) ∙ same_frames t.reply
+    ap (λ (e : Event). sent_under handle e (frames_in t.reply)) d.event_is ∙ own_handle handle (frames_in t.reply)
 
 detach_sent : (machine : MachineKey) (handle : List ℕ) (t : Turned) → IsDetachOf machine handle t → IsSentUnder handle t
-detach_sent machine handle t d = ap (λ (e : Event). sent_under handle e (frames_in t.reply)) d.event_is ∙ sym (ap drained_responses d.reply_is)
+detach_sent machine handle t d = ap (λ (e : Event). sent_under handle e (frames_in t.reply)) d.event_is ∙ sym (ap frames_in d.reply_is)
 
 -- ---- folding
 
@@ -65,7 +56,7 @@ views_folded handle (e ∷ es) views sent =
     let later = further_responses (map turned_of es) in
     views_folded handle es (views_after views e) sent.1
     ∙ ap (λ (rs : List Response). fold_all (fold_all (views handle) rs) later) sent.0
-    ∙ sym (fold_both (views handle) (drained_responses e.reply) later)
+    ∙ sym (fold_both (views handle) (frames_in e.reply) later)
 
 -- ---- the turns of a poll
 
@@ -111,7 +102,7 @@ stream_sent given more close p handle resumed later bytes broken x =
 -- What is known of a poll that is attached under a handle: what its turns behind the attach were replied is sent under
 -- that handle, and is what its responses are behind the greeting.
 record IsSentAll (handle : List ℕ) (resumed : Bool) (reply : Reply) (later : List Turned) : Type 0 where
-  none : drained_responses reply ≡ []
+  none : frames_in reply ≡ []
   sent : AllByRecursion (IsSentUnder handle) later
   are : responses_behind_attach reply later ≡ greetings handle resumed ++ further_responses later
 

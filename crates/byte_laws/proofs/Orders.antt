@@ -37,11 +37,11 @@ use Rattle.tailnet_desk.specs.declared.reply.Reply.{Reply}
 use Rattle.tailnet_desk.specs.declared.reply.Reply.TheVariants.{Attached, Detached, Done, Ended, Frames, Lost, Refused}
 use Rattle.tailnet_desk.proofs.SessionSteps.{drains}
 use Rattle.tailnet_desk.proofs.SoundHistories.{after_better, after_settings}
-use Rattle.connections.specs.Carried.{drained_responses}
 use Rattle.wire_laws.specs.Dns.{DoSuffixesRise}
 use Rattle.wire_laws.specs.Nodes.{EndsLater, IsLaterMoment}
 use Rattle.byte_laws.specs.Orderly.{AreOrderly, IsOrderly, IsReplyOrderly}
 use Rattle.byte_laws.proofs.Lists.{all_filter, each_of}
+use Rattle.tailnet_laws.specs.Followed.{frames_in}
 
 -- ---- nodes
 
@@ -146,17 +146,17 @@ drain_orderly s mk handle d hold sound begun is =
     (responses_orderly x.session.handle x.session.seq x.session.sent (fresh_for s x.machine) (fresh_orderly s x.machine hold sound begun x.live))
 
 turn_orderly : (s : State) (mk : MachineKey) (handle : List ℕ) (o : Option DrainDecision) → AreSettings s.settings → AreSound s.rows → first_moment ≤ℤ s.now → drain s mk handle ≡ o
-    → AreOrderly (drained_responses (drain_turn s o).reply)
+    → AreOrderly (frames_in (drain_turn s o).reply)
 turn_orderly s mk handle None hold sound begun is = tt
 turn_orderly s mk handle (Some d) hold sound begun is = drain_orderly s mk handle d hold sound begun is
 
 reply_orderly : (s : State) (mk : MachineKey) (handle : List ℕ) (m : ℤ) (before after : ℕ) (reply : Reply) → AreSettings s.settings → AreSound s.rows → IsMoment m
-    → IsReply s (event.Drain mk handle m) before after reply → AreOrderly (drained_responses reply)
+    → IsReply s (event.Drain mk handle m) before after reply → AreOrderly (frames_in reply)
 reply_orderly s mk handle m before after (Done answer) hold sound begun is = tt
 reply_orderly s mk handle m before after (Attached other seq resumed may_wait) hold sound begun is = tt
 reply_orderly s mk handle m before after (Frames responses) hold sound begun is =
     let t = at_moment s m in
-    subst (λ (r : Reply). AreOrderly (drained_responses r)) (sym is) (turn_orderly t mk handle (drain t mk handle) hold sound (later_begun s.now m begun.0) refl)
+    subst (λ (r : Reply). AreOrderly (frames_in r)) (sym is) (turn_orderly t mk handle (drain t mk handle) hold sound (later_begun s.now m begun.0) refl)
 reply_orderly s mk handle m before after Ended hold sound begun is = tt
 reply_orderly s mk handle m before after Detached hold sound begun is = tt
 reply_orderly s mk handle m before after (Refused refusal) hold sound begun is = tt

@@ -15,13 +15,14 @@ use Rattle.desk_front.specs.declared.front_settings.FrontSettings.{FrontSettings
 use Rattle.desk_front.specs.declared.poll.Poll.{Poll}
 use Rattle.desk_front.specs.declared.want.Wanted.{Wanted}
 use Rattle.desk_front.specs.declared.want.Wanted.TheVariants as wants
-use Rattle.connections.specs.Carried.{AreAllMade, drained_responses, further_responses, greetings}
+use Rattle.connections.specs.Carried.{AreAllMade, further_responses, greetings}
 use Rattle.connections.specs.Exchanges.{Exchange, IsAnswered, IsExchange}
 use Rattle.connections.specs.Polls.{AreBehind, AreFurther, IsPoll, IsPollOf, IsStream, stream_ending, stream_front}
 use Rattle.byte_laws.specs.Answers.{BeginsStream, BeginsWith, IsAnswerReadBack, IsStreamed, IsStreamedBehind, poll_responses, responses_behind_attach}
 use Rattle.byte_laws.specs.Orderly.{AreOrderly, IsTurnOrderly}
 use Rattle.byte_laws.proofs.Carrying.{detached_nothing, end_carried, frames_carried, framed, further_framed, greetings_orderly, greetings_typed, sized_of, turn_orderly}
 use Rattle.byte_laws.proofs.Lists.{all_append, all_front}
+use Rattle.tailnet_laws.specs.Followed.{frames_in}
 
 -- What a stream carries: its bytes are those of the responses, and the server writes such.
 pub record Carries (bytes : List ℕ) (rs : List Response) : Type 0 where
@@ -58,8 +59,8 @@ module _ (given : FrontSettings) (more : ℕ) (close : Bool) (p : Poll) (handle 
       }
 
   drained_carries : (reply : Reply) (further : List Turned) → BeginsStream reply → broken ≡ false → AreBehind p.machine handle more broken reply further
-      → AreAllMade broken handle resumed reply further → AreTypedResponses (drained_responses reply) → AreOrderly (drained_responses reply) → AllByRecursion IsTurnOrderly further
-      → Carries (stream_front given close p handle resumed reply further ++ stream_ending reply) (greetings handle resumed ++ (drained_responses reply ++ further_responses further))
+      → AreAllMade broken handle resumed reply further → AreTypedResponses (frames_in reply) → AreOrderly (frames_in reply) → AllByRecursion IsTurnOrderly further
+      → Carries (stream_front given close p handle resumed reply further ++ stream_ending reply) (greetings handle resumed ++ (frames_in reply ++ further_responses further))
   drained_carries (Done answer) further begins whole are made typed orderly more_orderly = absurd begins
   drained_carries (Attached other seq again may_wait) further begins whole are made typed orderly more_orderly = absurd begins
   drained_carries (Frames rs) further begins whole are made typed orderly more_orderly = frames_carry rs further whole are made typed orderly more_orderly
@@ -74,12 +75,12 @@ module _ (given : FrontSettings) (more : ℕ) (close : Bool) (p : Poll) (handle 
       let g = greetings handle resumed in
       let begun : BeginsStream x.drain.reply = subst BeginsWith x.later_are begins in
       let all : AllByRecursion IsTurnOrderly (x.drain ∷ (x.further ++ x.detach ∷ [])) = subst (AllByRecursion IsTurnOrderly) x.later_are orderly in
-      let is : further_responses later ≡ drained_responses x.drain.reply ++ further_responses x.further =
-      ap further_responses x.later_are ∙ ap (λ (rs : List Response). drained_responses x.drain.reply ++ rs) (detached_nothing x.further x.detach x.detach_is.reply_is) in
+      let is : further_responses later ≡ frames_in x.drain.reply ++ further_responses x.further =
+      ap further_responses x.later_are ∙ ap (λ (rs : List Response). frames_in x.drain.reply ++ rs) (detached_nothing x.further x.detach x.detach_is.reply_is) in
       let made = drained_carries x.drain.reply x.further begun whole x.further_are x.made x.drain_is.typed (turn_orderly p.machine handle x.drain x.drain_is all.0)
       (all_front IsTurnOrderly x.further (x.detach ∷ []) all.1) in
       subst (λ (rs : List Response). Carries bytes (g ++ rs)) (sym is)
-      (subst (λ (written : List ℕ). Carries written (g ++ (drained_responses x.drain.reply ++ further_responses x.further))) (sym x.bytes_are) made)
+      (subst (λ (written : List ℕ). Carries written (g ++ (frames_in x.drain.reply ++ further_responses x.further))) (sym x.bytes_are) made)
 
 -- ---- from the attach on
 

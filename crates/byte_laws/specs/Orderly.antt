@@ -9,7 +9,7 @@ use Rattle.tailnet_desk.specs.Chains.{Turned}
 use Rattle.tailnet_desk.specs.declared.entry.Event.{Event}
 use Rattle.tailnet_desk.specs.declared.entry.Event.TheVariants as event
 use Rattle.tailnet_desk.specs.declared.reply.Reply.{Reply}
-use Rattle.connections.specs.Carried.{drained_responses}
+use Rattle.tailnet_laws.specs.Followed.{frames_in}
 
 -- No node's key ends at the first moment, and the suffixes of DNS routes rise.
 pub record IsOrderly (r : Response) : Type 0 where
@@ -25,7 +25,7 @@ AreOrderly rs = AllByRecursion IsOrderly rs
 abbrev pub IsReplyOrderly : Event → Reply → Type 0
 IsReplyOrderly (event.Ask x moment words) reply = ⊤
 IsReplyOrderly (event.Attach mk node handle seq moment words) reply = ⊤
-IsReplyOrderly (event.Drain mk handle moment) reply = IsMoment moment → AreOrderly (drained_responses reply)
+IsReplyOrderly (event.Drain mk handle moment) reply = IsMoment moment → AreOrderly (frames_in reply)
 IsReplyOrderly (event.Detach mk handle moment) reply = ⊤
 
 abbrev pub IsTurnOrderly : Turned → Type 0

@@ -5,6 +5,7 @@ mod argument;
 mod arguments;
 mod asked_flow;
 mod invocation;
+mod laws;
 mod line;
 mod operators;
 mod parser;
@@ -13,4 +14,5 @@ mod words;
 
 pub use asked_flow::AskedFlow;
 pub use invocation::{Invocation, OperatorCall, OperatorCommand};
+pub use laws::the_numbers_are_these;
 pub use words::read_invocation;

@@ -19,7 +19,7 @@ use Rattle.desk_front.specs.declared.front_settings.FrontSettings.{FrontSettings
 use Rattle.desk_front.specs.declared.poll.Poll.{Poll}
 use Rattle.exit_status.specs.Pieces.{IsPrefix, Sent}
 use Rattle.exit_status.specs.declared.closed.Closed.{Closed}
-use Rattle.connections.specs.Carried.{AreAllMade, AreFurtherMade, AreMade, AreSized, drained_responses, first_responses, greetings}
+use Rattle.connections.specs.Carried.{AreAllMade, AreFurtherMade, AreMade, AreSized, first_responses, greetings}
 use Rattle.connections.specs.Exchanges.{breaks}
 use Rattle.connections.specs.Polled.{AttachAnswered, Completed, DrainedSent, Followed, FurtherSent, GoesOn, IsPollAnswered, NextSent, TurnedOnce}
 use Rattle.connections.specs.Polls.{AreBehind, AreFurther, IsAttachOf, IsBehindDrain, IsDetachOf, IsDrainOf, IsPollOf, all_but_last, before_last, chunks_for, drained_bytes, further_bytes, heard_behind, heard_drains, heard_of, stream_ending, stream_front, stream_opening, without_last}
@@ -27,6 +27,7 @@ use Rattle.connections.specs.Tellings.{Drew, Giving, TurnsTook, taking}
 use Rattle.connections.proofs.AnswerLemmas.{clamped_told, heard_alone, same_number, took_none}
 use Rattle.connections.proofs.SentLemmas.{broke, heard_completed, heard_then, made_or_broken, sent_broken, sent_completed, sent_nothing, sent_then, still_breaks}
 use Rattle.connections.proofs.Tellings.{took-append}
+use Rattle.tailnet_laws.specs.Followed.{frames_in}
 
 -- ---- what was heard
 
@@ -126,7 +127,7 @@ module _ {S : Type 0} (turn : S → Event → Reply → S → Type 0) where
   }
 
   pub drained_once : (machine : MachineKey) (handle : List ℕ) (m moment : ℤ) (reply : Reply) (old new : Giving) (s t : S) → moment ≡ clamped m
-      → AreTypedResponses (drained_responses reply) → ((k : ℕ) → new.words k ≡ old.words k) → old.word_faults ≤ new.word_faults → stream.Took old.answers new.answers m
+      → AreTypedResponses (frames_in reply) → ((k : ℕ) → new.words k ≡ old.words k) → old.word_faults ≤ new.word_faults → stream.Took old.answers new.answers m
       → turn s (event.Drain machine handle moment) reply t → TurnedOnce turn (IsDrainOf machine handle) reply old new s t
   drained_once machine handle m moment reply old new s t at typed words faults took leads = record {
     turned = record { event = event.Drain machine handle moment; reply = reply };
@@ -151,7 +152,7 @@ module _ {S : Type 0} (turn : S → Event → Reply → S → Type 0) where
 
   pub next_sent : (outcome : Result Bool Closed) (machine : MachineKey) (handle : List ℕ) (reply : Reply) (h k : Option (List ℕ)) (n l : ℕ) (a b : ℕ → Option ℤ)
       (w : ℕ → Option (List ℕ)) (f : ℕ) (s t : S) → TurnedOnce turn (IsDrainOf machine handle) reply (taking h n a w f) (taking h n b w f) s t
-      → Sent outcome h k n l (drained_bytes reply) → GoesOn outcome reply → OnOk outcome (AreSized (drained_responses reply))
+      → Sent outcome h k n l (drained_bytes reply) → GoesOn outcome reply → OnOk outcome (AreSized (frames_in reply))
       → NextSent turn outcome machine handle (taking h n a w f) (taking k l b w f) s t
   next_sent outcome machine handle reply h k n l a b w f s t once sent goes_on made = record {
     drain = once.turned;
@@ -160,7 +161,7 @@ module _ {S : Type 0} (turn : S → Event → Reply → S → Type 0) where
     leads = once.leads;
     took = took_apart h h h k n n n l a b w w f f (once.turned ∷ []) once.took;
     sent = subst (λ (r : Reply). Sent outcome h k n l (drained_bytes r)) (sym once.reply_is) sent;
-    made = subst (λ (r : Reply). OnOk outcome (AreSized (drained_responses r))) (sym once.reply_is) made;
+    made = subst (λ (r : Reply). OnOk outcome (AreSized (frames_in r))) (sym once.reply_is) made;
   }
 
   -- none is left
@@ -398,7 +399,7 @@ module _ {S : Type 0} (turn : S → Event → Reply → S → Type 0) where
 
     further_made : (b c : Bool) (ts : List Turned) → (b ≡ true → c ≡ true) → AreFurtherMade b ts → AreFurtherMade c ts
     further_made b c [] h made = tt
-    further_made b c (t ∷ ts) h made = (made_in b c (drained_responses t.reply) ts h made.0, further_made b c ts h made.1)
+    further_made b c (t ∷ ts) h made = (made_in b c (frames_in t.reply) ts h made.0, further_made b c ts h made.1)
 
     all_made : (b c : Bool) (reply : Reply) (ts : List Turned) → (b ≡ true → c ≡ true) → AreAllMade b handle resumed reply ts → AreAllMade c handle resumed reply ts
     all_made b c reply ts h made = (made_in b c (first_responses handle resumed reply) ts h made.0, further_made b c ts h made.1)

@@ -7,16 +7,7 @@ use Rattle.map_delta.specs.Delta.{greeting}
 use Rattle.tailnet_desk.specs.Chains.{Turned}
 use Rattle.tailnet_desk.specs.declared.reply.Reply.{Reply}
 use Rattle.tailnet_desk.specs.declared.reply.Reply.TheVariants.{Attached, Detached, Done, Ended, Frames, Lost, Refused}
-
--- what a drain was replied
-abbrev pub drained_responses : Reply → List Response
-drained_responses (Done answer) = []
-drained_responses (Attached handle seq resumed may_wait) = []
-drained_responses (Frames responses) = responses
-drained_responses Ended = []
-drained_responses Detached = []
-drained_responses (Refused refusal) = []
-drained_responses (Lost loss) = []
+use Rattle.tailnet_laws.specs.Followed.{frames_in}
 
 -- the greeting of a client whose session goes on
 abbrev pub greetings : List ℕ → Bool → List Response
@@ -35,7 +26,7 @@ first_responses handle resumed (Lost loss) = []
 -- and those of further drains
 abbrev pub further_responses : List Turned → List Response
 further_responses [] = []
-further_responses (t ∷ ts) = drained_responses t.reply ++ further_responses ts
+further_responses (t ∷ ts) = frames_in t.reply ++ further_responses ts
 
 -- the length of its frame is a number of the machine
 abbrev pub IsSized : Response → Type 0
@@ -51,7 +42,7 @@ AreMade broken rs ts = ((broken ≡ true) × (ts ≡ [])) ⊎ AreSized rs
 -- so it is for each further drain
 abbrev pub AreFurtherMade : Bool → List Turned → Type 0
 AreFurtherMade broken [] = Unit {0}
-AreFurtherMade broken (t ∷ ts) = AreMade broken (drained_responses t.reply) ts × AreFurtherMade broken ts
+AreFurtherMade broken (t ∷ ts) = AreMade broken (frames_in t.reply) ts × AreFurtherMade broken ts
 
 -- for the first and for further ones
 abbrev pub AreAllMade : Bool → List ℕ → Bool → Reply → List Turned → Type 0

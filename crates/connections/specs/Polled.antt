@@ -7,12 +7,13 @@ use Rattle.tailnet_desk.specs.declared.reply.Reply.{Reply}
 use Rattle.tailnet_desk.specs.declared.reply.Reply.TheVariants.{Attached, Detached, Done, Ended, Frames, Lost, Refused}
 use Rattle.desk_front.specs.declared.front_settings.FrontSettings.{FrontSettings}
 use Rattle.desk_front.specs.declared.poll.Poll.{Poll}
-use Rattle.connections.specs.Carried.{AreAllMade, AreFurtherMade, AreSized, drained_responses}
+use Rattle.connections.specs.Carried.{AreAllMade, AreFurtherMade, AreSized}
 use Rattle.connections.specs.Exchanges.{breaks}
 use Rattle.connections.specs.Polls.{AreBehind, AreFurther, IsDrainOf, IsPoll, IsPollOf, IsStream, before_last, drained_bytes, further_bytes, heard_behind, heard_drains, heard_of, stream_front, without_last}
 use Rattle.connections.specs.Tellings.{Giving, TurnsTook}
 use Rattle.exit_status.specs.Pieces.{IsPrefix, Sent}
 use Rattle.exit_status.specs.declared.closed.Closed.{Closed}
+use Rattle.tailnet_laws.specs.Followed.{frames_in}
 
 -- one turn, of which the test holds, was replied so
 pub record TurnedOnce {S : Type 0} (turn : S → Event → Reply → S → Type 0) (is : Turned → Type 0) (reply : Reply) (old new : Giving) (s t : S) : Type 0 where
@@ -47,7 +48,7 @@ pub record NextSent {S : Type 0} (turn : S → Event → Reply → S → Type 0)
   pub leads : turn s drain.event drain.reply t
   pub took : TurnsTook old new (drain ∷ [])
   pub sent : Sent outcome old.held new.held old.write_faults new.write_faults (drained_bytes drain.reply)
-  pub made : OnOk outcome (AreSized (drained_responses drain.reply))
+  pub made : OnOk outcome (AreSized (frames_in drain.reply))
 
 -- further drains, and their chunks
 pub record FurtherSent {T S : Type 0} (turn : S → Event → Reply → S → Type 0) (outcome : Result T Closed) (machine : MachineKey) (handle : List ℕ) (more : ℕ) (old new : Giving) (s t : S) : Type 0 where

@@ -14,7 +14,8 @@ use Rattle.tailnet_desk.specs.declared.reply.Reply.TheVariants.{Attached, Detach
 use Rattle.desk_front.specs.Replies.{map_ask_of, reply_bytes}
 use Rattle.desk_front.specs.declared.front_settings.FrontSettings.{FrontSettings}
 use Rattle.desk_front.specs.declared.poll.Poll.{Poll}
-use Rattle.connections.specs.Carried.{AreAllMade, drained_responses}
+use Rattle.connections.specs.Carried.{AreAllMade}
+use Rattle.tailnet_laws.specs.Followed.{frames_in}
 
 -- the turn attaches the poll
 pub record IsAttachOf (p : Poll) (t : Turned) : Type 0 where
@@ -27,7 +28,7 @@ pub record IsDrainOf (machine : MachineKey) (handle : List ℕ) (t : Turned) : T
   pub moment : ℤ
   pub in_years : IsMoment moment
   pub event_is : t.event ≡ event.Drain machine handle moment
-  pub typed : AreTypedResponses (drained_responses t.reply)
+  pub typed : AreTypedResponses (frames_in t.reply)
 
 -- the turn detaches it
 pub record IsDetachOf (machine : MachineKey) (handle : List ℕ) (t : Turned) : Type 0 where

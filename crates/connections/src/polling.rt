@@ -7,10 +7,10 @@ ghost use Rattle.tailnet_desk.specs.declared.reply.Reply.TheVariants as replies;
 ghost use Rattle.desk_front.specs.Replies.{map_ask_of, reply_bytes};
 ghost use Rattle.desk_front.specs.declared.front_settings.FrontSettings.{FrontSettings};
 ghost use Rattle.exit_status.specs.Pieces.{Sent};
-ghost use Rattle.connections.specs.Carried.{drained_responses};
 ghost use Rattle.connections.specs.Polled.{AttachAnswered, DrainedSent, Followed, FurtherSent, IsPollAnswered, NextSent, TurnedOnce};
 ghost use Rattle.connections.specs.Polls.{IsAttachOf, IsDetachOf, IsDrainOf};
 ghost use Rattle.connections.specs.Tellings.{Drew, Giving, giving, taking, telling, writing};
+ghost use Rattle.tailnet_laws.specs.Followed.{frames_in};
 
 use crate::replying::send_reply;
 use crate::streaming::{complete, send_drained, send_first, send_opening};
@@ -64,7 +64,7 @@ fn attach_poll<T: Turns, C: Clock, N: Entropy>(
 
 /// The responses of a drain have values of their types. It changes nothing.
 fn known_drained(drained: &Drained)
-    ensures typed { AreTypedResponses (drained_responses (drain_reply drained.now)) }
+    ensures typed { AreTypedResponses (frames_in (drain_reply drained.now)) }
 {
     match drained {
         Drained::Frames(responses) => known_values(responses.as_slice()),

@@ -4,9 +4,10 @@ ghost use Rattle.fresh_maps.specs.Frames.{frame_of};
 ghost use Rattle.http_front.specs.Streams as chunks;
 ghost use Rattle.exit_status.specs.Pieces.{Sent};
 ghost use Rattle.tailnet_desk.specs.Step.{drain_reply};
-ghost use Rattle.connections.specs.Carried.{AreSized, IsSized, drained_responses, greetings};
+ghost use Rattle.connections.specs.Carried.{AreSized, IsSized, greetings};
 ghost use Rattle.connections.specs.Polled.{Completed, GoesOn};
 ghost use Rattle.connections.specs.Polls.{chunks_for, drained_bytes, greeting_bytes, stream_ending, stream_opening};
+ghost use Rattle.tailnet_laws.specs.Followed.{frames_in};
 
 use exit_status::{Closed, send};
 use fresh_maps::{NodeTexts, frame_bytes};
@@ -150,7 +151,7 @@ pub(crate) fn send_drained<O: Sink>(
         (O.write_faults output.old) (O.write_faults output.new)
         (drained_bytes (drain_reply drained.now)) }
     ensures goes_on { GoesOn result (drain_reply drained.now) }
-    ensures sized { OnOk result (AreSized (drained_responses (drain_reply drained.now))) }
+    ensures sized { OnOk result (AreSized (frames_in (drain_reply drained.now))) }
 {
     match drained {
         Drained::Frames(responses) => {

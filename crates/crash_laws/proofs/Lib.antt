@@ -1,3 +1,2 @@
-mod Codes
 pub mod Surviving
 mod Trees

@@ -1,25 +1,15 @@
 -- What a crash may leave behind a history at a desk.
-use Rattle.std.specs.Prelude.{◌≡◌, ◌⊎◌, ℕ, Bool, List, [], ◌∷◌, Option, Some, ⊤}
+use Rattle.std.specs.Prelude.{◌≡◌, ◌⊎◌, List, [], ◌∷◌, Option, Some, ⊤}
 use Rattle.net_rows.specs.declared.rows.Rows.{Rows}
 use Rattle.desk_state.specs.State.{State}
 use Rattle.keeper_sqlite.specs.Left.{rows_left}
 use Rattle.sqlite.specs.State.{State as StoreState}
 use Rattle.sqlite_trees.specs.Tree.{Trees}
 use Rattle.tailnet_desk.specs.Chains.{Turned}
-use Rattle.tailnet_desk.specs.Crashes.{IsSafeTurn}
+use Rattle.tailnet_desk.specs.Crashes.{IsLost}
 use Rattle.tailnet_desk.specs.History.{state_after}
-use Rattle.tailnet_desk.specs.Seated.{Seated, point_of}
 use Rattle.tailnet_desk.specs.Step.{step}
-use Rattle.tailnet_desk.specs.Turns.{IsTurn}
 use Rattle.tailnet_desk.specs.declared.entry.Event.{Event}
-use Rattle.tailnet_desk.specs.declared.reply.Reply.{Reply}
-use Rattle.tailnet_desk.specs.declared.reply.Reply.TheVariants.{Done, Attached, Frames, Ended, Detached, Refused, Lost}
-
--- A call of a desk over a keeper: its turn, and what a crash may leave behind it.
-pub record IsKeptTurn {K : Type 0} (told : K → Option Rows) (faults calls : K → ℕ) (is_clean : K → Bool) (may_leave : K → Option Rows → Type 0)
-    (d : Seated K) (e : Event) (reply : Reply) (q : Seated K) : Type 0 where
-  pub turn : IsTurn (point_of told faults calls d) e reply (point_of told faults calls q)
-  pub safe : IsSafeTurn told is_clean may_leave d e reply q
 
 -- A crash leaves these rows, and nothing else.
 abbrev pub LeavesAlone : (Option Rows → Type 0) → Rows → Type 0
@@ -29,17 +19,7 @@ LeavesAlone may rows = (found : Option Rows) → may found → found ≡ Some ro
 abbrev pub LeaveTheRows : StoreState → Rows → Type 0
 LeaveTheRows s rows = (trees : Trees) → s.may_leave trees → rows_left trees ≡ Some rows
 
--- an ask that wasn't carried out, for a fault of the keeper or of memory
-abbrev pub IsLost : Reply → Type 0
-IsLost (Done answer) = ⊥
-IsLost (Attached handle seq resumed may_wait) = ⊥
-IsLost (Frames responses) = ⊥
-IsLost Ended = ⊥
-IsLost Detached = ⊥
-IsLost (Refused refusal) = ⊥
-IsLost (Lost loss) = ⊤
-
--- no ask was
+-- no ask was lost
 abbrev pub NoneIsLost : List Turned → Type 0
 NoneIsLost [] = ⊤
 NoneIsLost (x ∷ xs) = (IsLost x.reply → ⊥) × NoneIsLost xs

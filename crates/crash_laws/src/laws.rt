@@ -1,6 +1,6 @@
 //! What a crash leaves of the histories at a desk. No function here does anything: each states a law.
 ghost use Rattle.std.specs.Prelude.{◌≡◌, ◌⊎◌, List, Option, Some, IsSome, IsTrue};
-ghost use Rattle.crash_laws.specs.Histories.{IsKeptTurn, LeaveTheRows, LeavesAlone, MayBeLeft, NoneIsLost};
+ghost use Rattle.crash_laws.specs.Histories.{LeaveTheRows, LeavesAlone, MayBeLeft, NoneIsLost};
 ghost use Rattle.keeper_sqlite.specs.Left.{rows_left};
 ghost use Rattle.net_rows.specs.declared.rows.Rows.{Rows};
 ghost use Rattle.sqlite.specs.Held.{state};
@@ -9,7 +9,7 @@ ghost use Rattle.sqlite_trees.specs.Tree.{Trees};
 ghost use Rattle.store_loads.specs.Told.{store_tells};
 ghost use Rattle.tailnet_desk.specs.Asks.{IsPollEvent};
 ghost use Rattle.tailnet_desk.specs.Chains.{Chain, Turned};
-ghost use Rattle.tailnet_desk.specs.Crashes.{LeavesAlso};
+ghost use Rattle.tailnet_desk.specs.Crashes.{IsKeptTurn, IsSafeDesk, LeavesAlso, OrOneMore};
 ghost use Rattle.tailnet_desk.specs.History.{ChangesRows};
 ghost use Rattle.tailnet_desk.specs.Seated.{Seated, point_of};
 ghost use Rattle.tailnet_desk.specs.Step.{step};
@@ -101,4 +101,15 @@ pub fn acknowledged_asks_survive<S: Alter + Drop>()
         → ChangesRows m.state e → HasCleanDisk (state S.Store q.keeper.conn)
         → IsSome (store_tells (state S.Store m.keeper.conn))
         → LeaveTheRows (state S.Store q.keeper.conn) q.state.rows }
+{}
+
+/// A desk over a SQLite database that is safe: in all trees that a crash of the store may leave, the desk's rows
+/// are found, or those that one event more would have made of them.
+pub fn safe_desks_leave_their_rows<S: Alter + Drop>()
+    ensures safe { (d : _) → IsSafeDesk ⟦<SqliteKeeper<S> as Keeper>⟧.told
+        ⟦<SqliteKeeper<S> as Keeper>⟧.is_clean ⟦<SqliteKeeper<S> as Keeper>⟧.may_leave d
+        → HasCleanDisk (state S.Store d.keeper.conn)
+        → IsSome (store_tells (state S.Store d.keeper.conn))
+        → (trees : Trees) → (state S.Store d.keeper.conn).may_leave trees
+        → OrOneMore d.state.rows (rows_left trees) }
 {}

@@ -3,4 +3,6 @@
 
 mod laws;
 
-pub use laws::{acknowledged_asks_survive, histories_survive, polls_are_kept};
+pub use laws::{
+    acknowledged_asks_survive, histories_survive, polls_are_kept, safe_desks_leave_their_rows,
+};

@@ -1,5 +1,6 @@
 //! The commands `explain` and `reach`.
 ghost use Rattle.tailnet_commands.specs.Outside.{Outside};
+ghost use Rattle.tailnet_desk.specs.Crashes.{StaysSafe};
 ghost use Rattle.explain_commands.specs.Explained.{ErrorsTold, ExplainOutcome, Explained, IsAnswerWritten, beside_errors, beside_input};
 
 use crate::opened::answer_over;
@@ -39,6 +40,7 @@ fn answered<O: Sink, F: Files, P: Opener, C: Clock>(
         Explained result question.now settings.now
         (at before output.old files.old opener.old clock.old)
         (at after output.new files.new opener.new clock.new) }
+    ensures safe { StaysSafe P.told P.is_clean P.may_leave opener.old opener.new }
 {
     let settings = match settings_file(alloc, files, settings) {
         Ok(settings) => settings,
@@ -67,6 +69,7 @@ fn answer_command<O: Sink, E: Sink, F: Files, P: Opener, C: Clock>(
         ExplainOutcome result question.now settings.now
         (at output.old errors.old files.old opener.old clock.old)
         (at output.new errors.new files.new opener.new clock.new) }
+    ensures safe { StaysSafe P.told P.is_clean P.may_leave opener.old opener.new }
 {
     let ended = answered(alloc, settings, question, output, files, opener, clock);
     note(alloc, errors, &ended);
@@ -95,6 +98,7 @@ pub fn explain_command<O: Sink, E: Sink, F: Files, P: Opener, C: Clock>(
         ExplainOutcome result (Question.Flow flow.now) settings.now
         (at output.old errors.old files.old opener.old clock.old)
         (at output.new errors.new files.new opener.new clock.new) }
+    ensures safe { StaysSafe P.told P.is_clean P.may_leave opener.old opener.new }
 {
     let question = Question::Flow(*flow);
     answer_command(
@@ -120,6 +124,7 @@ pub fn reach_command<O: Sink, E: Sink, F: Files, P: Opener, C: Clock>(
         ExplainOutcome result Question.Reaches settings.now
         (at output.old errors.old files.old opener.old clock.old)
         (at output.new errors.new files.new opener.new clock.new) }
+    ensures safe { StaysSafe P.told P.is_clean P.may_leave opener.old opener.new }
 {
     answer_command(
         alloc,

@@ -2,6 +2,7 @@
 ghost use Rattle.std.specs.Prelude.{IfErr, IfOk};
 ghost use Rattle.tailnet_commands.specs.Opened.{IsDeskFault, opener_told};
 ghost use Rattle.explain_commands.specs.Answered.{IsAnswer};
+ghost use Rattle.tailnet_desk.specs.Crashes.{StaysSafe};
 
 use crate::answering::answer_text;
 use crate::question::Question;
@@ -26,6 +27,7 @@ pub(crate) fn answer_over<P: Opener, C: Clock>(
         (at opener.old) (at opener.new) (C.answer clock.old) (C.answer clock.new)) }
     ensures fault { let at = opener_told P.told P.asked P.faults in
         IfErr result (λ e. IsDeskFault e settings (at opener.old) (at opener.new)) }
+    ensures safe { StaysSafe P.told P.is_clean P.may_leave opener.old opener.new }
 {
     let desk = open_desk(alloc, settings, opener, clock)?;
     let answer = answer_text(alloc, &desk.snapshot(), question);

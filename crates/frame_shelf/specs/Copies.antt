@@ -1,22 +1,5 @@
 -- A response with parts of another.
-use Rattle.std.specs.Prelude.{ℕ, [], Option, None}
 use Rattle.tailcfg.specs.declared.response.Response.{Response}
-
--- with a number alone
-abbrev pub bare_response : Option ℕ → Response
-bare_response seq = record {
-  handle = None;
-  seq = seq;
-  node = None;
-  filter = None;
-  dns = None;
-  domain = None;
-  peers = [];
-  changed = [];
-  removed = [];
-  patches = [];
-  profiles = [];
-}
 
 -- what is told of the session and of the machine itself
 abbrev pub own_added : Response → Response → Response

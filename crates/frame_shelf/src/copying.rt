@@ -1,29 +1,10 @@
 //! Copies of responses.
 ghost use Rattle.std.specs.Prelude.{◌≡◌, IfOk, OnOk};
-ghost use Rattle.frame_shelf.specs.Copies.{bare_response, net_added, own_added, peers_added};
+ghost use Rattle.frame_shelf.specs.Copies.{net_added, own_added, peers_added};
 
 use std::alloc::Global;
-use tail_base::{Duplicate, Items, NoMemory};
+use tail_base::{Duplicate, NoMemory};
 use tailcfg::Response;
-
-/// A response that has nothing but a number. It takes no memory.
-fn bare_response(alloc: Global, seq: Option<u64>) -> Response
-    ensures value { result ≡ bare_response seq }
-{
-    Response {
-        handle: None,
-        seq,
-        node: None,
-        filter: None,
-        dns: None,
-        domain: None,
-        peers: Items::new(alloc),
-        changed: Items::new(alloc),
-        removed: Items::new(alloc),
-        patches: Items::new(alloc),
-        profiles: Items::new(alloc),
-    }
-}
 
 /// Copies what a response tells of the session and of the machine itself.
 fn copy_own(alloc: Global, made: &mut Response, response: &Response) -> Result<(), NoMemory>
@@ -70,7 +51,7 @@ fn copy_parts(alloc: Global, made: &mut Response, response: &Response) -> Result
 pub(crate) fn copy_of(alloc: Global, response: &Response) -> Result<Response, NoMemory>
     ensures value { IfOk result (λ made. made ≡ response.now) }
 {
-    let mut made = bare_response(alloc, response.seq);
+    let mut made = Response::new(alloc, response.seq);
     copy_parts(alloc, &mut made, response)?;
     Ok(made)
 }

@@ -22,36 +22,16 @@ pub(crate) fn is_empty(response: &Response) -> bool
 pub(crate) fn patching(alloc: Global, patches: Items<Patch>, seq: u64) -> Response
     ensures value { result ≡ spec.patching patches seq }
 {
-    Response {
-        handle: None,
-        seq: Some(seq),
-        node: None,
-        filter: None,
-        dns: None,
-        domain: None,
-        peers: Items::new(alloc),
-        changed: Items::new(alloc),
-        removed: Items::new(alloc),
-        patches,
-        profiles: Items::new(alloc),
-    }
+    let mut made = Response::new(alloc, Some(seq));
+    made.patches = patches;
+    made
 }
 
 /// What tells a client that its session goes on: the handle alone. It takes no memory.
 pub fn greeting(alloc: Global, handle: Text) -> Response
     ensures value { result ≡ spec.greeting handle }
 {
-    Response {
-        handle: Some(handle),
-        seq: None,
-        node: None,
-        filter: None,
-        dns: None,
-        domain: None,
-        peers: Items::new(alloc),
-        changed: Items::new(alloc),
-        removed: Items::new(alloc),
-        patches: Items::new(alloc),
-        profiles: Items::new(alloc),
-    }
+    let mut made = Response::new(alloc, None);
+    made.handle = Some(handle);
+    made
 }

@@ -12,9 +12,8 @@ use std::alloc::Global;
 use std::marker::Model;
 use tail_base::{Duplicate, NoMemory, Text};
 
-/// An IPv4 or IPv6 address: its family, and its number there. Addresses go by family, IPv4 first,
-/// and then by number.
-#[derive(Clone, Copy, Debug, PartialEq, Eq, PartialOrd, Ord, Drop)]
+/// An IPv4 or IPv6 address: its family, and its number there.
+#[derive(Clone, Copy, Debug, PartialEq, Eq, Drop)]
 pub struct Addr {
     v6: bool,
     bits: u128,

@@ -12,7 +12,7 @@ use std::alloc::Global;
 use tail_base::{Duplicate, NoMemory, Text, number_in};
 
 /// Where a machine may be reached by UDP: an address and a port.
-#[derive(Clone, Copy, Debug, PartialEq, Eq, PartialOrd, Ord, Drop)]
+#[derive(Clone, Copy, Debug, PartialEq, Eq, Drop)]
 pub struct Endpoint {
     pub addr: Addr,
     pub port: u16,

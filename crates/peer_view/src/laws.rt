@@ -15,6 +15,7 @@ ghost use Rattle.settings.specs.declared.fields.SettingsFields.{SettingsFields};
 ghost use Rattle.peer_view.specs.Choices.{IsShownAt};
 ghost use Rattle.peer_view.specs.Seen.{Node, Seen, node_reaches, seen_of, sees, visible};
 ghost use Rattle.peer_view.specs.Shown.{granted_into, offers, shown};
+ghost use Rattle.peer_view.specs.declared.node.TheConstants.{TAGGED_OWNER};
 ghost use Rattle.policy_sites.specs.ByRule.{IsSoundSite, site_reaches};
 ghost use Rattle.peer_view.specs.Reaches.{reaches};
 
@@ -84,4 +85,9 @@ pub fn machines_without_routes_change_no_row()
     ensures others { (w : Seen) (viewer : Node) (before : List Node) (q : Node)
         (after : List Node) (p : Node) → q.site.approved ≡ []
         → shown w viewer (before ++ q ∷ after) p ≡ shown w viewer (before ++ after) p }
+{}
+
+/// The id of the owner that tagged machines are shown with, which no user has.
+pub fn the_numbers_are_these()
+    ensures tagged_owner { TAGGED_OWNER ≡ 2147483647 }
 {}

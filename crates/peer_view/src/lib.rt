@@ -16,6 +16,7 @@ mod world;
 pub use laws::{
     a_route_is_shown_at_one_machine, all_see_all_without_policy,
     machines_without_routes_change_no_row, reach_is_local, sight_is_mutual_and_by_rules,
+    the_numbers_are_these,
 };
 pub use machine::LiveMachine;
 pub use near::Near;

@@ -1,8 +1,9 @@
 -- Responses of a map session (`tailcfg.MapResponse`) as they are read.
-use Rattle.std.specs.Prelude.{ℕ, List, [], Option, None, Result, Ok, codes, option_and_then}
+use Rattle.std.specs.Prelude.{ℕ, List, Option, None, Result, Ok, codes, option_and_then}
 use Rattle.std.specs.Result.{result_ok}
 use Rattle.serde_json.specs.Data.{Data}
 use Rattle.tail_base.specs.Steps.{◌>>=◌}
+use Rattle.tailcfg.specs.Responses.{bare_response}
 use Rattle.tailcfg.specs.declared.response.Response.{Response}
 use Rattle.wire_json.specs.Body.{body_value, object_at}
 use Rattle.response_read.specs.Dns.{dns_settings_at}
@@ -11,10 +12,6 @@ use Rattle.response_read.specs.Members.{all_given, all_read, if_given}
 use Rattle.response_read.specs.Nodes.{node_at, peer_change_at, profile_at}
 use Rattle.response_read.specs.Values.{id_at, seq_at, words_at}
 use Rattle.response_read.specs.declared.misfit.Misfit.{Misfit}
-
--- a response with nothing in it
-abbrev pub empty_response : Response
-empty_response = record { handle = None; seq = None; node = None; filter = None; dns = None; domain = None; peers = []; changed = []; removed = []; patches = []; profiles = [] }
 
 -- with what an object says of the machine itself
 unfoldable pub with_own : Response → Data → Result Response Misfit
@@ -45,7 +42,7 @@ with_session r d = do
 -- The response that an object is. Each field may be absent, and each but `PacketFilter` is as absent where it
 -- is an empty list.
 unfoldable pub response_at : Data → Result Response Misfit
-response_at d = with_own empty_response d >>= λ own. with_peers own d >>= λ peers. with_session peers d
+response_at d = with_own (bare_response None) d >>= λ own. with_peers own d >>= λ peers. with_session peers d
 
 -- the response that a body is, if it is one: a JSON text in UTF-8 whose value is such an object
 abbrev pub response_of_body : List ℕ → Option Response

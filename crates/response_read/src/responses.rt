@@ -2,7 +2,7 @@
 ghost use Rattle.std.specs.Prelude.{◌≡◌, IfOk};
 ghost use Rattle.serde_json.specs.View.{view};
 ghost use Rattle.tail_base.specs.Steps.{Gives};
-ghost use Rattle.response_read.specs.Responses.{empty_response, response_at, response_of_body, with_own, with_peers, with_session};
+ghost use Rattle.response_read.specs.Responses.{response_at, response_of_body, with_own, with_peers, with_session};
 
 use crate::dns::DnsObject;
 use crate::filters::RuleObject;
@@ -12,28 +12,9 @@ use crate::nodes::{NodeObject, PatchObject, ProfileObject};
 use crate::values::{Id, Seq, Words};
 use serde_json::Value;
 use std::alloc::Global;
-use tail_base::{Failure, Items, NoMemory};
+use tail_base::{Failure, NoMemory};
 use tailcfg::Response;
 use wire_json::object_of_body;
-
-/// A response with nothing in it.
-fn empty_response(alloc: Global) -> Response
-    ensures value { result ≡ empty_response }
-{
-    Response {
-        handle: None,
-        seq: None,
-        node: None,
-        filter: None,
-        dns: None,
-        domain: None,
-        peers: Items::new(alloc),
-        changed: Items::new(alloc),
-        removed: Items::new(alloc),
-        patches: Items::new(alloc),
-        profiles: Items::new(alloc),
-    }
-}
 
 /// Reads what an object says of the machine itself.
 #[tactic(auto, unfolding(crate::specs::Responses::with_own))]
@@ -79,7 +60,7 @@ fn read_session(
 fn response_of(alloc: Global, object: &Value) -> Result<Response, Failure<Misfit>>
     ensures value { Gives (λ r. r) result (response_at (view object.now)) }
 {
-    let mut response = empty_response(alloc);
+    let mut response = Response::new(alloc, None);
     read_own(alloc, &mut response, object)?;
     read_peers(alloc, &mut response, object)?;
     read_session(alloc, &mut response, object)?;

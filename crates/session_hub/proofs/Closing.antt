@@ -61,6 +61,7 @@ module _ {D : Type 0} (reaches : D → List Line → D → Type 0) (start : D) (
         there = values 0 (Some d) (ap (λ (z : List (mathlib.Core.Option.Option (Option D))). get_elem? z 0) hs);
         stands = subst (λ z. reaches start z d) (sym whole_seen) h;
         named = λ n z. ap (lines_by n) whole_seen ∙ k.named n (below_over n k.seats (sym (mine_alone n) ∙ z));
+        numbered = λ n. mine_alone n ∙ ap (below n) (sym all);
       }
 
 module _ {D : Type 0} (reaches : D → List Line → D → Type 0) (start : D) where

@@ -1,14 +1,17 @@
 -- Histories with one line more, and their beginnings.
-use Rattle.std.proofs.Common.{◌≡◌, ◌≢◌, ℕ, ◌≤◌, ◌==◌, Bool, false, List, [], ◌∷◌, ◌++◌, length, refl, sym, ap, ◌∙◌, subst, arith, append_assoc, if◌then◌else◌}
+use Rattle.std.proofs.Common.{◌≡◌, ◌≢◌, ℕ, ◌≤◌, ◌==◌, Bool, false, Option, List, [], ◌∷◌, ◌++◌, length, refl, sym, ap, ◌∙◌, subst, arith, append_assoc, if◌then◌else◌}
 use Rattle.std.proofs.lemmas.List.Elements.{filter-append}
 use Rattle.std.proofs.lemmas.List.{append-nil, append_cancel_left}
 use Rattle.std.proofs.lemmas.Bool.Decides.{nat_tests}
+use Rattle.net_rows.specs.declared.rows.Rows.{Rows}
+use Rattle.tailnet_desk.specs.Crashes.{IsKeptTurn, IsSafeDesk}
 use Rattle.tailnet_desk.specs.History.{IsCall, IsReply, Legal, count_at_end, replay, state_after}
-use Rattle.tailnet_desk.specs.Seated.{Point}
+use Rattle.tailnet_desk.specs.Seated.{Point, Seated, point_of}
 use Rattle.tailnet_desk.specs.Turns.{IsTurn}
 use Rattle.tailnet_desk.specs.declared.entry.Entry.{Entry}
+use Rattle.tailnet_desk.proofs.KeptTurns.{turn_safe}
 use Rattle.session_hub.specs.declared.known.Line.{Line}
-use Rattle.session_hub.specs.Lines.{IsReplayOf, entries_of, lines_by}
+use Rattle.session_hub.specs.Lines.{IsReplayOf, Replays, entries_of, lines_by}
 
 -- one entry more, which starts where the others end
 legal_then : (s : _) (n : ℕ) (ls : List Line) (l : Line) → Legal s n (entries_of ls)
@@ -33,7 +36,7 @@ called t m now after e state_is count_is before ends call =
     (before ∙ count_is, call.short, subst (λ n. IsReply t e.event n e.after e.reply) count_is (subst (λ s. IsReply s e.event now.keeping.faults e.after e.reply) state_is reply'), subst (λ (k : ℕ). k ≤ e.after) count_is later', tt)
 
 -- A desk that stands at the end of a history makes a call: the line of it joins the history.
-pub replay_more : (start now after : Point) (ls : List Line) (l : Line) → l.entry.before ≡ now.keeping.faults → l.entry.after ≡ after.keeping.faults
+replay_more : (start now after : Point) (ls : List Line) (l : Line) → l.entry.before ≡ now.keeping.faults → l.entry.after ≡ after.keeping.faults
     → IsTurn now l.entry.event l.entry.reply after → IsReplayOf start ls now → IsReplayOf start (ls ++ l ∷ []) after
 replay_more start now after ls l before ends turn r =
     let call = turn.call in
@@ -44,6 +47,15 @@ replay_more start now after ls l before ends turn r =
       count = sym ends ∙ sym (count_then start.keeping.faults ls l);
       before = λ tells. r.before (turn.before tells);
     }
+
+-- the same of a desk over a keeper; and where it was safe it stays so
+pub replays_more : {K : Type 0} (told : K → Option Rows) (faults calls : K → ℕ) (is_clean : K → Bool) (may_leave : K → Option Rows → Type 0) (start now after : Seated K) (ls : List Line) (l : Line)
+    → l.entry.before ≡ faults now.keeper → l.entry.after ≡ faults after.keeper → IsKeptTurn told faults calls is_clean may_leave now l.entry.event l.entry.reply after
+    → Replays (point_of told faults calls) (IsSafeDesk told is_clean may_leave) start ls now → Replays (point_of told faults calls) (IsSafeDesk told is_clean may_leave) start (ls ++ l ∷ []) after
+replays_more told faults calls is_clean may_leave start now after ls l before ends kept r = record {
+  replays = replay_more (point_of told faults calls start) (point_of told faults calls now) (point_of told faults calls after) ls l before ends kept.turn r.replays;
+  stays = λ safe. turn_safe told faults calls is_clean may_leave now l.entry.event l.entry.reply after kept (r.stays safe);
+}
 
 pub lines_by_snoc : (n : ℕ) (ls : List Line) (l : Line) → l.by ≢ n → lines_by n (ls ++ l ∷ []) ≡ lines_by n ls
 lines_by_snoc n ls l ne = filter-append (λ (x : Line). x.by == n) ls (l ∷ []) ∙ ap (λ t. lines_by n ls ++ t) (alone (l.by == n) (grind (arith, nat_tests))) ∙ append-nil (lines_by n ls)

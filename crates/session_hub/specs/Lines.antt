@@ -47,6 +47,7 @@ pub record IsReplayOf (start : Point) (lines : List Line) (now : Point) : Type 0
   pub count : now.keeping.faults ≡ count_at_end start.keeping.faults (entries_of lines)
   pub before : ToldBefore start.keeping.told now.keeping.told
 
--- the same of a desk that is seen at points
-abbrev pub Replays : {D : Type 0} → (D → Point) → D → List Line → D → Type 0
-Replays at start lines desk = IsReplayOf (at start) lines (at desk)
+-- The same of a desk that is seen at points; and what was safe then is safe now.
+pub record Replays {D : Type 0} (at : D → Point) (safe : D → Type 0) (start : D) (lines : List Line) (desk : D) : Type 0 where
+  pub replays : IsReplayOf (at start) lines (at desk)
+  pub stays : safe start → safe desk

@@ -9,6 +9,7 @@ use Rattle.session_hub.specs.declared.known.Stage.TheVariants.{Idle, Waits, InTu
 use Rattle.session_hub.specs.declared.known.Portion.{Portion}
 use Rattle.session_hub.specs.declared.known.Known.{Known}
 use Rattle.session_hub.specs.Lines.{StartsWith, lines_by, longer, times}
+use Rattle.session_hub.specs.Rule.{below}
 
 abbrev pub ticket_of : Stage → ℕ
 ticket_of Idle = 0
@@ -131,3 +132,4 @@ module _ {D : Type 0} where
     pub there : get_elem? slots 0 ≡ some (Some desk)
     pub stands : reaches start v.seen desk
     pub named : (n : ℕ) → times n v.names ≡ 0 → lines_by n v.seen ≡ []
+    pub numbered : (n : ℕ) → times n v.names ≡ below n (length v.names)

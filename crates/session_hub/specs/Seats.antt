@@ -1,7 +1,7 @@
 -- What contracts see of a hub and of its seats.
 use Rattle.std.specs.Prelude.{◌≡◌, ◌<◌, ◌≤◌, ◌+◌, ℕ, Option, List, [], ◌∷◌, ◌++◌}
 use Rattle.atomic_table.specs.Seated.{TableId}
-use Rattle.tailnet_desk.specs.Seated.{Point}
+use Rattle.tailnet_desk.specs.Seated.{Point, Seated}
 use Rattle.tailnet_desk.specs.declared.entry.Event.{Event}
 use Rattle.tailnet_desk.specs.declared.reply.Reply.{Reply}
 use Rattle.session_hub.specs.declared.known.Line.{Line}
@@ -11,6 +11,11 @@ use Rattle.session_hub.specs.Lines.{AreLegal, StartsWith, lines_by, longer, time
 pub record HubView : Type 0 where
   pub table : TableId
   pub start : Option Point
+
+-- a hub, and the desk that it was made of
+pub record HubOf (K : Type 0) : Type 0 where
+  pub view : HubView
+  pub desk : Seated K
 
 -- of which hub a seat is, its name, the names that it answers for, and the history as far as it has seen it
 pub record SeatView : Type 0 where

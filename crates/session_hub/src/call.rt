@@ -1,8 +1,7 @@
 //! The calls of a desk as values, so that all of them take one way through the hub.
 ghost use Rattle.session_hub.specs.Calls.{IsReplyTo, event_of};
 ghost use Rattle.tailnet_desk.specs.Asks.{IsShortEvent};
-ghost use Rattle.tailnet_desk.specs.Seated.{point_of};
-ghost use Rattle.tailnet_desk.specs.Turns.{IsTurn};
+ghost use Rattle.tailnet_desk.specs.Crashes.{IsKeptTurn};
 
 use net_addr::Moment;
 use row_keeper::Keeper;
@@ -45,8 +44,8 @@ impl Call<'_> {
     /// Makes the call.
     pub(crate) fn run<K: Keeper>(&self, desk: &mut Desk<K>) -> Reply
         requires short { IsShortEvent (event_of self.now) }
-        ensures turn { IsTurn (point_of K.told K.faults K.calls desk.old) (event_of self.now) result
-            (point_of K.told K.faults K.calls desk.new) }
+        ensures kept { IsKeptTurn K.told K.faults K.calls K.is_clean K.may_leave
+            desk.old (event_of self.now) result desk.new }
         ensures kind { IsReplyTo (event_of self.now) result }
     {
         match self {

@@ -1,6 +1,8 @@
 //! The hub.
-ghost use Rattle.std.specs.Prelude.{◌≡◌, ℕ, Some, [], ◌∷◌, IfOk, IfErr, IfSome};
+ghost use Rattle.std.specs.Prelude.{◌≡◌, ℕ, Some, [], ◌∷◌, IfOk, IfErr, IfSome, length};
 ghost use Rattle.session_hub.specs.Lines.{AreLegal, IsReplayOf, lines_by, times};
+ghost use Rattle.session_hub.specs.Rule.{below};
+ghost use Rattle.tailnet_desk.specs.Crashes.{IsSafeDesk};
 ghost use Rattle.tailnet_desk.specs.Seated.{point_of};
 ghost use Rattle.tailnet_desk.specs.Sound.{IsSoundState};
 
@@ -27,13 +29,16 @@ pub struct Hub<K: Keeper> {
 
 impl<K: Keeper> Model for Hub<K> {
     ghost use Rattle.std.specs.Prelude.{◌≡◌, Some};
-    ghost use Rattle.session_hub.specs.Seats.{HubView};
+    ghost use Rattle.session_hub.specs.Seats.{HubOf};
     ghost use Rattle.tailnet_desk.specs.Seated.{point_of};
     ghost use Rattle.tailnet_desk.specs.Sound.{IsSoundState};
 
-    ghost Value = { HubView };
+    ghost Value = { HubOf K };
 
-    ghost view = { λ h. record { table = h.table.shared.table_id; start = Some (point_of K.told K.faults K.calls h.table.shared.key.value) } };
+    ghost view = { λ h. record {
+      view = record { table = h.table.shared.table_id; start = Some (point_of K.told K.faults K.calls h.table.shared.key.value) };
+      desk = h.table.shared.key.value;
+    } };
 
     ghost invariant = { λ h. (h.table.shared.table_id.words ≡ 3)
         × (h.table.shared.table_id.slots ≡ 1)
@@ -43,10 +48,11 @@ impl<K: Keeper> Model for Hub<K> {
 impl<K: Keeper> Hub<K> {
     /// A hub over a desk, and its first seat. If there is no memory for it, the desk comes back.
     pub fn new(alloc: Global, desk: Desk<K>) -> Result<(Hub<K>, Seat<K>), (NoMemory, Desk<K>)>
-        ensures start { IfOk result (λ r. r.0.start
+        ensures start { IfOk result (λ r. r.0.view.start
             ≡ Some (point_of K.told K.faults K.calls desk)) }
+        ensures desk { IfOk result (λ r. r.0.desk ≡ desk) }
         ensures seat { IfOk result (λ r. r.1
-            ≡ record { hub = r.0; name = 0; names = 0 ∷ []; seen = [] }) }
+            ≡ record { hub = r.0.view; name = 0; names = 0 ∷ []; seen = [] }) }
         ensures kept { IfErr result (λ e. e.1 ≡ desk) }
     {
         let Ok(mut slots) = Vec::with_capacity(alloc, 1) else {
@@ -77,18 +83,25 @@ impl<K: Keeper> Hub<K> {
     /// What holds of every hub: its desk stood in a sound state when it was made. So laws on histories can
     /// be applied to what its seats have seen.
     pub fn rules(&self)
-        ensures sound { IfSome self.now.start (λ start. IsSoundState start.state) }
+        ensures sound { IfSome self.now.view.start (λ start. IsSoundState start.state) }
     {
         let _table = &self.table;
     }
 
     /// Gives the desk back, which stands at the end of what the seat has seen: that is the whole history.
-    /// It doesn't return while another seat of the hub was not joined into this one.
+    /// It doesn't return while another seat of the hub was not joined into this one. The names that its seats
+    /// were given are the numbers below their count, each once.
+    ///
+    /// If a crash left the rows of the desk that it was made of, or those that one event more would have made
+    /// of them, it does so of the desk that comes back.
     pub fn close<R: Wait>(self, rt: &R, seat: Seat<K>) -> Desk<K>
-        requires hub { seat.hub ≡ self }
-        ensures stands { IfSome self.start (λ start. IsReplayOf start seat.seen
+        requires hub { seat.hub ≡ self.view }
+        ensures stands { IfSome self.view.start (λ start. IsReplayOf start seat.seen
             (point_of K.told K.faults K.calls result)) }
-        ensures legal { AreLegal self.start seat.seen }
+        ensures safe { IsSafeDesk K.told K.is_clean K.may_leave self.desk
+            → IsSafeDesk K.told K.is_clean K.may_leave result }
+        ensures legal { AreLegal self.view.start seat.seen }
+        ensures numbered { (n : ℕ) → times n seat.names ≡ below n (length seat.names) }
         ensures named { (n : ℕ) → times n seat.names ≡ 0 → lines_by n seat.seen ≡ [] }
     {
         let Seat {

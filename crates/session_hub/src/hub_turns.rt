@@ -16,7 +16,7 @@ pub struct HubTurns<'a, R: Wait, K: Keeper> {
     pub rt: &'a R,
     pub hub: &'a Hub<K>,
     pub seat: &'a mut Seat<K>,
-    pub ghost of_hub: { seat.now.hub ≡ hub.now },
+    pub ghost of_hub: { seat.now.hub ≡ hub.now.view },
 }
 
 impl<'a, R: Wait, K: Keeper> Turns for HubTurns<'a, R, K> {

@@ -13,9 +13,11 @@ impl<K: Keeper> TableRule<Option<Desk<K>>, Known<Desk<K>>, Snapshot<Desk<K>>> fo
     ghost use Rattle.session_hub.specs.Lines.{Replays};
     ghost use Rattle.session_hub.specs.Plays.{first_seat};
     ghost use Rattle.session_hub.specs.Rule.{HubHolds};
+    ghost use Rattle.tailnet_desk.specs.Crashes.{IsSafeDesk};
     ghost use Rattle.tailnet_desk.specs.Seated.{point_of};
 
-    ghost holds = { λ key. HubHolds (Replays (point_of K.told K.faults K.calls)) key.value };
+    ghost holds = { λ key. HubHolds (Replays (point_of K.told K.faults K.calls)
+        (IsSafeDesk K.told K.is_clean K.may_leave)) key.value };
 
     ghost first = { λ key. first_seat key.value };
 }
@@ -37,9 +39,11 @@ pub struct FindTurn<K> {
 impl<K: Keeper> Play<Option<Desk<K>>, Known<Desk<K>>> for FindTurn<K> {
     ghost use Rattle.session_hub.specs.Lines.{Replays};
     ghost use Rattle.session_hub.specs.Plays.{FindsTurn};
+    ghost use Rattle.tailnet_desk.specs.Crashes.{IsSafeDesk};
     ghost use Rattle.tailnet_desk.specs.Seated.{point_of};
 
-    ghost then = { FindsTurn (Replays (point_of K.told K.faults K.calls)) };
+    ghost then = { FindsTurn (Replays (point_of K.told K.faults K.calls)
+        (IsSafeDesk K.told K.is_clean K.may_leave)) };
 }
 
 /// Tells which line is entered: a call of `advance` picks it.

@@ -58,7 +58,7 @@ impl<K: Keeper> Model for Seat<K> {
 impl<K: Keeper> Seat<K> {
     /// One call of the desk, in its turn.
     fn take_turn<R: Wait>(&mut self, rt: &R, hub: &Hub<K>, call: &Call<'_>) -> Reply
-        requires hub { self.old.hub ≡ hub.now }
+        requires hub { self.old.hub ≡ hub.now.view }
         requires short { IsShortEvent (event_of call.now) }
         ensures turn { IsSeatTurn self.old self.new (event_of call.now) result }
         ensures kind { IsReplyTo (event_of call.now) result }
@@ -82,7 +82,7 @@ impl<K: Keeper> Seat<K> {
         moment: Moment,
         words: Option<[u64; 4]>,
     ) -> Reply
-        requires hub { self.old.hub ≡ hub.now }
+        requires hub { self.old.hub ≡ hub.now.view }
         requires short { IsShort ask.now }
         ensures turn { IsSeatTurn self.old self.new (event.Ask ask.now moment words) result }
     {
@@ -111,7 +111,7 @@ impl<K: Keeper> Seat<K> {
         moment: Moment,
         words: Option<[u64; 4]>,
     ) -> Reply
-        requires hub { self.old.hub ≡ hub.now }
+        requires hub { self.old.hub ≡ hub.now.view }
         ensures turn { IsSeatTurn self.old self.new
             (event.Attach machine.now node.now handle.now seq moment words) result }
         ensures kind { IsAttachReply result }
@@ -141,7 +141,7 @@ impl<K: Keeper> Seat<K> {
         handle: &Text,
         moment: Moment,
     ) -> Drained
-        requires hub { self.old.hub ≡ hub.now }
+        requires hub { self.old.hub ≡ hub.now.view }
         ensures turn { IsSeatTurn self.old self.new
             (event.Drain machine.now handle.now moment) (drain_reply result) }
     {
@@ -167,7 +167,7 @@ impl<K: Keeper> Seat<K> {
         handle: &Text,
         moment: Moment,
     )
-        requires hub { self.old.hub ≡ hub.now }
+        requires hub { self.old.hub ≡ hub.now.view }
         ensures turn { IsSeatTurn self.old self.new
             (event.Detach machine.now handle.now moment) reply.Detached }
     {
@@ -191,7 +191,7 @@ impl<K: Keeper> Seat<K> {
 
     /// Another seat of the hub, which has seen as much and has a name of its own. It takes no memory.
     pub fn split<R: Wait>(&mut self, rt: &R, hub: &Hub<K>) -> Seat<K>
-        requires hub { self.old.hub ≡ hub.now }
+        requires hub { self.old.hub ≡ hub.now.view }
         ensures same { self.new ≡ self.old }
         ensures split { IsSplit self.old result }
     {
@@ -206,7 +206,7 @@ impl<K: Keeper> Seat<K> {
 
     /// Takes in what another seat has seen, and its names. It takes no memory.
     pub fn join(&mut self, hub: &Hub<K>, other: Seat<K>)
-        requires hub { (self.old.hub ≡ hub.now) × (other.hub ≡ hub.now) }
+        requires hub { (self.old.hub ≡ hub.now.view) × (other.hub ≡ hub.now.view) }
         ensures join { IsJoin self.old other self.new }
     {
         let Seat {

@@ -3,6 +3,7 @@ ghost use Rattle.std.specs.Prelude.{◌≡◌, ◌<◌, [], ◌∷◌, ◌++◌,
 ghost use Rattle.session_hub.specs.Lines.{Replays, times};
 ghost use Rattle.session_hub.specs.Plays.{HasDesk, MayEnter, Merges, idle, newcomer, remaining, with_stage};
 ghost use Rattle.session_hub.specs.declared.known.Stage.TheVariants.{Idle, Waits};
+ghost use Rattle.tailnet_desk.specs.Crashes.{IsSafeDesk};
 ghost use Rattle.tailnet_desk.specs.Seated.{point_of};
 
 use crate::call::Call;
@@ -41,7 +42,7 @@ fn low_half(word: u64) -> u32 {
 impl<K: Keeper> Hub<K> {
     /// Draws a ticket. Once the tickets are used up it doesn't return.
     pub(crate) fn draw_ticket<R: Wait>(&self, rt: &R, place: &mut Place<K>) -> u64
-        requires table { place.old.table_id ≡ self.now.table }
+        requires table { place.old.table_id ≡ self.now.view.table }
         requires idle { (place.old.me.0.stage ≡ Idle) × (0 < length place.old.me.0.names) }
         ensures same { (place.new.table_id ≡ place.old.table_id) × (place.new.id ≡ place.old.id) }
         ensures drawn { place.new.me
@@ -68,11 +69,11 @@ impl<K: Keeper> Hub<K> {
 
     /// Waits until the ticket is served, and takes the desk out.
     pub(crate) fn take_desk<R: Wait>(&self, rt: &R, place: &mut Place<K>, ticket: u64) -> Desk<K>
-        requires table { place.old.table_id ≡ self.now.table }
+        requires table { place.old.table_id ≡ self.now.view.table }
         requires waits { place.old.me.0.stage ≡ Waits ticket }
         ensures same { (place.new.table_id ≡ place.old.table_id) × (place.new.id ≡ place.old.id) }
-        ensures has { HasDesk (Replays (point_of K.told K.faults K.calls)) place.old.me result
-            place.new.me }
+        ensures has { HasDesk (Replays (point_of K.told K.faults K.calls)
+            (IsSafeDesk K.told K.is_clean K.may_leave)) place.old.me result place.new.me }
     {
         let shared = &self.table.shared;
         let mut looks = 0;
@@ -105,9 +106,9 @@ impl<K: Keeper> Hub<K> {
         _call: &Call<'_>,
         _reply: &Reply,
     )
-        requires table { place.old.table_id ≡ self.now.table }
-        requires entry { MayEnter (Replays (point_of K.told K.faults K.calls))
-            place.old.me E.line desk }
+        requires table { place.old.table_id ≡ self.now.view.table }
+        requires entry { MayEnter (Replays (point_of K.told K.faults K.calls)
+            (IsSafeDesk K.told K.is_clean K.may_leave)) place.old.me E.line desk }
         ensures same { (place.new.table_id ≡ place.old.table_id) × (place.new.id ≡ place.old.id) }
         ensures entered { place.new.me ≡ (
           idle place.old.me.0.start
@@ -128,7 +129,7 @@ impl<K: Keeper> Hub<K> {
     /// Draws a name for a new seat, which the seat at this place takes for now. Once the names are used up
     /// it doesn't return.
     pub(crate) fn draw_name<R: Wait>(&self, rt: &R, place: &mut Place<K>) -> u64
-        requires table { place.old.table_id ≡ self.now.table }
+        requires table { place.old.table_id ≡ self.now.view.table }
         requires idle { place.old.me.0.stage ≡ Idle }
         ensures same { (place.new.table_id ≡ place.old.table_id) × (place.new.id ≡ place.old.id) }
         ensures named { place.new.me ≡ (
@@ -153,7 +154,7 @@ impl<K: Keeper> Hub<K> {
 
     /// A place that has seen as much, with the name that was drawn last.
     pub(crate) fn copy_place(&self, place: &mut Place<K>) -> Place<K>
-        requires table { place.old.table_id ≡ self.now.table }
+        requires table { place.old.table_id ≡ self.now.view.table }
         requires idle { place.old.me.0.stage ≡ Idle }
         ensures same { (place.new.table_id ≡ place.old.table_id)
             × (place.new.me ≡ (remaining place.old.me.0, place.old.me.1)) }
@@ -165,7 +166,8 @@ impl<K: Keeper> Hub<K> {
 
     /// Takes in the other place, and then learns what both had seen.
     pub(crate) fn merge_places(&self, place: &mut Place<K>, other: Place<K>)
-        requires table { (place.old.table_id ≡ self.now.table) × (other.table_id ≡ self.now.table) }
+        requires table { (place.old.table_id ≡ self.now.view.table)
+            × (other.table_id ≡ self.now.view.table) }
         requires idle { (place.old.me.0.stage ≡ Idle) × (other.me.0.stage ≡ Idle)
             × (other.me.1 ≡ []) }
         ensures same { place.new.table_id ≡ place.old.table_id }

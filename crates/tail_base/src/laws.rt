@@ -4,6 +4,7 @@ ghost use Rattle.std.specs.List.{list_any};
 ghost use Rattle.std.specs.List.Sorted.{IsStrictlySortedBy};
 ghost use Rattle.std.specs.declared.cmp.Ordering.TheVariants.{Equal};
 ghost use Rattle.hex.specs.Hex.{IsBytes};
+ghost use Rattle.tail_base.specs.declared.limits.TheConstants.{POLICY_LIMIT};
 ghost use Rattle.tail_base.specs.Keys.{key_text};
 ghost use Rattle.tail_base.specs.Labels.{is_label, label_of};
 ghost use Rattle.tail_base.specs.Logins.{is_login, login_of};
@@ -47,4 +48,9 @@ pub fn sorted_lists_rise<T: Ord>()
     ensures same { ((a b : T) → T.cmp a b ≡ Equal → a ≡ b)
         → (test : T → Bool) (xs : List T)
         → list_any test (sorted_once T.cmp xs) ≡ list_any test xs }
+{}
+
+/// The most bytes of a policy's text: 256 KiB.
+pub fn the_numbers_are_these()
+    ensures policy { POLICY_LIMIT ≡ 262144 }
 {}

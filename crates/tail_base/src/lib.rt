@@ -26,7 +26,7 @@ pub use key::{DiscoKey, MachineKey, NodeKey};
 pub use label::Label;
 pub use laws::{
     key_texts_differ, labels_are_read_again, logins_are_read_again, searches_find,
-    sorted_lists_rise, tags_are_read_again,
+    sorted_lists_rise, tags_are_read_again, the_numbers_are_these,
 };
 pub use limits::POLICY_LIMIT;
 pub use login::Login;

@@ -5,6 +5,7 @@
 mod dns;
 mod filter;
 mod host_update;
+mod laws;
 mod limits;
 mod map_ask;
 mod node_row;
@@ -17,6 +18,7 @@ mod update;
 pub use dns::{Dns, DnsExtra, DnsRoute, DnsSettings};
 pub use filter::{DestRange, FilterRule, Sources};
 pub use host_update::HostUpdate;
+pub use laws::the_numbers_are_these;
 pub use limits::{ASKED_TAG_LIMIT, ENDPOINT_LIMIT, HOST_LIMIT, REGION_LIMIT, ROUTE_LIMIT};
 pub use map_ask::MapAsk;
 pub use node_row::NodeRow;

@@ -1,9 +1,13 @@
 //! Responses of a map session.
+ghost use Rattle.std.specs.Prelude.{◌≡◌};
+ghost use Rattle.tailcfg.specs.Responses.{bare_response};
+
 use crate::dns::Dns;
 use crate::filter::FilterRule;
 use crate::node_row::NodeRow;
 use crate::patch::Patch;
 use crate::profile::Profile;
+use std::alloc::Global;
 use tail_base::{Items, Text};
 
 /// One response of a map session (`tailcfg.MapResponse`). What is None or empty isn't written; an
@@ -29,4 +33,25 @@ pub struct Response {
     pub patches: Items<Patch>,
     /// The users that own the nodes shown.
     pub profiles: Items<Profile>,
+}
+
+impl Response {
+    /// A response that has nothing but a number. It takes no memory.
+    pub fn new(alloc: Global, seq: Option<u64>) -> Response
+        ensures value { result ≡ bare_response seq }
+    {
+        Response {
+            handle: None,
+            seq,
+            node: None,
+            filter: None,
+            dns: None,
+            domain: None,
+            peers: Items::new(alloc),
+            changed: Items::new(alloc),
+            removed: Items::new(alloc),
+            patches: Items::new(alloc),
+            profiles: Items::new(alloc),
+        }
+    }
 }

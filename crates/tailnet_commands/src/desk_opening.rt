@@ -1,7 +1,8 @@
 //! A desk over what an opener keeps.
-ghost use Rattle.std.specs.Prelude.{IfErr, IfOk};
+ghost use Rattle.std.specs.Prelude.{IfErr, IfOk, IsSome};
 ghost use Rattle.tailnet_commands.specs.Opened.{IsDeskFault, IsDeskOpened, opener_told};
 ghost use Rattle.tailnet_commands.specs.Run.{IsFaultOf};
+ghost use Rattle.tailnet_desk.specs.Crashes.{IsSafeDesk, IsSafeStore, StaysSafe};
 ghost use Rattle.tailnet_desk.specs.Seated.{point_of};
 
 use exit_status::Ended;
@@ -25,6 +26,9 @@ fn ended_of(fault: OpenFault) -> Ended
 
 /// Opens a desk over what the opener keeps, at the clock's first answer. If none opens, the keeper is
 /// closed again.
+///
+/// Where a crash left the rows that the opener tells, or those that one event more would have made of
+/// them, it does so with the desk open, and where none opens.
 pub fn open_desk<P: Opener, C: Clock>(
     alloc: Global,
     settings: FileSettings,
@@ -37,6 +41,11 @@ pub fn open_desk<P: Opener, C: Clock>(
         (point_of P.Keeper.told P.Keeper.faults P.Keeper.calls desk)) }
     ensures fault { let at = opener_told P.told P.asked P.faults in
         IfErr result (λ e. IsDeskFault e settings (at opener.old) (at opener.new)) }
+    ensures safe { IfOk result (λ desk. IsSome (P.told opener.old)
+        → IsSafeStore P.told P.is_clean P.may_leave opener.old
+        → IsSafeDesk P.Keeper.told P.Keeper.is_clean P.Keeper.may_leave desk) }
+    ensures fault_safe { IfErr result
+        (λ _. StaysSafe P.told P.is_clean P.may_leave opener.old opener.new) }
 {
     let moment = Moment::clamp(clock.seconds());
     let FileSettings { tailnet, server } = settings;

@@ -4,6 +4,7 @@ ghost use Rattle.std.specs.Prelude.{◌≡◌, IfErr, IfOk, option_map};
 ghost use Rattle.io_edge.specs.Linked.{LinkTold};
 ghost use Rattle.tailnet_commands.specs.Outside.{DoorsTold, outside};
 ghost use Rattle.tailnet_commands.specs.Pipe.{AreSettingsOf, IsSettingsFile, IsUnread, Outcome};
+ghost use Rattle.tailnet_desk.specs.Crashes.{StaysSafe};
 
 use crate::limits::FILE_LIMIT;
 use crate::running::run;
@@ -89,6 +90,10 @@ fn prepare<F: Files>(
 /// All that `pipe` does once its words are read: it reads the settings file, opens a desk over what
 /// the opener keeps, hands it the seed, if there is one, and serves the requests of the input on the
 /// output. The line of its status goes to errors. It has no doors and no link.
+///
+/// Where the opener tells rows, and a crash left these, or those that one event more would have made of
+/// them, a crash at the end leaves those that it then tells, or those that one event more would have made
+/// of them: nothing that was acknowledged is missing, and a change is there whole or not at all.
 // Not inlined, so that the stack of a smaller command has no room for this one.
 #[inline(never)]
 pub fn pipe_command<I: Source, O: Sink, E: Sink, F: Files, P: Opener, C: Clock, N: Entropy>(
@@ -109,6 +114,7 @@ pub fn pipe_command<I: Source, O: Sink, E: Sink, F: Files, P: Opener, C: Clock, 
         Outcome result settings.now (option_map (λ t. t.now) seed.entry)
         (at input.old output.old errors.old files.old opener.old clock.old entropy.old)
         (at input.new output.new errors.new files.new opener.new clock.new entropy.new) }
+    ensures safe { StaysSafe P.told P.is_clean P.may_leave opener.old opener.new }
 {
     let ended = match prepare(alloc, files, settings, seed) {
         Ok(

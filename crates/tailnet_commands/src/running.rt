@@ -3,6 +3,7 @@ ghost use Rattle.std.specs.Prelude.{◌≡◌};
 ghost use Rattle.desk_front.specs.Wanted.{front_settings};
 ghost use Rattle.tailnet_commands.specs.Outside.{Outside, around};
 ghost use Rattle.tailnet_commands.specs.Run.{Ran};
+ghost use Rattle.tailnet_desk.specs.Crashes.{StaysSafe};
 
 use crate::desk_opening::open_desk;
 use crate::seeding::seed_desk;
@@ -37,6 +38,7 @@ pub(crate) fn run<I: Source, O: Sink, P: Opener, C: Clock, N: Entropy>(
         Ran result settings seed
         (at before input.old output.old opener.old clock.old entropy.old)
         (at after input.new output.new opener.new clock.new entropy.new) }
+    ensures safe { StaysSafe P.told P.is_clean P.may_leave opener.old opener.new }
 {
     let requests = settings.server.fields().requests;
     match open_desk(alloc, settings, opener, clock) {

@@ -1,5 +1,6 @@
 //! The seed of a desk.
 ghost use Rattle.tailnet_commands.specs.Seeding.{IsSeedTurn, IsSeeded};
+ghost use Rattle.tailnet_desk.specs.Crashes.{IsSafeDesk};
 ghost use Rattle.tailnet_desk.specs.Seated.{point_of};
 
 use io_edge::Clock;
@@ -14,6 +15,8 @@ fn ask_seed<K: Keeper, C: Clock>(alloc: Global, desk: &mut Desk<K>, clock: &mut 
     ensures seeded { let point = point_of K.told K.faults K.calls in
         IsSeedTurn text (C.answer clock.old) (C.answer clock.new)
         (point desk.old) (point desk.new) }
+    ensures safe { IsSafeDesk K.told K.is_clean K.may_leave desk.old
+        → IsSafeDesk K.told K.is_clean K.may_leave desk.new }
 {
     let ask = Ask::Seed { text };
     let moment = Moment::clamp(clock.seconds());
@@ -30,6 +33,8 @@ pub(crate) fn seed_desk<K: Keeper, C: Clock>(
     ensures seeded { let point = point_of K.told K.faults K.calls in
         IsSeeded seed (C.answer clock.old) (C.answer clock.new)
         (point desk.old) (point desk.new) }
+    ensures safe { IsSafeDesk K.told K.is_clean K.may_leave desk.old
+        → IsSafeDesk K.told K.is_clean K.may_leave desk.new }
 {
     match seed {
         None => {}

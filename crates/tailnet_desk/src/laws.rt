@@ -9,14 +9,17 @@ ghost use Rattle.desk_state.specs.State.{State};
 ghost use Rattle.desk_state.specs.declared.decision.Decision.{Decision};
 ghost use Rattle.tailnet_desk.specs.Asks.{IsPollEvent, IsShort};
 ghost use Rattle.tailnet_desk.specs.Chains.{Chain, IsHistory, Turned};
+ghost use Rattle.tailnet_desk.specs.Crashes.{IsKeptTurn, IsSafeDesk};
 ghost use Rattle.tailnet_desk.specs.History.{Legal, replay};
-ghost use Rattle.tailnet_desk.specs.Seated.{IsInForce, Point};
+ghost use Rattle.tailnet_desk.specs.Seated.{IsInForce, Point, Seated};
 ghost use Rattle.tailnet_desk.specs.Step.{decision, step};
 ghost use Rattle.tailnet_desk.specs.Turns.{IsTurn};
 ghost use Rattle.tailnet_desk.specs.declared.ask.Ask.{Ask};
 ghost use Rattle.tailnet_desk.specs.declared.entry.Entry.{Entry};
 ghost use Rattle.tailnet_desk.specs.declared.entry.Event.{Event};
 ghost use Rattle.tailnet_desk.specs.declared.reply.Answer.{Answer};
+
+use row_keeper::Keeper;
 
 /// From settings and tables that keep their rules, and an ask that is short, a decided change keeps the
 /// rules of the tables, changes rows, and lets no counter fall; unless a policy is put in force with it,
@@ -66,4 +69,14 @@ pub fn polls_leave_tables()
 pub fn turns_are_a_history()
     ensures history { (p : Point) (turns : List Turned) (q : Point)
         → Chain IsTurn p turns q → IsHistory p turns q }
+{}
+
+/// Where a crash leaves a desk's rows, or those that one event more would have made of them, it does so
+/// behind any turns, too, as long as the keeper tells rows and its disk is clean: what was acknowledged
+/// is there, and a change is there whole or not at all.
+pub fn desks_stay_safe<K: Keeper>()
+    ensures safe { (d : Seated K) (turns : List Turned) (q : Seated K)
+        → Chain (IsKeptTurn K.told K.faults K.calls K.is_clean K.may_leave) d turns q
+        → IsSafeDesk K.told K.is_clean K.may_leave d
+        → IsSafeDesk K.told K.is_clean K.may_leave q }
 {}

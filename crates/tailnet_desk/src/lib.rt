@@ -18,7 +18,7 @@ pub use ask::Ask;
 pub use desk::{Desk, OpenFault};
 pub use entry::{Entry, Event};
 pub use laws::{
-    decisions_are_sound, decisions_keep_the_policy, legal_histories_keep_rules,
+    decisions_are_sound, decisions_keep_the_policy, desks_stay_safe, legal_histories_keep_rules,
     legal_histories_keep_the_policy, polls_leave_tables, turns_are_a_history,
 };
 pub use reply::{Answer, Drained, Loss, Reply};

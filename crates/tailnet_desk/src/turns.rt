@@ -60,11 +60,9 @@ pub trait Turns {
 }
 
 impl<K: Keeper> Turns for Desk<K> {
-    ghost use Rattle.tailnet_desk.specs.Seated.{point_of};
-    ghost use Rattle.tailnet_desk.specs.Turns.{IsTurn};
+    ghost use Rattle.tailnet_desk.specs.Crashes.{IsKeptTurn};
 
-    ghost turn = { λ old event reply new.
-        IsTurn (point_of K.told K.faults K.calls old) event reply (point_of K.told K.faults K.calls new) };
+    ghost turn = { IsKeptTurn K.told K.faults K.calls K.is_clean K.may_leave };
 
     fn ask(&mut self, alloc: Global, ask: &Ask, moment: Moment, words: Option<[u64; 4]>) -> Reply {
         Desk::ask(self, alloc, ask, moment, words)

@@ -31,7 +31,7 @@ fn seat_worker<R: Wait, K: Keeper, D, C, N>(
     door: D,
     outfit: Outfit<C, N>,
 ) -> Worker<K, D, C, N>
-    requires hub { first.old.hub ≡ hub.now }
+    requires hub { first.old.hub ≡ hub.now.view }
     ensures same { first.new ≡ first.old }
     ensures split { IsSplit first.old result.seat }
     ensures door { result.door ≡ door }
@@ -58,7 +58,7 @@ pub(crate) fn seat_workers<R: Wait, K: Keeper, D: Door, C: Clock, N: Entropy>(
     outfits: Vec<Outfit<C, N>>,
     room: Vec<Worker<K, D, C, N>>,
 ) -> Vec<Worker<K, D, C, N>>
-    requires hub { first.old.hub ≡ hub.now }
+    requires hub { first.old.hub ≡ hub.now.view }
     requires alike { length outfits.items ≡ length doors.items }
     requires room { (room.items ≡ []) × (length doors.items ≤ vec_capacity room) }
     ensures same { first.new ≡ first.old }
@@ -100,7 +100,7 @@ where
     D::Out: Send,
     requires threads { 0 < length workers.old }
     requires some { 0 < limits.now.requests }
-    requires ready { All (λ w. IsReady hub.now w.seat
+    requires ready { All (λ w. IsReady hub.now.view w.seat
         (door_told D.coming D.finished D.number D.faults w.door)) workers.old }
     ensures same { length workers.new ≡ length workers.old }
     ensures worked { let at = standing D.coming D.finished D.number D.faults
@@ -115,7 +115,7 @@ where
         workers,
         threads,
         &|_, worker: &mut Worker<K, D, C, N>|
-            requires { (0 < limits.now.requests) × IsReady hub.now worker.old.seat
+            requires { (0 < limits.now.requests) × IsReady hub.now.view worker.old.seat
                 (door_told D.coming D.finished D.number D.faults worker.old.door) }
             ensures { let at = standing D.coming D.finished D.number D.faults
                 C.answer N.word N.faults in
@@ -149,7 +149,7 @@ where
     D::Out: Send,
     requires threads { 0 < length workers.items }
     requires some { 0 < limits.now.requests }
-    requires ready { All (λ w. IsReady hub.now w.seat
+    requires ready { All (λ w. IsReady hub.now.view w.seat
         (door_told D.coming D.finished D.number D.faults w.door)) workers.items }
     ensures same { length result.items ≡ length workers.items }
     ensures worked { let at = standing D.coming D.finished D.number D.faults
@@ -196,7 +196,8 @@ pub(crate) fn join_workers<K: Keeper, D: Door, C: Clock + Drop, N: Entropy>(
     workers: Vec<Worker<K, D, C, N>>,
     room: Vec<D>,
 ) -> Leaving<D>
-    requires hub { (first.old.hub ≡ hub.now) × All (λ w. w.seat.hub ≡ hub.now) workers.items }
+    requires hub { (first.old.hub ≡ hub.now.view)
+        × All (λ w. w.seat.hub ≡ hub.now.view) workers.items }
     requires room { (room.items ≡ []) × (length workers.items ≤ vec_capacity room) }
     ensures joined { AreJoined first.old (map (λ w. w.seat) workers.items) first.new }
     ensures doors { result.doors.items ≡ map (λ w. w.door) workers.items }

@@ -1,5 +1,6 @@
 //! A hub and its workers, from the first seat to the desk that comes back.
 ghost use Rattle.std.specs.Prelude.{◌≡◌, ◌≤◌, ◌<◌, ℕ, List, Option, [], ◌∷◌, All, length, map, vec_capacity};
+ghost use Rattle.tailnet_desk.specs.Crashes.{IsSafeDesk};
 ghost use Rattle.tailnet_desk.specs.Seated.{point_of};
 ghost use Rattle.tailnet_serve.specs.Crews.{IsSplitDrawing};
 ghost use Rattle.tailnet_serve.specs.Service.{AreOpenedAt, IsManned};
@@ -44,7 +45,7 @@ pub(crate) fn man_hub<
 where
     D::In: Send,
     D::Out: Send,
-    requires first { first ≡ record { hub = hub; name = 0; names = 0 ∷ []; seen = [] } }
+    requires first { first ≡ record { hub = hub.view; name = 0; names = 0 ∷ []; seen = [] } }
     requires requests { 0 < limits.now.requests }
     requires some { 0 < length doors.items }
     requires alike { length outfits.items ≡ length doors.items }
@@ -58,10 +59,12 @@ where
         → AreOpenedAt told 0 (map at doors.items)
         → All (λ o. IsSplitDrawing start (drawing C.answer N.word N.faults o.clock o.entropy))
         outfits.items
-        → IsManned front.now limits.now told start result.1.failed result.1.starved hub
+        → IsManned front.now limits.now told start result.1.failed result.1.starved hub.view
         (length doors.items) (map at result.1.doors.items)
         (point_of K.told K.faults K.calls result.0)
         (N.faults entropy.old) (N.faults entropy.new) }
+    ensures safe { IsSafeDesk K.told K.is_clean K.may_leave hub.desk
+        → IsSafeDesk K.told K.is_clean K.may_leave result.0 }
     ensures same { (k : ℕ) → N.word entropy.new k ≡ N.word entropy.old k }
     ensures later { N.faults entropy.old ≤ N.faults entropy.new }
 {

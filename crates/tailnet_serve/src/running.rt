@@ -4,6 +4,7 @@ ghost use Rattle.connections.specs.Connection.{Told};
 ghost use Rattle.desk_front.specs.Wanted.{front_settings};
 ghost use Rattle.tailnet_commands.specs.Opened.{opener_told};
 ghost use Rattle.tailnet_commands.specs.Outside.{Outside, doors_told};
+ghost use Rattle.tailnet_desk.specs.Crashes.{IsSafeDesk, IsSafeStore, StaysSafe};
 ghost use Rattle.tailnet_desk.specs.Seated.{point_of};
 ghost use Rattle.tailnet_serve.specs.Crews.{IsSplitDrawing};
 ghost use Rattle.tailnet_serve.specs.Serve.{ServeRan, behind_settings};
@@ -39,6 +40,8 @@ fn close_unserved<P: Opener, C: Clock + Drop, N: Entropy>(
     ensures closed { let at = opener_told P.told P.asked P.faults in
         IsDeskClosed (point_of P.Keeper.told P.Keeper.faults P.Keeper.calls desk)
         (at opener.old) (at opener.new) }
+    ensures safe { IsSafeDesk P.Keeper.told P.Keeper.is_clean P.Keeper.may_leave desk
+        → IsSafeStore P.told P.is_clean P.may_leave opener.new }
     ensures same { (k : ℕ) → N.word entropy.new k ≡ N.word entropy.old k }
     ensures later { N.faults entropy.old ≤ N.faults entropy.new }
 {
@@ -91,6 +94,8 @@ where
         (point_of P.Keeper.told P.Keeper.faults P.Keeper.calls desk)
         (at opener.old) (at opener.new) (doors_at doors.old) (doors_at doors.new)
         (N.faults entropy.old) (N.faults entropy.new) }
+    ensures safe { IsSafeDesk P.Keeper.told P.Keeper.is_clean P.Keeper.may_leave desk
+        → IsSafeStore P.told P.is_clean P.may_leave opener.new }
     ensures same { (k : ℕ) → N.word entropy.new k ≡ N.word entropy.old k }
     ensures later { N.faults entropy.old ≤ N.faults entropy.new }
 {
@@ -171,6 +176,8 @@ where
         (point_of P.Keeper.told P.Keeper.faults P.Keeper.calls desk)
         (at opener.old) (at opener.new) (doors_at doors.old) (doors_at doors.new)
         (N.faults entropy.old) (N.faults entropy.new) }
+    ensures safe { IsSafeDesk P.Keeper.told P.Keeper.is_clean P.Keeper.may_leave desk
+        → IsSafeStore P.told P.is_clean P.may_leave opener.new }
     ensures same { (k : ℕ) → N.word entropy.new k ≡ N.word entropy.old k }
     ensures later { N.faults entropy.old ≤ N.faults entropy.new }
 {
@@ -232,6 +239,7 @@ where
         (doors_told D.coming D.finished D.asked D.faults) streams in
         ServeRan result settings (at before opener.old clock.old entropy.old doors.old)
         (at after opener.new clock.new entropy.new doors.new) }
+    ensures safe { StaysSafe P.told P.is_clean P.may_leave opener.old opener.new }
 {
     let desk = match open_desk(alloc, settings, opener, clock) {
         Ok(desk) => desk,

@@ -66,7 +66,7 @@ pub fn serve_seat<R: Wait, K: Keeper, I: Source, O: Sink, C: Clock, N: Entropy, 
     more: u32,
 ) -> Closed
     requires some { 0 < requests }
-    requires hub { seat.old.hub ≡ hub.now }
+    requires hub { seat.old.hub ≡ hub.now.view }
     ensures serves { let at = told I.left I.read_faults O.holds O.write_faults
         C.answer N.word N.faults in
         IsConnection IsSeatStep front.now more result requests []

@@ -1,5 +1,6 @@
 //! The command `serve`.
 ghost use Rattle.tailnet_commands.specs.Outside.{Outside, doors_told};
+ghost use Rattle.tailnet_desk.specs.Crashes.{StaysSafe};
 ghost use Rattle.tailnet_serve.specs.Serve.{ServeOutcome, besides};
 
 use crate::planning::prepare_serve;
@@ -16,6 +17,10 @@ use std::thread::Threads;
 /// opener keeps, and serves the connections that come at doors, each door by a worker of its own, until
 /// all workers have stopped. The line of its status goes to errors. What is known of the rest of the
 /// outside is any.
+///
+/// Where the opener tells rows, and a crash left these, or those that one event more would have made of
+/// them, a crash at the end leaves those that it then tells, or those that one event more would have made
+/// of them: nothing that was acknowledged is missing, and a change is there whole or not at all.
 // Not inlined, so that the stack of a smaller command has no room for this one.
 #[inline(never)]
 pub fn serve_command<
@@ -48,6 +53,7 @@ where
         ServeOutcome result settings.now
         (at errors.old files.old opener.old clock.old entropy.old doors.old)
         (at errors.new files.new opener.new clock.new entropy.new doors.new) }
+    ensures safe { StaysSafe P.told P.is_clean P.may_leave opener.old opener.new }
 {
     let ended = match prepare_serve(alloc, files, settings) {
         Ok((settings, plan)) => run_serve(

@@ -54,7 +54,7 @@ fn serve_next<R: Wait, K: Keeper, D: Door, C: Clock, N: Entropy, A: Pause>(
     worker: &mut Worker<K, D, C, N>,
 ) -> Taking
     requires some { 0 < limits.now.requests }
-    requires hub { worker.old.seat.hub ≡ hub.now }
+    requires hub { worker.old.seat.hub ≡ hub.now.view }
     requires places { HasPlaces (door_told D.coming D.finished D.number D.faults worker.old.door) }
     ensures taken { let at = standing D.coming D.finished D.number D.faults
         C.answer N.word N.faults in
@@ -96,7 +96,7 @@ fn serve_door<R: Wait, K: Keeper, D: Door, C: Clock, N: Entropy, A: Pause>(
     worker: &mut Worker<K, D, C, N>,
 ) -> Report
     requires some { 0 < limits.now.requests }
-    requires hub { worker.old.seat.hub ≡ hub.now }
+    requires hub { worker.old.seat.hub ≡ hub.now.view }
     requires places { HasPlaces (door_told D.coming D.finished D.number D.faults worker.old.door) }
     ensures worked { let at = standing D.coming D.finished D.number D.faults
         C.answer N.word N.faults in
@@ -147,7 +147,7 @@ pub(crate) fn work<R: Wait, K: Keeper, D: Door, C: Clock, N: Entropy, A: Pause>(
     worker: &mut Worker<K, D, C, N>,
 )
     requires some { 0 < limits.now.requests }
-    requires hub { worker.old.seat.hub ≡ hub.now }
+    requires hub { worker.old.seat.hub ≡ hub.now.view }
     requires places { HasPlaces (door_told D.coming D.finished D.number D.faults worker.old.door) }
     ensures worked { let at = standing D.coming D.finished D.number D.faults
         C.answer N.word N.faults in

@@ -80,9 +80,9 @@ fn reply_to<K: Keeper, R: Wait>(
     seat: &mut Seat<K>,
     ask: &Ask,
 ) -> Reply
-    requires hub { seat.old.hub ≡ hub.now }
+    requires hub { seat.old.hub ≡ hub.now.view }
     requires short { IsShort ask.now }
-    ensures hub { seat.new.hub ≡ hub.now }
+    ensures hub { seat.new.hub ≡ hub.now.view }
 {
     seat.ask(rt, alloc, hub, ask, Moment::clamp(NOON), None)
 }
@@ -95,9 +95,9 @@ fn hears<K: Keeper, R: Wait>(
     seat: &mut Seat<K>,
     ask: &Ask,
 ) -> Heard
-    requires hub { seat.old.hub ≡ hub.now }
+    requires hub { seat.old.hub ≡ hub.now.view }
     requires short { IsShort ask.now }
-    ensures hub { seat.new.hub ≡ hub.now }
+    ensures hub { seat.new.hub ≡ hub.now.view }
 {
     let reply = reply_to(rt, alloc, hub, seat, ask);
     heard_of(&reply)
@@ -119,8 +119,8 @@ fn add_user<K: Keeper, R: Wait>(
     seat: &mut Seat<K>,
     name: &str,
 ) -> bool
-    requires hub { seat.old.hub ≡ hub.now }
-    ensures hub { seat.new.hub ≡ hub.now }
+    requires hub { seat.old.hub ≡ hub.now.view }
+    ensures hub { seat.new.hub ≡ hub.now.view }
 {
     match adding(alloc, name) {
         Ok(ask) => hears(rt, alloc, hub, seat, &ask) == Heard::Done,
@@ -136,8 +136,8 @@ fn add_users<K: Keeper, R: Wait>(
     seat: Seat<K>,
     letter: &str,
 ) -> (Seat<K>, u32)
-    requires hub { seat.hub ≡ hub.now }
-    ensures hub { result.0.hub ≡ hub.now }
+    requires hub { seat.hub ≡ hub.now.view }
+    ensures hub { result.0.hub ≡ hub.now.view }
 {
     let mut seat = seat;
     let mut added = 0u32;
@@ -156,7 +156,7 @@ fn add_users<K: Keeper, R: Wait>(
 /// A hub over a desk, and its first seat. As of the three calls below, the tests ask for none of its clauses but of which
 /// hub a seat is.
 fn made<K: Keeper>(alloc: Global, desk: Desk<K>) -> Result<(Hub<K>, Seat<K>), Desk<K>>
-    ensures hub { IfOk result (λ r. r.1.hub ≡ r.0) }
+    ensures hub { IfOk result (λ r. r.1.hub ≡ r.0.view) }
 {
     match Hub::new(alloc, desk) {
         Ok(made) => Ok(made),
@@ -166,18 +166,18 @@ fn made<K: Keeper>(alloc: Global, desk: Desk<K>) -> Result<(Hub<K>, Seat<K>), De
 
 /// Another seat of the hub.
 fn split_off<K: Keeper, R: Wait>(rt: &R, hub: &Hub<K>, seat: &mut Seat<K>) -> Seat<K>
-    requires hub { seat.old.hub ≡ hub.now }
-    ensures first { seat.new.hub ≡ hub.now }
-    ensures second { result.hub ≡ hub.now }
+    requires hub { seat.old.hub ≡ hub.now.view }
+    ensures first { seat.new.hub ≡ hub.now.view }
+    ensures second { result.hub ≡ hub.now.view }
 {
     seat.split(rt, hub)
 }
 
 /// One seat of two.
 fn joined<K: Keeper>(hub: &Hub<K>, mut seat: Seat<K>, other: Seat<K>) -> Seat<K>
-    requires seat { seat.hub ≡ hub.now }
-    requires other { other.hub ≡ hub.now }
-    ensures hub { result.hub ≡ hub.now }
+    requires seat { seat.hub ≡ hub.now.view }
+    requires other { other.hub ≡ hub.now.view }
+    ensures hub { result.hub ≡ hub.now.view }
 {
     seat.join(hub, other);
     seat
@@ -185,7 +185,7 @@ fn joined<K: Keeper>(hub: &Hub<K>, mut seat: Seat<K>, other: Seat<K>) -> Seat<K>
 
 /// The desk of a hub.
 fn closed<K: Keeper, R: Wait>(rt: &R, hub: Hub<K>, seat: Seat<K>) -> Desk<K>
-    requires hub { seat.hub ≡ hub }
+    requires hub { seat.hub ≡ hub.view }
 {
     hub.close(rt, seat)
 }
@@ -198,20 +198,20 @@ fn add_in_threads<K: Keeper + Send, R: Threads + Wait + Sync>(
     second: Seat<K>,
     third: Seat<K>,
 ) -> ((Seat<K>, u32), (Seat<K>, u32))
-    requires second { second.hub ≡ hub.now }
-    requires third { third.hub ≡ hub.now }
-    ensures second { result.0.0.hub ≡ hub.now }
-    ensures third { result.1.0.hub ≡ hub.now }
+    requires second { second.hub ≡ hub.now.view }
+    requires third { third.hub ≡ hub.now.view }
+    ensures second { result.0.0.hub ≡ hub.now.view }
+    ensures third { result.1.0.hub ≡ hub.now.view }
 {
     thread::join(
         rt,
         || -> (Seat<K>, u32)
-            requires { second.hub ≡ hub.now }
-            ensures { result.0.hub ≡ hub.entry.now }
+            requires { second.hub ≡ hub.now.view }
+            ensures { result.0.hub ≡ hub.entry.now.view }
         { add_users(rt, alloc, hub, second, "a") },
         || -> (Seat<K>, u32)
-            requires { third.hub ≡ hub.now }
-            ensures { result.0.hub ≡ hub.entry.now }
+            requires { third.hub ≡ hub.now.view }
+            ensures { result.0.hub ≡ hub.entry.now.view }
         { add_users(rt, alloc, hub, third, "b") },
     )
 }
@@ -223,8 +223,8 @@ fn add_by_two<K: Keeper + Send, R: Threads + Wait + Sync>(
     hub: &Hub<K>,
     mut first: Seat<K>,
 ) -> (u32, Seat<K>)
-    requires hub { first.hub ≡ hub.now }
-    ensures hub { result.1.hub ≡ hub.now }
+    requires hub { first.hub ≡ hub.now.view }
+    ensures hub { result.1.hub ≡ hub.now.view }
 {
     let second = split_off(rt, hub, &mut first);
     let third = split_off(rt, hub, &mut first);
@@ -326,10 +326,10 @@ fn add_at_both<K: Keeper, R: Wait>(
     first: &mut Seat<K>,
     second: &mut Seat<K>,
 ) -> bool
-    requires first { first.old.hub ≡ hub.now }
-    requires second { second.old.hub ≡ hub.now }
-    ensures first { first.new.hub ≡ hub.now }
-    ensures second { second.new.hub ≡ hub.now }
+    requires first { first.old.hub ≡ hub.now.view }
+    requires second { second.old.hub ≡ hub.now.view }
+    ensures first { first.new.hub ≡ hub.now.view }
+    ensures second { second.new.hub ≡ hub.now.view }
 {
     let ann = add_user(rt, alloc, hub, first, "ann");
     let bob = add_user(rt, alloc, hub, second, "bob");
@@ -339,8 +339,8 @@ fn add_at_both<K: Keeper, R: Wait>(
 
 /// Whether a seat is answered the list of both.
 fn sees_both<K: Keeper, R: Wait>(rt: &R, alloc: Global, hub: &Hub<K>, seat: &mut Seat<K>) -> bool
-    requires hub { seat.old.hub ≡ hub.now }
-    ensures hub { seat.new.hub ≡ hub.now }
+    requires hub { seat.old.hub ≡ hub.now.view }
+    ensures hub { seat.new.hub ≡ hub.now.view }
 {
     let ask = Ask::Operator(OperatorAsk::Users);
     hears(rt, alloc, hub, seat, &ask) == Heard::Both
@@ -353,8 +353,8 @@ fn share_by_two<K: Keeper, R: Wait>(
     hub: &Hub<K>,
     mut first: Seat<K>,
 ) -> (bool, Seat<K>)
-    requires hub { first.hub ≡ hub.now }
-    ensures hub { result.1.hub ≡ hub.now }
+    requires hub { first.hub ≡ hub.now.view }
+    ensures hub { result.1.hub ≡ hub.now.view }
 {
     let mut second = split_off(rt, hub, &mut first);
     let are_added = add_at_both(rt, alloc, hub, &mut first, &mut second);

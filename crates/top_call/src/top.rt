@@ -4,6 +4,7 @@ ghost use Rattle.command_words.specs.Arguments.{HasLoadMachine};
 ghost use Rattle.command_words.specs.Words.{invocation_of};
 ghost use Rattle.io_edge.specs.Linked.{link_told};
 ghost use Rattle.tailnet_commands.specs.Outside.{doors_told, outside};
+ghost use Rattle.tailnet_desk.specs.Crashes.{StaysSafe};
 ghost use Rattle.top_call.specs.Top.{WordsDone, Top, asks_doors, asks_link};
 
 use crate::wordless::end_wordless;
@@ -71,6 +72,7 @@ where
         input.old output.old errors.old files.old opener.old clock.old entropy.old)
         (at (doors_at doors.new) (link_at link.new)
         input.new output.new errors.new files.new opener.new clock.new entropy.new) }
+    ensures safe { StaysSafe P.told P.is_clean P.may_leave opener.old opener.new }
     ensures doors { asks_doors asked.now ≡ false → doors.new ≡ doors.old }
     ensures link { asks_link asked.now ≡ false → link.new ≡ link.old }
 {
@@ -134,6 +136,10 @@ where
 /// `pipe`, `serve`, `policy-check`, `load`, `explain`, `reach` and the operator's commands are those so far. `serve` alone
 /// asks doors, starts threads and waits for its workers; the operator's commands alone ask the link, and
 /// wait for it.
+///
+/// Where the opener tells rows, and a crash left these, or those that one event more would have made of
+/// them, a crash at the end leaves those that it then tells, or those that one event more would have made
+/// of them: nothing that was acknowledged is missing, and a change is there whole or not at all.
 pub fn tailnetd<
     R: Threads + Wait + Sync,
     I: Source,
@@ -173,6 +179,7 @@ where
         input.old output.old errors.old files.old opener.old clock.old entropy.old)
         (at (doors_at doors.new) (link_at link.new)
         input.new output.new errors.new files.new opener.new clock.new entropy.new) }
+    ensures safe { StaysSafe P.told P.is_clean P.may_leave opener.old opener.new }
     ensures doors { asks_doors (invocation_of (map string_bytes words.now)) ≡ false
         → doors.new ≡ doors.old }
     ensures link { asks_link (invocation_of (map string_bytes words.now)) ≡ false

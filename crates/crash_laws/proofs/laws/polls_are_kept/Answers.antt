@@ -1,4 +1,4 @@
-use Rattle.crash_laws.proofs.Surviving.{poll_kept}
+use Rattle.tailnet_desk.proofs.KeptTurns.{poll_kept}
 use Rattle.crash_laws.proofs.laws.polls_are_kept.Goals as goal
 
 pub returns : goal.returns

@@ -17,4 +17,5 @@ returns g c = record {
     doors = refl;
     link = refl;
   };
+  safe = c.answered-ended.ensures.safe;
 }

@@ -13,6 +13,7 @@ returns-in-Err g c = record {
       unread_explained c.args.question.now c.args.settings.now old new c.in-Err.ended c.in-Err.ensures.read
       (record { left = refl; read_faults = refl; held = refl; write_faults = refl; words = refl; word_faults = refl; rows = told_by_itself (g.P.Opener.told c.args.opener.now) })
       (record { told = refl; rows = refl; asked = refl; keeper_faults = refl });
+  safe = λ tells safe. safe;
 }
 
 pub returns-in-Err-answer_over : goal.returns-in-Err-answer_over
@@ -23,6 +24,7 @@ returns-in-Err-answer_over g c = record {
       let new = at after c.args.output.now c.settings_file.new.files c.answer_over.new.opener c.answer_over.new.clock in
       unanswered_explained c.args.question.now c.args.settings.now old new c.in-Err-answer_over.ended c.in-Ok.settings c.in-Ok.ensures.read c.in-Err-answer_over.ensures.fault
       (λ kept. record { left = refl; read_faults = refl; held = refl; write_faults = refl; words = refl; word_faults = refl; rows = kept });
+  safe = c.answer_over.ensures.safe;
 }
 
 pub returns-in-Ok-answer_over : goal.returns-in-Ok-answer_over
@@ -33,4 +35,5 @@ returns-in-Ok-answer_over g c = record {
       let new = at after c.write_answer.new.output c.settings_file.new.files c.answer_over.new.opener c.answer_over.new.clock in
       written_explained c.args.question.now c.args.settings.now old new c.write_answer.result c.in-Ok.settings c.in-Ok-answer_over.text.items c.in-Ok.ensures.read c.in-Ok-answer_over.ensures.answer
       (rw c.deref.ensures.value at c.write_answer.ensures.written);
+  safe = c.answer_over.ensures.safe;
 }

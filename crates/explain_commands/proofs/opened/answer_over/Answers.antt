@@ -1,6 +1,7 @@
 use Rattle.std.proofs.Common.{◌∙◌, inr, subst}
 use Rattle.io_edge.specs.Edge.{StillTells}
 use Rattle.row_keeper.proofs.Told.{told_before}
+use Rattle.tailnet_desk.proofs.SafeStores.{desk_closed, store_handed}
 use Rattle.explain_commands.proofs.AnswerLemmas.{answered_in, rows_kept}
 use Rattle.explain_commands.proofs.opened.answer_over.Goals as goal
 
@@ -22,6 +23,11 @@ returns-in-Ok g c =
         asked = c.close.ensures.asked ∙ opened.asked;
       };
       fault = tt;
+      safe = λ tells safe.
+          let p = g.P.Opener in
+          let k = g.P.Keeper.Keeper in
+          store_handed k.told k.is_clean k.may_leave p.told p.is_clean p.may_leave c.close-keeper.result c.close.new.self c.close.ensures.told c.close.ensures.crash
+          (desk_closed k.told k.is_clean k.may_leave c.in_ok-desk.desk c.close-keeper.result c.close-keeper.ensures.value c.close-keeper.ensures.told (c.in_ok-desk.ensures.safe tells safe));
     }
 
 pub returns-in-Err : goal.returns-in-Err
@@ -31,4 +37,9 @@ returns-in-Err g c =
     record {
       answer = tt;
       fault = (rows_kept (g.P.Opener.told c.args.opener.now) _ (g.P.Opener.told c.close.new.self) opened.kept still, inr (c.close.ensures.asked ∙ opened.asked));
+      safe = λ tells safe.
+          let p = g.P.Opener in
+          let k = g.P.Keeper.Keeper in
+          store_handed k.told k.is_clean k.may_leave p.told p.is_clean p.may_leave c.close-keeper.result c.close.new.self c.close.ensures.told c.close.ensures.crash
+          (desk_closed k.told k.is_clean k.may_leave c.in_ok-desk.desk c.close-keeper.result c.close-keeper.ensures.value c.close-keeper.ensures.told (c.in_ok-desk.ensures.safe tells safe));
     }

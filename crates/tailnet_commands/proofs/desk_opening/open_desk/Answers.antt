@@ -7,6 +7,7 @@ use Rattle.io_edge.specs.Edge.{IsWhereTold}
 use Rattle.net_addr.specs.Moments.{clamped}
 use Rattle.server_settings.specs.declared.fields.ServerFields.{ServerFields}
 use Rattle.connections.proofs.AnswerLemmas.{clamped_told}
+use Rattle.tailnet_desk.proofs.SafeStores.{desk_over, given_still, store_handed, store_loaded}
 use Rattle.tailnet_commands.proofs.RunLemmas.{kept_given, still_some, still_still, where_loaded}
 use Rattle.tailnet_commands.proofs.OpenedLemmas.{unopened}
 use Rattle.tailnet_commands.proofs.desk_opening.open_desk.Goals as goal
@@ -16,6 +17,8 @@ returns-in-Ok-open g c =
     let fits : SFits w64 c.seconds.result = search rules in
     let at : c.clamp-moment.result ≡ clamped c.seconds.result = c.clamp-moment.ensures.value ∙ ap clamped (to_z-of_z w64 c.seconds.result fits) in
     let opened = c.in-Ok-open.ensures in
+    let p = g.P.Opener in
+    let k = g.P.Keeper.Keeper in
     record {
       opened = record {
         rules = c.fields-kept.ensures.rules;
@@ -30,6 +33,11 @@ returns-in-Ok-open g c =
         later = c.in-Ok.ensures.later;
       };
       fault = tt;
+      safe = λ tells safe. desk_over k.told k.is_clean k.may_leave c.in-Ok-open.desk opened.rows
+          (store_loaded k.told k.is_clean k.may_leave c.in-Ok.keeper c.in-Ok-open.desk.keeper opened.still opened.crash
+          (store_handed p.told p.is_clean p.may_leave k.told k.is_clean k.may_leave c.args.opener.now c.in-Ok.keeper
+          (given_still (p.told c.args.opener.now) _ tells c.in-Ok.ensures.gives) c.in-Ok.ensures.crash safe));
+      fault_safe = tt;
     }
 
 pub returns-clause-fault : goal.returns-clause-fault
@@ -41,3 +49,13 @@ returns-clause-fault g c =
     (c.close.ensures.asked ∙ c.in-Ok.ensures.asked ∙ ap (and_asked (g.P.Opener.asked c.args.opener.now)) (c.as_str.ensures.value ∙ ap (λ (f : ServerFields). f.database) c.fields-fields.ensures.value))
     (λ h. omega (arith, failed.fault h, c.close.ensures.faults, c.in-Ok.ensures.later, c.in-Ok.ensures.fresh))
     (λ kind id h. still_some _ _ (g.P.Opener.told c.close.new.self) c.close.ensures.told (failed.damaged kind id h))
+
+pub returns-clause-fault_safe : goal.returns-clause-fault_safe
+returns-clause-fault_safe g c = λ tells safe.
+    let p = g.P.Opener in
+    let k = g.P.Keeper.Keeper in
+    let failed = c.in-Err.ensures in
+    store_handed k.told k.is_clean k.may_leave p.told p.is_clean p.may_leave c.in-Err.keeper c.close.new.self c.close.ensures.told c.close.ensures.crash
+    (store_loaded k.told k.is_clean k.may_leave c.in-Ok.keeper c.in-Err.keeper failed.kept failed.err_crash
+    (store_handed p.told p.is_clean p.may_leave k.told k.is_clean k.may_leave c.args.opener.now c.in-Ok.keeper
+    (given_still (p.told c.args.opener.now) _ tells c.in-Ok.ensures.gives) c.in-Ok.ensures.crash safe))

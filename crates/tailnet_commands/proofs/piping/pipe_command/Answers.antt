@@ -33,4 +33,8 @@ returns g c = record {
         doors = refl;
         link = refl;
       };
+  safe = λ tells safe. elim c.match-prepare.branch [
+    | in-Ok w ↦ rw w.opener-is (w.run-ended.ensures.safe tells safe)
+    | in-Err w ↦ rw w.opener-is safe
+  ];
 }

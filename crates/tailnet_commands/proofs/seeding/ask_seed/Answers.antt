@@ -7,6 +7,7 @@ use Rattle.std.proofs.lemmas.Int.{to_z-of_z}
 use Rattle.io_edge.specs.Edge.{IsWhereTold}
 use Rattle.net_addr.specs.Moments.{clamped}
 use Rattle.connections.proofs.AnswerLemmas.{clamped_told}
+use Rattle.tailnet_desk.proofs.KeptTurns.{turn_safe}
 use Rattle.tailnet_commands.proofs.seeding.ask_seed.Goals as goal
 
 pub returns : goal.returns
@@ -21,4 +22,5 @@ returns g c =
         moment = subst (λ (z : ℤ). IsWhereTold z (option_map clamped (g.C.Clock.answer c.args.clock.now 0))) (sym at) (clamped_told _ _ c.seconds.ensures.took.first);
         rest = c.seconds.ensures.took.rest;
       };
+      safe = turn_safe g.K.Keeper.told g.K.Keeper.faults g.K.Keeper.calls g.K.Keeper.is_clean g.K.Keeper.may_leave _ _ _ _ (record { turn = c.ask-reply.ensures.turn; safe = c.ask-reply.ensures.safe });
     }

@@ -16,7 +16,7 @@ loop-worker-preserved g c =
     let rest = into_iter_items c.next.new.self in
     let joined = c.join.ensures.join in
     record {
-      hub = (ap (λ z. z.hub) joined.new_is ∙ inv.hub.0, all_tail (λ w. w.seat.hub ≡ c.args.hub.now) _ _ (rw items at inv.hub.1));
+      hub = (ap (λ z. z.hub) joined.new_is ∙ inv.hub.0, all_tail (λ w. w.seat.hub ≡ c.args.hub.now.view) _ _ (rw items at inv.hub.1));
       room = (omega (arith, inv.room.0, c.in-Some.ensures.cases.1, c.push_reserved.ensures.len), c.push_reserved.ensures.capacity ∙ inv.room.1);
       joined = λ t rest. inv.joined t (rw items (c.join.new.self, joined, rest));
       doors = ap (λ z. z ++ map (λ w. w.door) rest) c.push_reserved.ensures.items ∙ append_assoc c.loop-worker.doors.items (c.in-Some.worker.door ∷ []) (map (λ w. w.door) rest) ∙ (rw items at inv.doors);

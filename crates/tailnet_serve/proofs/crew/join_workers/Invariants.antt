@@ -12,7 +12,7 @@ invariant-loop-worker g l =
     let left = into_iter_items l.workers in
     let all = l.fn.workers.items in
     record {
-      hub : (l.first.hub ≡ l.hub) × All (λ w. w.seat.hub ≡ l.hub) left;
+      hub : (l.first.hub ≡ l.hub.view) × All (λ w. w.seat.hub ≡ l.hub.view) left;
       room : (vec_len l.doors + into_iter_len l.workers ≡ length all) × (vec_capacity l.doors ≡ vec_capacity l.fn.room);
       full : into_iter_len l.workers ≡ length left;
       joined : (t : SeatView) → AreJoined l.first (map (λ w. w.seat) left) t → AreJoined l.fn.first (map (λ w. w.seat) all) t;

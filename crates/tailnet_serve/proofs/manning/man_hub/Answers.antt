@@ -20,10 +20,10 @@ put_to_work-workers-requires-clause-ready g c = λ κs lives.
 pub join_workers-leaving-requires-clause-hub : goal.join_workers-leaving-requires-clause-hub
 join_workers-leaving-requires-clause-hub g c =
     let sit = ready g.D.Door.coming g.D.Door.finished g.D.Door.number g.D.Door.faults g.C.Clock.answer g.N.Entropy.word g.N.Entropy.faults
-    c.args.hub _ _ _ _ c.seat_workers-workers.ensures.seated (ap (λ z. z.hub) c.requires.first) c.requires.places in (
+    c.args.hub.view _ _ _ _ c.seat_workers-workers.ensures.seated (ap (λ z. z.hub) c.requires.first) c.requires.places in (
       ap (λ (z : SeatView). z.hub) (c.seat_workers-workers.ensures.same ∙ c.requires.first),
       stay g.D.Door.coming g.D.Door.finished g.D.Door.number g.D.Door.faults g.C.Clock.answer g.N.Entropy.word g.N.Entropy.faults
-          c.args.front.now c.args.limits.now c.args.hub c.seat_workers-workers.result.items c.put_to_work-workers.result.items c.put_to_work-workers.ensures.same sit c.put_to_work-workers.ensures.worked,
+          c.args.front.now c.args.limits.now c.args.hub.view c.seat_workers-workers.result.items c.put_to_work-workers.result.items c.put_to_work-workers.ensures.same sit c.put_to_work-workers.ensures.worked,
     )
 
 pub join_workers-leaving-requires-clause-room : goal.join_workers-leaving-requires-clause-room
@@ -43,7 +43,7 @@ returns-clause-manned g c = λ told start opened split.
     let ws = c.put_to_work-workers.result.items in
     let left = c.join_workers-leaving in
     manned g.D.Door.coming g.D.Door.finished g.D.Door.number g.D.Door.faults g.C.Clock.answer g.N.Entropy.word g.N.Entropy.faults
-    c.args.front.now c.args.limits.now told start c.args.hub c.args.first left.new.first vs ws _ c.requires.first
+    c.args.front.now c.args.limits.now told start c.args.hub.view c.args.first left.new.first vs ws _ c.requires.first
     left.result.failed left.result.starved _ _ _ _ (seated_length _ _ _ _ c.seat_workers-workers.ensures.seated)
     (set_up g.D.Door.coming g.D.Door.finished g.D.Door.number g.D.Door.faults g.C.Clock.answer g.N.Entropy.word g.N.Entropy.faults c.args.front.now c.args.limits.now told start c.args.first (ap (λ (z : SeatView). z.seen) c.requires.first) 0 _ _ vs c.seat_workers-workers.ensures.seated opened split)
     (both_of _ vs ws c.put_to_work-workers.ensures.same c.put_to_work-workers.ensures.worked)
@@ -54,3 +54,6 @@ returns-clause-manned g c = λ told start opened split.
     left.ensures.starved
     (ap (map at) left.ensures.doors ∙ map_map (λ w. w.door) at ws)
     left.ensures.rose
+
+pub returns-clause-safe : goal.returns-clause-safe
+returns-clause-safe g c = c.close.ensures.safe

@@ -1,5 +1,6 @@
 -- A desk was opened and served, or wasn't.
 use Rattle.std.proofs.Common.{◌∙◌, refl}
+use Rattle.tailnet_desk.proofs.SafeStores.{desk_closed, store_handed}
 use Rattle.tailnet_commands.specs.Outside.{doors_told}
 use Rattle.tailnet_commands.proofs.OpenedLemmas.{unopened_ran}
 use Rattle.tailnet_serve.specs.Serve.{behind_settings}
@@ -15,6 +16,7 @@ returns-in-Err g c = record {
         (λ kept. record { left = refl; read_faults = refl; held = refl; write_faults = refl; words = refl; word_faults = refl; rows = kept }),
     refl,
   );
+  safe = c.in-Err.ensures.fault_safe;
 }
 
 pub returns-in-Ok-outfits_of : goal.returns-in-Ok-outfits_of
@@ -27,4 +29,12 @@ returns-in-Ok-outfits_of g c = record {
       let served = c.serve_with_outfits.ensures.served (left_drawing old) (λ k o lt. split_after old _ _ opened.rest (λ j. refl) (made.each k o lt)) in
       served_ran c.serve_with_outfits.result c.args.settings old _ _ _ _ (g.N.Entropy.faults c.outfits_of.new.entropy) opened made.later (λ k. c.serve_with_outfits.ensures.same k ∙ made.same.words k)
       (rw (c.requires.front, c.requires.listen, c.requires.workers, c.requires.limits) at served);
+  safe = λ tells safe. c.serve_with_outfits.ensures.safe (c.in-Ok.ensures.safe tells safe);
 }
+
+pub returns-in-Err-outfits_of-clause-safe : goal.returns-in-Err-outfits_of-clause-safe
+returns-in-Err-outfits_of-clause-safe g c = λ tells safe.
+    let p = g.P.Opener in
+    let k = g.P.Keeper.Keeper in
+    store_handed k.told k.is_clean k.may_leave p.told p.is_clean p.may_leave c.close.result c.close-in-Err-outfits_of.new.self c.close-in-Err-outfits_of.ensures.told c.close-in-Err-outfits_of.ensures.crash
+    (desk_closed k.told k.is_clean k.may_leave c.in-Ok.desk c.close.result c.close.ensures.value c.close.ensures.told (c.in-Ok.ensures.safe tells safe))

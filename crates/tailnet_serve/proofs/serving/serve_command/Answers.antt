@@ -37,4 +37,8 @@ returns g c = record {
         write_faults = refl;
         link = refl;
       };
+  safe = λ tells safe. elim c.match-prepare_serve.branch [
+    | in-Ok w ↦ rw w.opener-is (w.run_serve-ended.ensures.safe tells safe)
+    | in-Err w ↦ rw w.opener-is safe
+  ];
 }

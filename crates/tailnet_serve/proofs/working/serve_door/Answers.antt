@@ -21,7 +21,7 @@ loop-preserved g c =
     let taken = c.in-Served.ensures.taken in
     let v = taken.0 in
     record {
-      hub = same_hub c.args.hub.now _ _ _ taken.2.run inv.hub;
+      hub = same_hub c.args.hub.now.view _ _ _ taken.2.run inv.hub;
       places = taken.2.places inv.places;
       visits = inv.visits ++ v ∷ [];
       work = work_append c.args.front.now c.args.limits.now inv.visits (v ∷ []) _ _ _ inv.work taken.2;

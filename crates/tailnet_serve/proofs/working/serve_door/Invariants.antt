@@ -9,7 +9,7 @@ abbrev pub invariant-loop : goal.invariant-loop
 invariant-loop g l =
     let at = standing g.D.Door.coming g.D.Door.finished g.D.Door.number g.D.Door.faults g.C.Clock.answer g.N.Entropy.word g.N.Entropy.faults in
     record {
-      hub : l.worker.seat.hub ≡ l.hub;
+      hub : l.worker.seat.hub ≡ l.hub.view;
       places : HasPlaces (at l.worker).door;
       visits : List Visit;
       work : IsWork l.front l.limits visits (at l.fn.worker) (at l.worker);

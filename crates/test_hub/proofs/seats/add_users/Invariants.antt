@@ -4,7 +4,7 @@ use Rattle.test_hub.proofs.seats.add_users.Given as goal
 
 abbrev pub invariant-loop-number : goal.invariant-loop-number
 invariant-loop-number g l = record {
-  hub : l.seat.hub ≡ l.hub;
+  hub : l.seat.hub ≡ l.hub.view;
   few : l.added ≤ l.number;
   most : l.number ≤ EACH;
 }
